@@ -22,18 +22,13 @@ SECTIONS = [
     ("Rules", "lfs_model/specs/Rules.antt"),
     ("Effects and answers", "lfs_model/specs/Effects.antt"),
 ]
-HEADING = re.compile(r"^(?:unfoldable |abbrev )*pub [\w-]+ : ")
 
 
 def definitions(text):
     """The definitions of a file, each with its comment, without imports and types."""
-    lines = [line for line in text.splitlines() if not line.startswith("use ")]
-    kept = []
-    for line in lines[1:]:
-        if HEADING.match(line):
-            continue
-        kept.append(line)
-    return re.sub(r"\n{3,}", "\n\n", "\n".join(kept)).strip("\n")
+    # a `use` line and a type may go on in lines that stand further in
+    kept = re.sub(r"^(?:use |(?:unfoldable |abbrev )*pub [\w-]+ : ).*\n(?: +.*\n)*", "", text, flags=re.M)
+    return re.sub(r"\n{3,}", "\n\n", "\n".join(kept.splitlines()[1:])).strip("\n")
 
 
 def section(title, file):

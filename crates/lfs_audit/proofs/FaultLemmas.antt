@@ -1,5 +1,6 @@
 -- Which fault of a run comes with which cause.
-use Rattle.std.proofs.Common.{◌≡◌, ℕ, ◌<◌, ◌≤◌, List, length, Option, None, Some, Result, Ok, Err, IfErr, IfSome, true, subst}
+use Rattle.std.proofs.Common.{◌≡◌, ℕ, ◌<◌, ◌≤◌, List, length, Option, None, Some, Result, Ok, Err, IfErr, IfSome, true}
+use Rattle.std.proofs.Common.{subst}
 use Rattle.std.specs.List.{list_any}
 use Rattle.lfs_types.specs.Caller.{Caller}
 use Rattle.lfs_types.specs.declared.fault.FormatFault.{FormatFault}
@@ -14,26 +15,30 @@ use Rattle.lfs_script.specs.Splitting.{is_of_cleaner}
 use Rattle.lfs_script.specs.declared.fault.ScriptFault.{ScriptFault}
 use Rattle.lfs_audit.specs.Faults.{HasPlan, IsFaultOf, IsRead, IsReadingFault, MayHaveWritten}
 use Rattle.lfs_audit.specs.Scripts.{IsScriptFault}
-use Rattle.lfs_audit.specs.Threads.{HasCleanerLine, HasSessions, IsSplit, IsSplittingFault, IsThreadsFault, MayHaveWrittenThreads}
+use Rattle.lfs_audit.specs.Threads.{HasCleanerLine, HasSessions, IsSplit, IsSplittingFault, IsThreadsFault}
+use Rattle.lfs_audit.specs.Threads.{MayHaveWrittenThreads}
 use Rattle.lfs_audit.specs.declared.fault.RunFault.{RunFault}
 use Rattle.lfs_audit.specs.declared.fault.RunFault.TheVariants.{Read, TooLong, Script, Format, Memory, Write}
 use Rattle.lfs_audit.specs.declared.fault.ThreadsFault.{ThreadsFault}
 use Rattle.lfs_audit.specs.declared.fault.ThreadsFault.TheVariants as threads
 
 -- what holds of a value that is known
-pub if_some : {A : Type 0} (known : Option A) (p : A → Type 0) (q : A → Type 0) → IfSome known p → ((a : A) → p a → q a) → IfSome known q
+pub if_some : {A : Type 0} (known : Option A) (p : A → Type 0) (q : A → Type 0) → IfSome known p → ((a : A) → p a → q a)
+    → IfSome known q
 if_some None p q holds next = tt
 if_some (Some a) p q holds next = next a holds
 
 -- what follows from a fault
-pub if_err : {A E : Type 0} (result : Result A E) (p : E → Type 0) (q : E → Type 0) → IfErr result p → ((e : E) → p e → q e) → IfErr result q
+pub if_err : {A E : Type 0} (result : Result A E) (p : E → Type 0) (q : E → Type 0) → IfErr result p
+    → ((e : E) → p e → q e) → IfErr result q
 if_err (Ok a) p q holds next = tt
 if_err (Err e) p q holds next = next e holds
 
 -- ---- reading and parsing
 
 -- a script was read whole and parsed
-pub read_whole : (known : Option (List ℕ)) (items : List ℕ) (plan : Planned) → IfSome known (λ bytes. items ≡ bytes) → length items ≤ 1048576
+pub read_whole : (known : Option (List ℕ)) (items : List ℕ) (plan : Planned) → IfSome known (λ bytes. items ≡ bytes)
+    → length items ≤ 1048576
     → plan_of items ≡ Ok plan → IfSome known (λ script. IsRead script plan)
 read_whole known items plan whole short parsed =
     if_some known (λ bytes. items ≡ bytes) (λ script. IsRead script plan) whole
@@ -43,16 +48,21 @@ read_whole known items plan whole short parsed =
     })
 
 -- a script was read whole, and has a fault
-pub fault_of_line : (known : Option (List ℕ)) (items : List ℕ) (fault : ScriptFault) → IfSome known (λ bytes. items ≡ bytes) → length items ≤ 1048576
+pub fault_of_line : (known : Option (List ℕ)) (items : List ℕ) (fault : ScriptFault)
+    → IfSome known (λ bytes. items ≡ bytes) → length items ≤ 1048576
     → ParsesScript items (Err fault) → IsReadingFault known (Script fault)
 fault_of_line known items fault whole short parsed =
     if_some known (λ bytes. items ≡ bytes) (λ bytes. (length bytes ≤ 1048576) × ParsesScript bytes (Err fault)) whole
-    (λ bytes same. (subst (λ (l : List ℕ). length l ≤ 1048576) same short, subst (λ (l : List ℕ). ParsesScript l (Err fault)) same parsed))
+    (λ bytes same. (
+      subst (λ (l : List ℕ). length l ≤ 1048576) same short,
+      subst (λ (l : List ℕ). ParsesScript l (Err fault)) same parsed,
+    ))
 
 -- a script that was read has a plan
 pub has_plan : (known : Option (List ℕ)) (plan : Planned) → IfSome known (λ script. IsRead script plan) → HasPlan known
 has_plan known plan is =
-    if_some known (λ script. IsRead script plan) (λ script. (p : Planned) × IsRead script p) is (λ script read. (plan, read))
+    if_some known (λ script. IsRead script plan) (λ script. (p : Planned) × IsRead script p) is
+    (λ script read. (plan, read))
 
 -- ---- a run over a volume that is there
 
@@ -73,12 +83,15 @@ late_fault known Memory plan p = tt
 late_fault known Write plan p = plan
 
 -- a fault once something may have been written is one of the run
-pub late_faults : {A : Type 0} (known : Option (List ℕ)) (result : Result A RunFault) → HasPlan known → IfErr result MayHaveWritten → IfErr result (IsFaultOf known)
-late_faults known result plan p = if_err result MayHaveWritten (IsFaultOf known) p (λ fault may. late_fault known fault plan may)
+pub late_faults : {A : Type 0} (known : Option (List ℕ)) (result : Result A RunFault) → HasPlan known
+    → IfErr result MayHaveWritten → IfErr result (IsFaultOf known)
+late_faults known result plan p = if_err result MayHaveWritten (IsFaultOf known) p
+    (λ fault may. late_fault known fault plan may)
 
 -- ---- a run on a fresh volume
 
-pub reading_script_fault : (known : Option (List ℕ)) (segments inodes frames : ℕ) (fault : RunFault) → IsReadingFault known fault → IsScriptFault known segments inodes frames fault
+pub reading_script_fault : (known : Option (List ℕ)) (segments inodes frames : ℕ) (fault : RunFault)
+    → IsReadingFault known fault → IsScriptFault known segments inodes frames fault
 reading_script_fault known segments inodes frames Read p = tt
 reading_script_fault known segments inodes frames TooLong p = p
 reading_script_fault known segments inodes frames (Script fault) p = p
@@ -87,10 +100,12 @@ reading_script_fault known segments inodes frames Memory p = tt
 reading_script_fault known segments inodes frames Write p = absurd p
 
 -- the fault of laying out its log, once the script was parsed
-pub layout_fault : (known : Option (List ℕ)) (segments inodes frames : ℕ) (fault : FormatFault) → HasPlan known → IsFormatFault segments inodes frames fault → IsScriptFault known segments inodes frames (Format fault)
+pub layout_fault : (known : Option (List ℕ)) (segments inodes frames : ℕ) (fault : FormatFault) → HasPlan known
+    → IsFormatFault segments inodes frames fault → IsScriptFault known segments inodes frames (Format fault)
 layout_fault known segments inodes frames fault plan p = (plan, p)
 
-late_script_fault : (known : Option (List ℕ)) (segments inodes frames : ℕ) (fault : RunFault) → HasPlan known → IsInRange segments inodes frames → MayHaveWritten fault → IsScriptFault known segments inodes frames fault
+late_script_fault : (known : Option (List ℕ)) (segments inodes frames : ℕ) (fault : RunFault) → HasPlan known
+    → IsInRange segments inodes frames → MayHaveWritten fault → IsScriptFault known segments inodes frames fault
 late_script_fault known segments inodes frames Read plan ranges p = absurd p
 late_script_fault known segments inodes frames TooLong plan ranges p = absurd p
 late_script_fault known segments inodes frames (Script fault) plan ranges p = absurd p
@@ -99,19 +114,24 @@ late_script_fault known segments inodes frames Memory plan ranges p = tt
 late_script_fault known segments inodes frames Write plan ranges p = (plan, ranges)
 
 -- a fault once something may have been written is one of the run
-pub late_script_faults : {A : Type 0} (known : Option (List ℕ)) (segments inodes frames : ℕ) (result : Result A RunFault) → HasPlan known → IsInRange segments inodes frames
+pub late_script_faults : {A : Type 0} (known : Option (List ℕ)) (segments inodes frames : ℕ)
+    (result : Result A RunFault) → HasPlan known → IsInRange segments inodes frames
     → IfErr result MayHaveWritten → IfErr result (IsScriptFault known segments inodes frames)
 late_script_faults known segments inodes frames result plan ranges p =
-    if_err result MayHaveWritten (IsScriptFault known segments inodes frames) p (λ fault may. late_script_fault known segments inodes frames fault plan ranges may)
+    if_err result MayHaveWritten (IsScriptFault known segments inodes frames) p
+    (λ fault may. late_script_fault known segments inodes frames fault plan ranges may)
 
 -- ---- a run on threads
 
 -- a line is the cleaner's
-pub cleaner_line_fault : (known : Option (List ℕ)) (plan : Planned) → IfSome known (λ script. IsRead script plan) → list_any is_of_cleaner plan.steps ≡ true → IfSome known HasCleanerLine
+pub cleaner_line_fault : (known : Option (List ℕ)) (plan : Planned) → IfSome known (λ script. IsRead script plan)
+    → list_any is_of_cleaner plan.steps ≡ true → IfSome known HasCleanerLine
 cleaner_line_fault known plan is cleaner =
-    if_some known (λ script. IsRead script plan) HasCleanerLine is (λ script read. record { plan = plan; read = read; cleaner = cleaner })
+    if_some known (λ script. IsRead script plan) HasCleanerLine is
+    (λ script read. record { plan = plan; read = read; cleaner = cleaner })
 
-pub splitting_fault : (known : Option (List ℕ)) (segments inodes frames : ℕ) (fault : ThreadsFault) → IsSplittingFault known fault → IsThreadsFault known segments inodes frames fault
+pub splitting_fault : (known : Option (List ℕ)) (segments inodes frames : ℕ) (fault : ThreadsFault)
+    → IsSplittingFault known fault → IsThreadsFault known segments inodes frames fault
 splitting_fault known segments inodes frames (threads.Run Read) p = tt
 splitting_fault known segments inodes frames (threads.Run TooLong) p = p
 splitting_fault known segments inodes frames (threads.Run (Script fault)) p = p
@@ -122,39 +142,60 @@ splitting_fault known segments inodes frames threads.CleanerLine p = p
 splitting_fault known segments inodes frames (threads.Serve fault) p = absurd p
 
 -- a script that was split has so many sessions
-has_sessions : (script : List ℕ) (setup : List (Caller × Request)) (scripts : List (List (Caller × Request))) → IsSplit script setup scripts → HasSessions script (length scripts)
+has_sessions : (script : List ℕ) (setup : List (Caller × Request)) (scripts : List (List (Caller × Request)))
+    → IsSplit script setup scripts → HasSessions script (length scripts)
 has_sessions script setup scripts is = record { plan = is.plan; read = is.read; users = is.users; count = is.count }
 
 -- its sessions were not served
-pub serving_fault : (known : Option (List ℕ)) (segments inodes frames sessions : ℕ) (setup : List (Caller × Request)) (scripts : List (List (Caller × Request))) (fault : ServeFault)
-    → IfSome known (λ script. IsSplit script setup scripts) → sessions ≡ length scripts → IsServeFault sessions segments inodes frames fault
+pub serving_fault : (known : Option (List ℕ)) (segments inodes frames sessions : ℕ) (setup : List (Caller × Request))
+    (scripts : List (List (Caller × Request))) (fault : ServeFault)
+    → IfSome known (λ script. IsSplit script setup scripts) → sessions ≡ length scripts
+    → IsServeFault sessions segments inodes frames fault
     → IsThreadsFault known segments inodes frames (threads.Serve fault)
 serving_fault known segments inodes frames sessions setup scripts fault split count p =
-    if_some known (λ script. IsSplit script setup scripts) (λ script. (n : ℕ) × HasSessions script n × IsServeFault n segments inodes frames fault) split
-    (λ script is. (length scripts, has_sessions script setup scripts is, subst (λ (n : ℕ). IsServeFault n segments inodes frames fault) count p))
+    if_some known (λ script. IsSplit script setup scripts) (λ script. (n : ℕ) × HasSessions script n
+    × IsServeFault n segments inodes frames fault) split
+    (λ script is. (
+      length scripts,
+      has_sessions script setup scripts is,
+      subst (λ (n : ℕ). IsServeFault n segments inodes frames fault) count p,
+    ))
 
-late_threads_fault : (known : Option (List ℕ)) (segments inodes frames sessions : ℕ) (setup : List (Caller × Request)) (scripts : List (List (Caller × Request))) (fault : ThreadsFault)
-    → IfSome known (λ script. IsSplit script setup scripts) → sessions ≡ length scripts → (0 < sessions) × (sessions ≤ 8) → IsInRange segments inodes frames
+late_threads_fault : (known : Option (List ℕ)) (segments inodes frames sessions : ℕ) (setup : List (Caller × Request))
+    (scripts : List (List (Caller × Request))) (fault : ThreadsFault)
+    → IfSome known (λ script. IsSplit script setup scripts) → sessions ≡ length scripts → (0 < sessions)
+    × (sessions ≤ 8) → IsInRange segments inodes frames
     → MayHaveWrittenThreads fault → IsThreadsFault known segments inodes frames fault
-late_threads_fault known segments inodes frames sessions setup scripts (threads.Run Read) split count served ranges p = absurd p
-late_threads_fault known segments inodes frames sessions setup scripts (threads.Run TooLong) split count served ranges p = absurd p
-late_threads_fault known segments inodes frames sessions setup scripts (threads.Run (Script fault)) split count served ranges p = absurd p
-late_threads_fault known segments inodes frames sessions setup scripts (threads.Run (Format fault)) split count served ranges p = absurd p
-late_threads_fault known segments inodes frames sessions setup scripts (threads.Run Memory) split count served ranges p = tt
+late_threads_fault known segments inodes frames sessions setup scripts (threads.Run Read) split count served ranges p =
+    absurd p
+late_threads_fault known segments inodes frames sessions setup scripts
+    (threads.Run TooLong) split count served ranges p = absurd p
+late_threads_fault known segments inodes frames sessions setup scripts
+    (threads.Run (Script fault)) split count served ranges p = absurd p
+late_threads_fault known segments inodes frames sessions setup scripts
+    (threads.Run (Format fault)) split count served ranges p = absurd p
+late_threads_fault known segments inodes frames sessions setup scripts
+    (threads.Run Memory) split count served ranges p = tt
 late_threads_fault known segments inodes frames sessions setup scripts (threads.Run Write) split count served ranges p = (
-  if_some known (λ script. IsSplit script setup scripts) (λ script. (n : ℕ) × HasSessions script n × (0 < n) × (n ≤ 8)) split
+  if_some known (λ script. IsSplit script setup scripts) (λ script. (n : ℕ) × HasSessions script n × (0 < n)
+      × (n ≤ 8)) split
       (λ script is.
       let few : (0 < length scripts) × (length scripts ≤ 8) = subst (λ (n : ℕ). (0 < n) × (n ≤ 8)) count served in
       (length scripts, has_sessions script setup scripts is, few.0, few.1)),
   ranges,
 )
-late_threads_fault known segments inodes frames sessions setup scripts threads.CleanerLine split count served ranges p = absurd p
-late_threads_fault known segments inodes frames sessions setup scripts (threads.Serve fault) split count served ranges p = absurd p
+late_threads_fault known segments inodes frames sessions setup scripts threads.CleanerLine split count served ranges p =
+    absurd p
+late_threads_fault known segments inodes frames sessions setup scripts
+    (threads.Serve fault) split count served ranges p = absurd p
 
 -- a fault once something may have been written is one of the run
-pub late_threads_faults : {A : Type 0} (known : Option (List ℕ)) (segments inodes frames sessions : ℕ) (setup : List (Caller × Request)) (scripts : List (List (Caller × Request))) (result : Result A ThreadsFault)
-    → IfSome known (λ script. IsSplit script setup scripts) → sessions ≡ length scripts → (0 < sessions) × (sessions ≤ 8) → IsInRange segments inodes frames
+pub late_threads_faults : {A : Type 0} (known : Option (List ℕ)) (segments inodes frames sessions : ℕ)
+    (setup : List (Caller × Request)) (scripts : List (List (Caller × Request))) (result : Result A ThreadsFault)
+    → IfSome known (λ script. IsSplit script setup scripts) → sessions ≡ length scripts → (0 < sessions)
+    × (sessions ≤ 8) → IsInRange segments inodes frames
     → IfErr result MayHaveWrittenThreads → IfErr result (IsThreadsFault known segments inodes frames)
 late_threads_faults known segments inodes frames sessions setup scripts result split count served ranges p =
     if_err result MayHaveWrittenThreads (IsThreadsFault known segments inodes frames) p
-    (λ fault may. late_threads_fault known segments inodes frames sessions setup scripts fault split count served ranges may)
+    (λ fault may. late_threads_fault known segments inodes frames sessions setup scripts fault split count served ranges
+    may)

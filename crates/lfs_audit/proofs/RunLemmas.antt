@@ -1,5 +1,6 @@
 -- Runs of steps grow by further steps, passes by further calls, and texts by their lines.
-use Rattle.std.proofs.Common.{◌≡◌, ℕ, suc, ◌+◌, ◌<◌, List, [], ◌∷◌, ◌++◌, length, Option, None, Some, Result, Ok, Err, OnOk, refl, sym, ap, subst, ◌∙◌, arith, append_assoc, append-nil, length-append}
+use Rattle.std.proofs.Common.{◌≡◌, ℕ, suc, ◌+◌, ◌<◌, List, [], ◌∷◌, ◌++◌, length, Option, None, Some, Result, Ok, Err}
+use Rattle.std.proofs.Common.{OnOk, refl, sym, ap, subst, ◌∙◌, arith, append_assoc, append-nil, length-append}
 use Rattle.std.specs.Io.KnownBytes.{Appends, Keeps, append_known}
 use Rattle.std.proofs.KnownBytes.{Appends-kept, Appends-nil, Appends-trans}
 use Rattle.std.specs.Prelude.{◌≤◌}
@@ -30,11 +31,14 @@ use Rattle.lfs_volume.specs.Journals.{AtPresent, Begins, Since}
 use Rattle.lfs_volume.specs.Seen.{Seen}
 use Rattle.lfs_volume.specs.StepRuns.{AreSteps, IsActMade}
 use Rattle.lfs_audit.specs.Output.{IsRun}
-use Rattle.lfs_audit.specs.Runs.{AreAsked, TellsCleaning, IsAsked, Passes, Runs, TellsLine, WritesLines, call_line, call_step, cleaning_step, first_pass, lines_text}
+use Rattle.lfs_audit.specs.Runs.{AreAsked, TellsCleaning, IsAsked, Passes, Runs, TellsLine, WritesLines, call_line}
+use Rattle.lfs_audit.specs.Runs.{call_step, cleaning_step, first_pass, lines_text}
 
--- a volume became this one by the steps of a pass so far, which stands there, told this answer, and the lines were added
+-- a volume became this one by the steps of a pass so far, which stands there, told this answer, and the lines were
+-- added
 -- to a text
-pub record IsPassing {F : Type 0} (r : Cleaner F) (old new : Seen F) (session : ℕ) (caller : Caller) (pass : Pass) (last : Option CleanerAnswer) (before after : List ℕ) : Type 0 where
+pub record IsPassing {F : Type 0} (r : Cleaner F) (old new : Seen F) (session : ℕ) (caller : Caller) (pass : Pass)
+    (last : Option CleanerAnswer) (before after : List ℕ) : Type 0 where
   pub made : List Made
   pub answers : List StepAnswer
   pub makes : Passes session caller first_pass None made answers pass last
@@ -45,7 +49,8 @@ pub record IsPassing {F : Type 0} (r : Cleaner F) (old new : Seen F) (session : 
 -- ---- steps
 
 -- what further steps keep
-kept-joined : (made : List Made) (answers : List StepAnswer) (more : List Made) (others : List StepAnswer) → length answers ≡ length made
+kept-joined : (made : List Made) (answers : List StepAnswer) (more : List Made) (others : List StepAnswer)
+    → length answers ≡ length made
     → kept_steps (made ++ more) (answers ++ others) ≡ kept_steps made answers ++ kept_steps more others
 kept-joined [] [] more others h = refl
 kept-joined [] (a ∷ answers) more others h = absurd (omega (arith, h))
@@ -55,7 +60,8 @@ kept-joined (s ∷ made) (a ∷ answers) more others h =
     ∙ sym (append_assoc (kept_step s a) (kept_steps made answers) (kept_steps more others))
 
 -- the lines of further answers
-lines-joined : (made : List Made) (answers : List StepAnswer) (more : List Made) (others : List StepAnswer) → length answers ≡ length made
+lines-joined : (made : List Made) (answers : List StepAnswer) (more : List Made) (others : List StepAnswer)
+    → length answers ≡ length made
     → lines_text (made ++ more) (answers ++ others) ≡ lines_text made answers ++ lines_text more others
 lines-joined [] [] more others h = refl
 lines-joined [] (a ∷ answers) more others h = absurd (omega (arith, h))
@@ -65,7 +71,8 @@ lines-joined (s ∷ made) (a ∷ answers) more others h =
     ∙ sym (append_assoc (call_line s.session s.act a) (lines_text made answers) (lines_text more others))
 
 -- further steps were answered
-steps-joined : {F : Type 0} (r : Cleaner F) (limit : ℕ) (from : World) (journal : List Entry) (first middle last : F) (made : List Made) (answers : List StepAnswer)
+steps-joined : {F : Type 0} (r : Cleaner F) (limit : ℕ) (from : World) (journal : List Entry) (first middle last : F)
+    (made : List Made) (answers : List StepAnswer)
     (more : List Made) (others : List StepAnswer) → AreSteps r limit from journal first made answers middle
     → AreSteps r limit from (journal ++ kept_steps made answers) middle more others last
     → AreSteps r limit from journal first (made ++ more) (answers ++ others) last
@@ -79,7 +86,8 @@ steps-joined r limit from journal first middle last (s ∷ made) (a ∷ answers)
   are.1,
   are.2,
   steps-joined r limit from (journal ++ kept_step s a) are.0 middle last made answers more others are.3
-      (subst (λ (j : List Entry). AreSteps r limit from j middle more others last) (sym (append_assoc journal (kept_step s a) (kept_steps made answers))) then),
+      (subst (λ (j : List Entry). AreSteps r limit from j middle more others last)
+      (sym (append_assoc journal (kept_step s a) (kept_steps made answers))) then),
 )
 
 -- ---- a volume
@@ -99,7 +107,8 @@ runs_none r v = record {
 -- a volume by one step
 pub runs_one : {F : Type 0} (r : Cleaner F) (old new : Seen F) (step : Made) (answer : StepAnswer)
     → AtPresent r.state old (IsVolume (r.state old.store))
-    → Since (r.state old.since) old.since_level (λ from. IsActMade r old.limit from old.journal old.store step.cred step.act answer new.store)
+    → Since (r.state old.since) old.since_level
+    (λ from. IsActMade r old.limit from old.journal old.store step.cred step.act answer new.store)
     → new.journal ≡ old.journal ++ kept_step step answer → new.limit ≡ old.limit
     → (r.state new.store).shape ≡ (r.state old.store).shape → new.since ≡ old.since → new.since_level ≡ old.since_level
     → Runs r old new (step ∷ []) (answer ∷ [])
@@ -114,22 +123,29 @@ runs_one r old new step answer shown made entered limit shape since since_level 
 }
 
 -- where a journal began is where it began before what did not move that
-still-begins : {F : Type 0} (state : F → StoreState) (from : World) (since then : F) (level after : Level) → then ≡ since → after ≡ level
+still-begins : {F : Type 0} (state : F → StoreState) (from : World) (since then : F) (level after : Level) → then
+    ≡ since → after ≡ level
     → Begins (state since) level from → Begins (state then) after from
 still-begins state from since then level after same same_level begins =
-    subst (λ (l : Level). Begins (state then) l from) (sym same_level) (subst (λ s. Begins (state s) level from) (sym same) begins)
+    subst (λ (l : Level). Begins (state then) l from) (sym same_level)
+    (subst (λ s. Begins (state s) level from) (sym same) begins)
 
 -- a volume by further steps
-pub runs_joined : {F : Type 0} (r : Cleaner F) (old middle new : Seen F) (made : List Made) (answers : List StepAnswer) (more : List Made) (others : List StepAnswer)
+pub runs_joined : {F : Type 0} (r : Cleaner F) (old middle new : Seen F) (made : List Made) (answers : List StepAnswer)
+    (more : List Made) (others : List StepAnswer)
     → Runs r old middle made answers → Runs r middle new more others → Runs r old new (made ++ more) (answers ++ others)
 runs_joined r old middle new made answers more others before then =
     let count = before.count in
     record {
-      count = length-append answers others ∙ ap (λ (n : ℕ). n + length others) count ∙ ap (λ (n : ℕ). length made + n) then.count ∙ sym (length-append made more);
-      answered = λ from begins. steps-joined r old.limit from old.journal old.store middle.store new.store made answers more others (before.answered from begins)
-          (subst (λ (n : ℕ). AreSteps r n from (old.journal ++ kept_steps made answers) middle.store more others new.store) before.limit
+      count = length-append answers others ∙ ap (λ (n : ℕ). n + length others) count
+          ∙ ap (λ (n : ℕ). length made + n) then.count ∙ sym (length-append made more);
+      answered = λ from begins. steps-joined r old.limit from old.journal old.store middle.store new.store made answers
+          more others (before.answered from begins)
+          (subst (λ (n : ℕ). AreSteps r n from (old.journal
+          ++ kept_steps made answers) middle.store more others new.store) before.limit
           (subst (λ (j : List Entry). AreSteps r middle.limit from j middle.store more others new.store) before.entered
-          (then.answered from (still-begins r.state from old.since middle.since old.since_level middle.since_level before.since before.since_level begins))));
+          (then.answered from (still-begins r.state from old.since middle.since old.since_level middle.since_level
+          before.since before.since_level begins))));
       entered = then.entered
           ∙ ap (λ (j : List Entry). j ++ kept_steps more others) before.entered
           ∙ append_assoc old.journal (kept_steps made answers) (kept_steps more others)
@@ -141,21 +157,27 @@ runs_joined r old middle new made answers more others before then =
     }
 
 -- the lines of what was done and of what was done then
-pub lines_of_runs : {F : Type 0} (r : Cleaner F) (old middle : Seen F) (made : List Made) (answers : List StepAnswer) (more : List Made) (others : List StepAnswer)
-    → Runs r old middle made answers → lines_text (made ++ more) (answers ++ others) ≡ lines_text made answers ++ lines_text more others
+pub lines_of_runs : {F : Type 0} (r : Cleaner F) (old middle : Seen F) (made : List Made) (answers : List StepAnswer)
+    (more : List Made) (others : List StepAnswer)
+    → Runs r old middle made answers → lines_text (made ++ more) (answers ++ others) ≡ lines_text made answers
+    ++ lines_text more others
 lines_of_runs r old middle made answers more others before =
     lines-joined made answers more others before.count
 
 -- a text with lines at its end, and with further ones
-text-joined : (before middle after lines more all : List ℕ) → middle ≡ before ++ lines → after ≡ middle ++ more → all ≡ lines ++ more → after ≡ before ++ all
+text-joined : (before middle after lines more all : List ℕ) → middle ≡ before ++ lines → after ≡ middle ++ more → all
+    ≡ lines ++ more → after ≡ before ++ all
 text-joined before middle after lines more all first then joined =
-    then ∙ ap (λ (l : List ℕ). l ++ more) first ∙ append_assoc before lines more ∙ ap (λ (l : List ℕ). before ++ l) (sym joined)
+    then ∙ ap (λ (l : List ℕ). l ++ more) first ∙ append_assoc before lines more
+    ∙ ap (λ (l : List ℕ). before ++ l) (sym joined)
 
 -- ---- a line of a plan
 
 -- a user's call was made
-pub call_tells : {F : Type 0} (r : Cleaner F) (old new : Seen F) (session : ℕ) (caller : Caller) (request : Request) (answer : Answer) (before after : List ℕ)
-    → Runs r old new (call_step session caller request ∷ []) (told.User answer ∷ []) → after ≡ before ++ answer_line session answer
+pub call_tells : {F : Type 0} (r : Cleaner F) (old new : Seen F) (session : ℕ) (caller : Caller) (request : Request)
+    (answer : Answer) (before after : List ℕ)
+    → Runs r old new (call_step session caller request ∷ []) (told.User answer ∷ []) → after ≡ before
+    ++ answer_line session answer
     → TellsLine r old new session caller (plan.User request) before after
 call_tells r old new session caller request answer before after ran printed = record {
   made = call_step session caller request ∷ [];
@@ -166,29 +188,36 @@ call_tells r old new session caller request answer before after ran printed = re
 }
 
 -- a call of the cleaner was made
-pub cleaning_tells : {F : Type 0} (r : Cleaner F) (old new : Seen F) (session : ℕ) (caller : Caller) (call : CleanerCall) (answer : CleanerAnswer) (before after : List ℕ)
-    → TellsCleaning r old new session caller call answer before after → TellsLine r old new session caller (plan.Cleaner call) before after
+pub cleaning_tells : {F : Type 0} (r : Cleaner F) (old new : Seen F) (session : ℕ) (caller : Caller)
+    (call : CleanerCall) (answer : CleanerAnswer) (before after : List ℕ)
+    → TellsCleaning r old new session caller call answer before after
+    → TellsLine r old new session caller (plan.Cleaner call) before after
 cleaning_tells r old new session caller call answer before after cleans = record {
   made = cleaning_step session caller call ∷ [];
   answers = told.Cleaner answer ∷ [];
   asked = (told.Cleaner answer, refl, refl);
   ran = cleans.ran;
-  printed = cleans.printed ∙ ap (λ (l : List ℕ). before ++ l) (sym (append-nil (cleaner_line session (kind_of call) answer)));
+  printed = cleans.printed ∙ ap (λ (l : List ℕ). before ++ l)
+      (sym (append-nil (cleaner_line session (kind_of call) answer)));
 }
 
 -- ---- a pass
 
 -- a pass makes one more call
-passes-more : (session : ℕ) (caller : Caller) (pass : Pass) (last : Option CleanerAnswer) (made : List Made) (answers : List StepAnswer) (then : Pass) (latest : Option CleanerAnswer)
-    (call : CleanerCall) (given : CleanerAnswer) (next : Pass) → Passes session caller pass last made answers then latest → Steps then latest (Some call) next
-    → Passes session caller pass last (made ++ cleaning_step session caller call ∷ []) (answers ++ told.Cleaner given ∷ []) next (Some given)
+passes-more : (session : ℕ) (caller : Caller) (pass : Pass) (last : Option CleanerAnswer) (made : List Made)
+    (answers : List StepAnswer) (then : Pass) (latest : Option CleanerAnswer)
+    (call : CleanerCall) (given : CleanerAnswer) (next : Pass) → Passes session caller pass last made answers
+    then latest → Steps then latest (Some call) next
+    → Passes session caller pass last (made ++ cleaning_step session caller call ∷ []) (answers ++ told.Cleaner given
+    ∷ []) next (Some given)
 passes-more session caller pass last [] [] then latest call given next makes steps = (
   call,
   given,
   next,
   refl,
   refl,
-  subst (λ (p : Pass). Steps p last (Some call) next) makes.0 (subst (λ (l : Option CleanerAnswer). Steps then l (Some call) next) makes.1 steps),
+  subst (λ (p : Pass). Steps p last (Some call) next) makes.0
+      (subst (λ (l : Option CleanerAnswer). Steps then l (Some call) next) makes.1 steps),
   (refl, refl),
 )
 passes-more session caller pass last [] (a ∷ answers) then latest call given next makes steps = absurd makes
@@ -204,7 +233,8 @@ passes-more session caller pass last (s ∷ made) (a ∷ answers) then latest ca
 )
 
 -- a pass begins
-pub pass_begins : {F : Type 0} (r : Cleaner F) (v : Seen F) (session : ℕ) (caller : Caller) (pass : Pass) (last : Option CleanerAnswer) (text : List ℕ)
+pub pass_begins : {F : Type 0} (r : Cleaner F) (v : Seen F) (session : ℕ) (caller : Caller) (pass : Pass)
+    (last : Option CleanerAnswer) (text : List ℕ)
     → pass ≡ first_pass → last ≡ None → calls_left pass ≡ 105 → IsPassing r v v session caller pass last text text
 pass_begins r v session caller pass last text ready none left = record {
   made = [];
@@ -216,10 +246,13 @@ pass_begins r v session caller pass last text ready none left = record {
 }
 
 -- a pass goes on by one call
-pub pass_goes_on : {F : Type 0} (r : Cleaner F) (old middle new : Seen F) (session : ℕ) (caller : Caller) (pass : Pass) (last : Option CleanerAnswer)
+pub pass_goes_on : {F : Type 0} (r : Cleaner F) (old middle new : Seen F) (session : ℕ) (caller : Caller) (pass : Pass)
+    (last : Option CleanerAnswer)
     (call : CleanerCall) (answer : CleanerAnswer) (next : Pass) (before text after : List ℕ)
-    → IsPassing r old middle session caller pass last before text → Steps pass last (Some call) next → calls_left next < calls_left pass
-    → TellsCleaning r middle new session caller call answer text after → IsPassing r old new session caller next (Some answer) before after
+    → IsPassing r old middle session caller pass last before text → Steps pass last (Some call) next
+    → calls_left next < calls_left pass
+    → TellsCleaning r middle new session caller call answer text after
+    → IsPassing r old new session caller next (Some answer) before after
 unfolding cleaning_tells
 pass_goes_on r old middle new session caller pass last call answer next before text after passing steps fewer cleans =
     let one = cleaning_step session caller call ∷ [] in
@@ -228,16 +261,21 @@ pass_goes_on r old middle new session caller pass last call answer next before t
     record {
       made = passing.made ++ one;
       answers = passing.answers ++ given;
-      makes = passes-more session caller first_pass None passing.made passing.answers pass last call answer next passing.makes steps;
+      makes = passes-more session caller first_pass None passing.made passing.answers pass last call answer next
+          passing.makes steps;
       ran = runs_joined r old middle new passing.made passing.answers one given passing.ran cleans.ran;
-      printed = text-joined before text after (lines_text passing.made passing.answers) (lines_text one given) (lines_text (passing.made ++ one) (passing.answers ++ given)) passing.printed line.printed
+      printed = text-joined before text after (lines_text passing.made passing.answers) (lines_text one given)
+          (lines_text (passing.made ++ one) (passing.answers ++ given)) passing.printed line.printed
           (lines_of_runs r old middle passing.made passing.answers one given passing.ran);
-      few = let count : length (passing.made ++ one) ≡ length passing.made + 1 = length-append passing.made one in omega (arith, count, passing.few, fewer);
+      few = let count : length (passing.made ++ one) ≡ length passing.made
+          + 1 = length-append passing.made one in omega (arith, count, passing.few, fewer);
     }
 
 -- a pass makes no call any more
-pub pass_ends : {F : Type 0} (r : Cleaner F) (old new : Seen F) (session : ℕ) (caller : Caller) (pass : Pass) (last : Option CleanerAnswer) (next : Pass) (before after : List ℕ)
-    → IsPassing r old new session caller pass last before after → Steps pass last None next → TellsLine r old new session caller plan.Pass before after
+pub pass_ends : {F : Type 0} (r : Cleaner F) (old new : Seen F) (session : ℕ) (caller : Caller) (pass : Pass)
+    (last : Option CleanerAnswer) (next : Pass) (before after : List ℕ)
+    → IsPassing r old new session caller pass last before after → Steps pass last None next
+    → TellsLine r old new session caller plan.Pass before after
 pass_ends r old new session caller pass last next before after passing ends = record {
   made = passing.made;
   answers = passing.answers;
@@ -256,8 +294,10 @@ pass_ends r old new session caller pass last next before after passing ends = re
 -- ---- the lines of a plan
 
 -- a further line was asked for
-asked-more : (steps : List Step) (made : List Made) (answers : List StepAnswer) (step : Step) (more : List Made) (others : List StepAnswer)
-    → AreAsked steps made answers → IsAsked step.session step.cred step.act more others → AreAsked (steps ++ step ∷ []) (made ++ more) (answers ++ others)
+asked-more : (steps : List Step) (made : List Made) (answers : List StepAnswer) (step : Step) (more : List Made)
+    (others : List StepAnswer)
+    → AreAsked steps made answers → IsAsked step.session step.cred step.act more others
+    → AreAsked (steps ++ step ∷ []) (made ++ more) (answers ++ others)
 asked-more [] made answers step more others are is = (
   more,
   [],
@@ -280,7 +320,9 @@ asked-more (s ∷ steps) made answers step more others are is = (
 )
 
 -- what is known to be written and what is collected grow by what is collected further
-pub collected : (start known : Option (List ℕ)) (old new lines line : List ℕ) → Appends start (append_known known old) lines → new ≡ old ++ line → Appends start (append_known known new) (lines ++ line)
+pub collected : (start known : Option (List ℕ)) (old new lines line : List ℕ)
+    → Appends start (append_known known old) lines → new ≡ old ++ line
+    → Appends start (append_known known new) (lines ++ line)
 collected None known old new lines line p grown = tt
 collected (Some x) None old new lines line p grown = absurd p
 collected (Some x) (Some y) old new lines line p grown =
@@ -297,20 +339,24 @@ writes_none r v start = record {
 }
 
 -- a further line was done, its answers' lines were collected, and perhaps a piece was written
-pub writes_more : {F : Type 0} (r : Cleaner F) (old middle new : Seen F) (steps : List Step) (step : Step) (start known left : Option (List ℕ)) (text after : List ℕ)
-    → WritesLines r old middle steps start (append_known known text) → TellsLine r middle new step.session step.cred step.act text after
+pub writes_more : {F : Type 0} (r : Cleaner F) (old middle new : Seen F) (steps : List Step) (step : Step)
+    (start known left : Option (List ℕ)) (text after : List ℕ)
+    → WritesLines r old middle steps start (append_known known text)
+    → TellsLine r middle new step.session step.cred step.act text after
     → Keeps (append_known known after) left → WritesLines r old new (steps ++ step ∷ []) start left
 writes_more r old middle new steps step start known left text after writes tells keeps =
     let lines = lines_text writes.made writes.answers in
     let more = lines_text tells.made tells.answers in
-    let grown : Appends start (append_known known after) (lines ++ more) = collected start known text after lines more writes.printed tells.printed in
+    let grown : Appends start (append_known known after) (lines ++ more) =
+    collected start known text after lines more writes.printed tells.printed in
     let joined = lines_of_runs r old middle writes.made writes.answers tells.made tells.answers writes.ran in
     record {
       made = writes.made ++ tells.made;
       answers = writes.answers ++ tells.answers;
       asked = asked-more steps writes.made writes.answers step tells.made tells.answers writes.asked tells.asked;
       ran = runs_joined r old middle new writes.made writes.answers tells.made tells.answers writes.ran tells.ran;
-      printed = subst (λ (l : List ℕ). Appends start left l) (sym joined) (Appends-kept start (append_known known after) left (lines ++ more) grown keeps);
+      printed = subst (λ (l : List ℕ). Appends start left l) (sym joined)
+          (Appends-kept start (append_known known after) left (lines ++ more) grown keeps);
     }
 
 -- ---- results
@@ -321,7 +367,8 @@ on_ok (Ok a) x next = next x
 on_ok (Err e) x next = tt
 
 -- what is known to be written grows by what was collected and by the report
-pub report_written : (journal : List Entry) (start written left : Option (List ℕ)) (text whole out : List ℕ) → whole ≡ text ++ report_text journal → out ≡ whole
+pub report_written : (journal : List Entry) (start written left : Option (List ℕ)) (text whole out : List ℕ) → whole
+    ≡ text ++ report_text journal → out ≡ whole
     → Appends start written out → Keeps written left → Appends (append_known start text) left (report_text journal)
 report_written journal None written left text whole out grown is w k = tt
 report_written journal (Some x) None left text whole out grown is w k = absurd w
@@ -330,31 +377,42 @@ report_written journal (Some x) (Some y) (Some v) text whole out grown is w k =
     k ∙ w ∙ ap (λ (xs : List ℕ). x ++ xs) (is ∙ grown) ∙ sym (append_assoc x text (report_text journal))
 
 -- nothing is collected first
-pub from_start : (start left : Option (List ℕ)) (text : List ℕ) → Appends (append_known start []) left text → Appends start left text
+pub from_start : (start left : Option (List ℕ)) (text : List ℕ) → Appends (append_known start []) left text
+    → Appends start left text
 from_start None left text p = tt
 from_start (Some x) None text p = absurd p
 from_start (Some x) (Some v) text p = p ∙ ap (λ (xs : List ℕ). xs ++ text) (append-nil x)
 
 -- steps on a volume without entries were answered so, from wherever its journal began
-pub begun_answers : {F : Type 0} (r : Cleaner F) (old new : Seen F) (made : List Made) (answers : List StepAnswer) → old.journal ≡ [] → Runs r old new made answers
+pub begun_answers : {F : Type 0} (r : Cleaner F) (old new : Seen F) (made : List Made) (answers : List StepAnswer)
+    → old.journal ≡ [] → Runs r old new made answers
     → Since (r.state old.since) old.since_level (λ from. AreSteps r old.limit from [] old.store made answers new.store)
 begun_answers r old new made answers none ran = λ from begins.
-    subst (λ (j : List Entry). AreSteps r old.limit from j old.store made answers new.store) none (ran.answered from begins)
+    subst (λ (j : List Entry). AreSteps r old.limit from j old.store made answers new.store) none
+    (ran.answered from begins)
 
 -- and what was entered is legal from there
-pub begun_legal : {F : Type 0} (r : Cleaner F) (old new : Seen F) (made : List Made) (answers : List StepAnswer) → old.journal ≡ [] → Runs r old new made answers
-    → Since (r.state new.since) new.since_level (λ from. IsLegal (r.state new.store).shape.numbers (r.state new.store).shape.segments new.journal from)
-    → Since (r.state old.since) old.since_level (λ from. IsLegal (r.state old.store).shape.numbers (r.state old.store).shape.segments (kept_steps made answers) from)
+pub begun_legal : {F : Type 0} (r : Cleaner F) (old new : Seen F) (made : List Made) (answers : List StepAnswer)
+    → old.journal ≡ [] → Runs r old new made answers
+    → Since (r.state new.since) new.since_level
+    (λ from. IsLegal (r.state new.store).shape.numbers (r.state new.store).shape.segments new.journal from)
+    → Since (r.state old.since) old.since_level
+    (λ from. IsLegal (r.state old.store).shape.numbers (r.state old.store).shape.segments
+    (kept_steps made answers) from)
 begun_legal r old new made answers none ran lawful = λ from begins.
-    let entries : new.journal ≡ kept_steps made answers = ran.entered ∙ ap (λ (j : List Entry). j ++ kept_steps made answers) none in
+    let entries : new.journal ≡ kept_steps made answers = ran.entered
+    ∙ ap (λ (j : List Entry). j ++ kept_steps made answers) none in
     let shape = (r.state old.store).shape in
     subst (λ (j : List Entry). IsLegal shape.numbers shape.segments j from) entries
     (subst (λ (s : Shape). IsLegal s.numbers s.segments new.journal from) ran.shape
-    (lawful from (still-begins r.state from old.since new.since old.since_level new.since_level ran.since ran.since_level begins)))
+    (lawful from (still-begins r.state from old.since new.since old.since_level new.since_level ran.since
+    ran.since_level begins)))
 
 -- a run that began in one of these worlds began in one of those
-pub run_begun : {F : Type 0} (r : Cleaner F) (these those : World → Type 0) (limit : ℕ) (store : F) (steps : List Step) (text : List ℕ)
-    → ((from : World) → those from → these from) → IsRun r these limit store steps text → IsRun r those limit store steps text
+pub run_begun : {F : Type 0} (r : Cleaner F) (these those : World → Type 0) (limit : ℕ) (store : F) (steps : List Step)
+    (text : List ℕ)
+    → ((from : World) → those from → these from) → IsRun r these limit store steps text
+    → IsRun r those limit store steps text
 run_begun r these those limit store steps text within run = record {
   made = run.made;
   answers = run.answers;
@@ -366,16 +424,20 @@ run_begun r these those limit store steps text within run = record {
 }
 
 -- the lines of a plan were done on a volume without entries, and all is written
-pub whole_run : {F : Type 0} (r : Cleaner F) (old new : Seen F) (steps : List Step) (empty text : List ℕ) (start known left : Option (List ℕ))
+pub whole_run : {F : Type 0} (r : Cleaner F) (old new : Seen F) (steps : List Step) (empty text : List ℕ)
+    (start known left : Option (List ℕ))
     → old.journal ≡ [] → WritesLines r old new steps (append_known start empty) (append_known known text) → empty ≡ []
-    → Since (r.state new.since) new.since_level (λ from. IsLegal (r.state new.store).shape.numbers (r.state new.store).shape.segments new.journal from)
+    → Since (r.state new.since) new.since_level
+    (λ from. IsLegal (r.state new.store).shape.numbers (r.state new.store).shape.segments new.journal from)
     × Appends (append_known known text) left (report_text new.journal)
-    → (all : List ℕ) × IsRun r (Begins (r.state old.since) old.since_level) old.limit old.store steps all × Appends start left all
+    → (all : List ℕ) × IsRun r (Begins (r.state old.since) old.since_level) old.limit old.store steps all
+    × Appends start left all
 whole_run {F} r old new steps empty text start known left none writes nothing (lawful, reported) =
     let made = writes.made in
     let answers = writes.answers in
     let lines = lines_text made answers in
-    let entries : new.journal ≡ kept_steps made answers = writes.ran.entered ∙ ap (λ (j : List Entry). j ++ kept_steps made answers) none in
+    let entries : new.journal ≡ kept_steps made answers = writes.ran.entered
+    ∙ ap (λ (j : List Entry). j ++ kept_steps made answers) none in
     let from_empty : Appends (append_known start []) (append_known known text) lines =
     subst (λ (e : List ℕ). Appends (append_known start e) (append_known known text) lines) nothing writes.printed in
     let report : Appends (append_known known text) left (report_text (kept_steps made answers)) =
@@ -391,5 +453,6 @@ whole_run {F} r old new steps empty text start known left none writes nothing (l
         printed = refl;
       },
       from_start start left (lines ++ report_text (kept_steps made answers))
-          (Appends-trans (append_known start []) (append_known known text) left lines (report_text (kept_steps made answers)) from_empty report),
+          (Appends-trans (append_known start []) (append_known known text) left lines
+          (report_text (kept_steps made answers)) from_empty report),
     )

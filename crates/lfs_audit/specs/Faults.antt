@@ -30,17 +30,20 @@ pub record IsRead (script : List ℕ) (plan : Planned) : Type 0 where
 abbrev pub HasPlan : Option (List ℕ) → Type 0
 HasPlan script = IfSome script (λ bytes. (plan : Planned) × IsRead bytes plan)
 
--- a script of these bytes, where they are known, may not be read and parsed for this fault: it is too long only with more
+-- a script of these bytes, where they are known, may not be read and parsed for this fault: it is too long only with
+-- more
 -- than 1,048,576 bytes, and the fault of a line is that of parsing one that isn't
 abbrev pub IsReadingFault : Option (List ℕ) → RunFault → Type 0
 IsReadingFault script Read = Unit {0}
 IsReadingFault script TooLong = IfSome script (λ bytes. 1048576 < length bytes)
-IsReadingFault script (Script fault) = IfSome script (λ bytes. (length bytes ≤ 1048576) × ParsesScript bytes (Err fault))
+IsReadingFault script (Script fault) = IfSome script (λ bytes. (length bytes ≤ 1048576)
+    × ParsesScript bytes (Err fault))
 IsReadingFault script (Format fault) = ⊥
 IsReadingFault script Memory = Unit {0}
 IsReadingFault script Write = ⊥
 
--- a run of such a script over a volume that is there may end in this fault: a write fails only once the script is parsed
+-- a run of such a script over a volume that is there may end in this fault: a write fails only once the script is
+-- parsed
 abbrev pub IsFaultOf : Option (List ℕ) → RunFault → Type 0
 IsFaultOf script Write = HasPlan script
 IsFaultOf script fault = IsReadingFault script fault

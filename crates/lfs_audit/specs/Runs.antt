@@ -51,7 +51,8 @@ cleaning_step session caller call = record { session = session; cred = caller; a
 
 -- From where a pass stands, told an answer to its last call, it comes to stand there, told the last of these answers:
 -- it makes these steps one after another, each as its next call once the one before it is answered.
-abbrev pub Passes : ℕ → Caller → Pass → Option CleanerAnswer → List Made → List StepAnswer → Pass → Option CleanerAnswer → Type 0
+abbrev pub Passes : ℕ → Caller → Pass → Option CleanerAnswer → List Made → List StepAnswer → Pass → Option CleanerAnswer
+    → Type 0
 Passes session caller pass last [] [] then latest = (then ≡ pass) × (latest ≡ last)
 Passes session caller pass last [] (answer ∷ answers) then latest = ⊥
 Passes session caller pass last (step ∷ steps) [] then latest = ⊥
@@ -94,9 +95,11 @@ AreAsked (step ∷ steps) made answers =
 -- ---- what it does on a volume
 
 -- a volume became this one by steps that were answered so, one each, from wherever its journal began
-pub record Runs {F : Type 0} (r : Cleaner F) (old new : Seen F) (made : List Made) (answers : List StepAnswer) : Type 0 where
+pub record Runs {F : Type 0} (r : Cleaner F) (old new : Seen F) (made : List Made)
+    (answers : List StepAnswer) : Type 0 where
   pub count : length answers ≡ length made
-  pub answered : Since (r.state old.since) old.since_level (λ from. AreSteps r old.limit from old.journal old.store made answers new.store)
+  pub answered : Since (r.state old.since) old.since_level
+      (λ from. AreSteps r old.limit from old.journal old.store made answers new.store)
   pub entered : new.journal ≡ old.journal ++ kept_steps made answers
   pub limit : new.limit ≡ old.limit
   pub shape : (r.state new.store).shape ≡ (r.state old.store).shape
@@ -104,12 +107,14 @@ pub record Runs {F : Type 0} (r : Cleaner F) (old new : Seen F) (made : List Mad
   pub since_level : new.since_level ≡ old.since_level
 
 -- a volume became this one by a call of the cleaner, whose answer's line was added to a text
-pub record TellsCleaning {F : Type 0} (r : Cleaner F) (old new : Seen F) (session : ℕ) (caller : Caller) (call : CleanerCall) (answer : CleanerAnswer) (before after : List ℕ) : Type 0 where
+pub record TellsCleaning {F : Type 0} (r : Cleaner F) (old new : Seen F) (session : ℕ) (caller : Caller)
+    (call : CleanerCall) (answer : CleanerAnswer) (before after : List ℕ) : Type 0 where
   pub ran : Runs r old new (cleaning_step session caller call ∷ []) (told.Cleaner answer ∷ [])
   pub printed : after ≡ before ++ cleaner_line session (kind_of call) answer
 
 -- a volume became this one by what a line of a plan asks for, and the lines of the answers were added to a text
-pub record TellsLine {F : Type 0} (r : Cleaner F) (old new : Seen F) (session : ℕ) (caller : Caller) (act : Act) (before after : List ℕ) : Type 0 where
+pub record TellsLine {F : Type 0} (r : Cleaner F) (old new : Seen F) (session : ℕ) (caller : Caller) (act : Act)
+    (before after : List ℕ) : Type 0 where
   pub made : List Made
   pub answers : List StepAnswer
   pub asked : IsAsked session caller act made answers
@@ -118,7 +123,8 @@ pub record TellsLine {F : Type 0} (r : Cleaner F) (old new : Seen F) (session : 
 
 -- a volume became this one by what the lines of a plan ask for, and what a writer is known to hold or to get became
 -- longer by the lines of the answers
-pub record WritesLines {F : Type 0} (r : Cleaner F) (old new : Seen F) (steps : List Step) (start known : Option (List ℕ)) : Type 0 where
+pub record WritesLines {F : Type 0} (r : Cleaner F) (old new : Seen F) (steps : List Step)
+    (start known : Option (List ℕ)) : Type 0 where
   pub made : List Made
   pub answers : List StepAnswer
   pub asked : AreAsked steps made answers

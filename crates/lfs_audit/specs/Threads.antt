@@ -33,9 +33,11 @@ transcript_text session answers = flat_map (answer_line session) answers
 -- the lines of the answers to the calls of this session and of those that follow it
 abbrev pub transcripts_text : ℕ → List (List Answer) → List ℕ
 transcripts_text session [] = []
-transcripts_text session (answers ∷ transcripts) = transcript_text session answers ++ transcripts_text (session + 1) transcripts
+transcripts_text session (answers ∷ transcripts) = transcript_text session answers
+    ++ transcripts_text (session + 1) transcripts
 
--- what is written of a run with this journal and these answers: the setup's lines, those of each session, and the report
+-- what is written of a run with this journal and these answers: the setup's lines, those of each session, and the
+-- report
 abbrev pub closed_text : List Entry → List Answer → List (List Answer) → List ℕ
 closed_text journal setup transcripts = transcript_text 0 setup ++ transcripts_text 1 transcripts ++ report_text journal
 
@@ -44,16 +46,19 @@ abbrev pub IsClosedText : List Entry → List Answer → List (Vec Answer) → O
 IsClosedText journal setup transcripts old new =
     Appends old new (closed_text journal setup (map (λ (transcript : Vec Answer). transcript.items) transcripts))
 
--- calls are those of a script, split: no line is the cleaner's, the setup has those of session 0, and each script those of its
+-- calls are those of a script, split: no line is the cleaner's, the setup has those of session 0, and each script those
+-- of its
 -- session, from 1 to the highest that a line names
-pub record IsSplit (script : List ℕ) (setup : List (Caller × Request)) (scripts : List (List (Caller × Request))) : Type 0 where
+pub record IsSplit (script : List ℕ) (setup : List (Caller × Request))
+    (scripts : List (List (Caller × Request))) : Type 0 where
   pub plan : Planned
   pub read : IsRead script plan
   pub users : list_any is_of_cleaner plan.steps ≡ false
   pub count : length scripts ≡ plan.sessions
   pub sorted : Sorts plan.steps (plan.sessions + 1) (setup ∷ scripts)
 
--- A text is that of a run of a script on threads, on a volume of so many segments and inode numbers whose journal may have so
+-- A text is that of a run of a script on threads, on a volume of so many segments and inode numbers whose journal may
+-- have so
 -- many entries: the setup and the scripts are the script's, split; the journal is legal from the opening tree and an
 -- interleaving of them with these answers, of which the lines are printed, and the report.
 pub record IsThreadsOutput (script : List ℕ) (segments inodes limit : ℕ) (text : List ℕ) : Type 0 where
@@ -85,13 +90,17 @@ IsSplittingFault script (threads.Run fault) = IsReadingFault script fault
 IsSplittingFault script threads.CleanerLine = IfSome script HasCleanerLine
 IsSplittingFault script (threads.Serve fault) = ⊥
 
--- a run of such a script on threads, on a volume over a log of so many segments, inode numbers and frames, may end in this
--- fault, of which an earlier one here comes before a later one: those of reading and parsing, a line of the cleaner's, those of
+-- a run of such a script on threads, on a volume over a log of so many segments, inode numbers and frames, may end in
+-- this
+-- fault, of which an earlier one here comes before a later one: those of reading and parsing, a line of the cleaner's,
+-- those of
 -- serving, a write that failed; memory may run out at any step
 abbrev pub IsThreadsFault : Option (List ℕ) → ℕ → ℕ → ℕ → ThreadsFault → Type 0
 IsThreadsFault script segments inodes frames (threads.Run Write) =
-    IfSome script (λ bytes. (sessions : ℕ) × HasSessions bytes sessions × (0 < sessions) × (sessions ≤ 8)) × IsInRange segments inodes frames
+    IfSome script (λ bytes. (sessions : ℕ) × HasSessions bytes sessions × (0 < sessions) × (sessions ≤ 8))
+    × IsInRange segments inodes frames
 IsThreadsFault script segments inodes frames (threads.Run fault) = IsReadingFault script fault
 IsThreadsFault script segments inodes frames threads.CleanerLine = IfSome script HasCleanerLine
 IsThreadsFault script segments inodes frames (threads.Serve fault) =
-    IfSome script (λ bytes. (sessions : ℕ) × HasSessions bytes sessions × IsServeFault sessions segments inodes frames fault)
+    IfSome script (λ bytes. (sessions : ℕ) × HasSessions bytes sessions
+    × IsServeFault sessions segments inodes frames fault)

@@ -19,7 +19,8 @@ use Rattle.lfs_auditing.specs.declared.fault.Unread.TheVariants.{Cut, TooLong, L
 abbrev pub behind : Audit → List Entry → World
 behind a entries = world_after (numbers_of a.checker) entries opening_world
 
--- an audit has read these entries: they are legal from the tree of a fresh volume, and it stands behind them, has counted
+-- an audit has read these entries: they are legal from the tree of a fresh volume, and it stands behind them, has
+-- counted
 -- them, and each user's
 pub record HasRead (a : Audit) (entries : List Entry) : Type 0 where
   pub legal : IsLegal (numbers_of a.checker) a.checker.segments entries opening_world
@@ -40,7 +41,8 @@ pub record NotesOnly (old new : Audit) : Type 0 where
 
 -- an entry isn't legal behind these
 abbrev pub IsIllegalBehind : Audit → List Entry → Entry → Type 0
-IsIllegalBehind a entries entry = ¬ (IsEvent (numbers_of a.checker) a.checker.segments (behind a entries) entry.cred entry.event)
+IsIllegalBehind a entries entry = ¬ (IsEvent (numbers_of a.checker) a.checker.segments
+    (behind a entries) entry.cred entry.event)
 
 -- lines with their line feeds
 abbrev pub lines_text : List (List ℕ) → List ℕ
@@ -61,16 +63,19 @@ StopsAtLine a entries line (Unread Cut) = ⊥
 StopsAtLine a entries line (Unread TooLong) = ⊥
 StopsAtLine a entries line (Unread (Line fault)) = entry_told line ≡ Err fault
 
--- what an audit that has read these entries read further, and where it stopped: at the end; behind a line that tells no legal
+-- what an audit that has read these entries read further, and where it stopped: at the end; behind a line that tells no
+-- legal
 -- entry; at the end, behind bytes that no line feed ends; or within a line that is too long
 abbrev pub StopsBehind : Option (List ℕ) → Option (List ℕ) → Audit → List Entry → Stop → Type 0
 StopsBehind known left a entries End = Consumes known left [] × IsAtEnd left
-StopsBehind known left a entries (Unread Cut) = (part : List ℕ) × IsPart known left part × IsAtEnd left × (0 < length part)
+StopsBehind known left a entries (Unread Cut) = (part : List ℕ) × IsPart known left part × IsAtEnd left
+    × (0 < length part)
 StopsBehind known left a entries (Unread TooLong) = (part : List ℕ) × IsPart known left part × (4194304 < length part)
 StopsBehind known left a entries stop =
     (line : List ℕ) × HasNoLineFeed line × Consumes known left (line ++ 10 ∷ []) × StopsAtLine a entries line stop
 
--- An audit that has read these entries read on, from these bytes, where they are known: lines that tell more entries, all of
+-- An audit that has read these entries read on, from these bytes, where they are known: lines that tell more entries,
+-- all of
 -- them legal, up to where it stopped.
 pub record HasReadOn (known left : Option (List ℕ)) (entries : List Entry) (a : Audit) (stop : Stop) : Type 0 where
   pub lines : List (List ℕ)
@@ -88,7 +93,8 @@ status_of End = 0
 status_of (Illegal entry) = 1
 status_of (Unread why) = 1
 
--- A journal of these bytes, where they are known, of a volume with these numbers was audited from its beginning, and the audit
+-- A journal of these bytes, where they are known, of a volume with these numbers was audited from its beginning, and
+-- the audit
 -- ended with this status by where it stopped.
 pub record IsAudited (known : Option (List ℕ)) (inodes segments status : ℕ) : Type 0 where
   pub audit : Audit

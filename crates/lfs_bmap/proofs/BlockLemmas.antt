@@ -25,12 +25,16 @@ block_with-code_of Single h = refl
 block_with-code_of Double h = refl
 block_with-code_of (Child index) h =
     let e : 3 + index - 3 ≡ index = omega arith in
-    cond-false _ _ _ (ne_eqb (3 + index) 0 (λ p. omega arith)) ∙ cond-false _ _ _ (ne_eqb (3 + index) 1 (λ p. omega arith))
-    ∙ cond-false _ _ _ (ne_eqb (3 + index) 2 (λ p. omega arith)) ∙ cond-true _ _ _ (lt-ltb (3 + index) 131 (omega arith)) ∙ ap Child e
+    cond-false _ _ _ (ne_eqb (3 + index) 0 (λ p. omega arith))
+    ∙ cond-false _ _ _ (ne_eqb (3 + index) 1 (λ p. omega arith))
+    ∙ cond-false _ _ _ (ne_eqb (3 + index) 2 (λ p. omega arith))
+    ∙ cond-true _ _ _ (lt-ltb (3 + index) 131 (omega arith)) ∙ ap Child e
 block_with-code_of (Data index) h =
     let e : 131 + index - 131 ≡ index = omega arith in
-    cond-false _ _ _ (ne_eqb (131 + index) 0 (λ p. omega arith)) ∙ cond-false _ _ _ (ne_eqb (131 + index) 1 (λ p. omega arith))
-    ∙ cond-false _ _ _ (ne_eqb (131 + index) 2 (λ p. omega arith)) ∙ cond-false _ _ _ (le-ltb (131 + index) 131 (omega arith)) ∙ ap Data e
+    cond-false _ _ _ (ne_eqb (131 + index) 0 (λ p. omega arith))
+    ∙ cond-false _ _ _ (ne_eqb (131 + index) 1 (λ p. omega arith))
+    ∙ cond-false _ _ _ (ne_eqb (131 + index) 2 (λ p. omega arith))
+    ∙ cond-false _ _ _ (le-ltb (131 + index) 131 (omega arith)) ∙ ap Data e
 
 -- so two blocks have two codes
 pub same_block : (b c : FileBlock) → IsFileBlock b → IsFileBlock c → code_of b ≡ code_of c → b ≡ c

@@ -13,19 +13,22 @@ total-same f g (suc n) h =
     omega arith
 
 -- and of functions that differ at one number
-pub total-changed : (f g : ℕ → ℕ) (n i : ℕ) → i < n → ((k : ℕ) → k < n → k ≢ i → f k ≡ g k) → total f n + g i ≡ total g n + f i
+pub total-changed : (f g : ℕ → ℕ) (n i : ℕ) → i < n → ((k : ℕ) → k < n → k ≢ i → f k ≡ g k) → total f n + g i
+    ≡ total g n + f i
 unfolding total
 total-changed f g zero i below h = absurd (omega arith)
 total-changed f g (suc n) i below h =
     elim (cases_eq n i) [
       | inl e ↦
-          let rest : total f n ≡ total g n = total-same f g n (λ k less. h k (omega arith) (λ same. absurd (omega arith))) in
+          let rest : total f n ≡ total g n = total-same f g n
+          (λ k less. h k (omega arith) (λ same. absurd (omega arith))) in
           let fs : f n ≡ f i = ap f e in
           let gs : g n ≡ g i = ap g e in
           omega arith
       | inr ne ↦
           let last : f n ≡ g n = h n (omega arith) ne in
-          let rest : total f n + g i ≡ total g n + f i = total-changed f g n i (omega arith) (λ k less. h k (omega arith)) in
+          let rest : total f n + g i ≡ total g n + f i =
+          total-changed f g n i (omega arith) (λ k less. h k (omega arith)) in
           omega arith
     ]
 
@@ -53,7 +56,8 @@ pub weight-none : (segment code : ℕ) → weight_of 0 segment code ≡ 0
 unfolding weight_of
 weight-none segment code = refl
 
-pub weight-here : (place segment code : ℕ) → place ≢ 0 → seg_of place ≡ segment → weight_of place segment code ≡ 128 * units code
+pub weight-here : (place segment code : ℕ) → place ≢ 0 → seg_of place ≡ segment → weight_of place segment code
+    ≡ 128 * units code
 unfolding weight_of
 weight-here place segment code some here =
     cond-false _ _ _ (ne_eqb place 0 some) ∙ cond-true _ _ _ (eq-eqb (seg_of place) segment here)
@@ -93,7 +97,8 @@ placed-code at number code place n c ne = cond-false _ _ _ (and_right _ _ (ne_eq
 
 -- a key is the one that was placed, or its place is the old one
 pub placed-cases : (at : ℕ → ℕ → ℕ) (number code place n c : ℕ)
-    → ((n ≡ number) × (c ≡ code) × (placed at number code place n c ≡ place)) ⊎ (((n ≢ number) ⊎ (c ≢ code)) × (placed at number code place n c ≡ at n c))
+    → ((n ≡ number) × (c ≡ code) × (placed at number code place n c ≡ place))
+    ⊎ (((n ≢ number) ⊎ (c ≢ code)) × (placed at number code place n c ≡ at n c))
 placed-cases at number code place n c =
     elim (cases_eq n number) [
       | inl e ↦ elim (cases_eq c code) [
@@ -109,7 +114,8 @@ module _ (numbers codes : ℕ) where
       → live_bytes numbers codes at segment ≡ live_bytes numbers codes others segment
   unfolding live_bytes
   live-same at others segment h =
-      total-same _ _ numbers (λ n low. total-same _ _ codes (λ c below. ap (λ p. weight_of p segment c) (h n c low below)))
+      total-same _ _ numbers (λ n low. total-same _ _ codes
+      (λ c below. ap (λ p. weight_of p segment c) (h n c low below)))
 
   -- Where one key gets another place, each segment loses what the old place gave it and gains what the new one gives.
   pub live-placed : (at : ℕ → ℕ → ℕ) (number code place segment : ℕ) → number < numbers → code < codes
@@ -120,8 +126,11 @@ module _ (numbers codes : ℕ) where
       let row : (ℕ → ℕ → ℕ) → ℕ → ℕ = λ ps n. total (λ c. weight_of (ps n c) segment c) codes in
       let new : ℕ → ℕ → ℕ = placed at number code place in
       let rows : total (row new) numbers + row at number ≡ total (row at) numbers + row new number =
-      total-changed (row new) (row at) numbers number low (λ n less ne. total-same _ _ codes (λ c under. ap (λ p. weight_of p segment c) (placed-number at number code place n c ne))) in
-      let cells : row new number + weight_of (at number code) segment code ≡ row at number + weight_of (new number code) segment code =
+      total-changed (row new) (row at) numbers number low
+      (λ n less ne. total-same _ _ codes (λ c under. ap (λ p. weight_of p segment c)
+      (placed-number at number code place n c ne))) in
+      let cells : row new number + weight_of (at number code) segment code ≡ row at number
+      + weight_of (new number code) segment code =
       total-changed (λ c. weight_of (new number c) segment c) (λ c. weight_of (at number c) segment c) codes code below
       (λ c under ne. ap (λ p. weight_of p segment c) (placed-code at number code place number c ne)) in
       let here : weight_of (new number code) segment code ≡ weight_of place segment code =
@@ -129,7 +138,8 @@ module _ (numbers codes : ℕ) where
       omega arith
 
   -- no key in a segment: no live bytes
-  pub live-none : (at : ℕ → ℕ → ℕ) (segment : ℕ) → ((n c : ℕ) → n < numbers → c < codes → at n c ≢ 0 → seg_of (at n c) ≢ segment)
+  pub live-none : (at : ℕ → ℕ → ℕ) (segment : ℕ)
+      → ((n c : ℕ) → n < numbers → c < codes → at n c ≢ 0 → seg_of (at n c) ≢ segment)
       → live_bytes numbers codes at segment ≡ 0
   unfolding live_bytes
   live-none at segment h =
@@ -139,7 +149,8 @@ module _ (numbers codes : ℕ) where
       ]))
 
   -- what one key gives is at most the live bytes
-  pub live-part : (at : ℕ → ℕ → ℕ) (segment n c : ℕ) → n < numbers → c < codes → weight_of (at n c) segment c ≤ live_bytes numbers codes at segment
+  pub live-part : (at : ℕ → ℕ → ℕ) (segment n c : ℕ) → n < numbers → c < codes
+      → weight_of (at n c) segment c ≤ live_bytes numbers codes at segment
   unfolding live_bytes
   live-part at segment n c low below =
       let cell = total-part (λ d. weight_of (at n d) segment d) codes c below in

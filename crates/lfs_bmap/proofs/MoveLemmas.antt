@@ -1,6 +1,7 @@
 -- Moves of addresses, one after another, and those of each step of the log.
 use Rattle.std.proofs.Common.{◌≡◌, ◌≢◌, ℕ, ◌/◌, ◌<◌, ◌≤◌, ◌⊎◌, inl, inr, refl, sym, ap, ◌∙◌, subst, arith}
-use Rattle.std.proofs.lemmas.Bool.{cases_eq, cases_lt, cond-true, cond-false, eq-eqb, ne_eqb, lt-ltb, le-ltb, and_from, and_left, and_right}
+use Rattle.std.proofs.lemmas.Bool.{cases_eq, cases_lt, cond-true, cond-false, eq-eqb, ne_eqb, lt-ltb, le-ltb, and_from}
+use Rattle.std.proofs.lemmas.Bool.{and_left, and_right}
 use Rattle.lfs_bmap.specs.declared.blocks.TheConstants.{BLOCK_CODES}
 use Rattle.lfs_bmap.specs.Counting.{seg_of}
 use Rattle.lfs_bmap.specs.Log.{LogState, IsPlaced, IsLog, SameKeys, SameUse, Assigns, Opens, Renews}
@@ -16,8 +17,10 @@ module _ (Within : ℕ → Type 0) where
   pub moves-trans : (a b c : LogState) → Moves Within a b → Moves Within b c → Moves Within a c
   moves-trans a b c p q = record {
     numbers = q.numbers ∙ p.numbers;
-    places = λ n k there within. p.places n k (between n k there within) (inside n k there within) ∙ q.places n k there within;
-    versions = λ n k there within. p.versions n k (between n k there within) (inside n k there within) ∙ q.versions n k there within;
+    places = λ n k there within. p.places n k (between n k there within) (inside n k there within)
+        ∙ q.places n k there within;
+    versions = λ n k there within. p.versions n k (between n k there within) (inside n k there within)
+        ∙ q.versions n k there within;
   } where
     between : (n k : ℕ) → IsPlaced c n k → Within (seg_of (c.at n k)) → IsPlaced b n k
     between n k there within = record {
@@ -33,12 +36,14 @@ module _ (Within : ℕ → Type 0) where
   pub moves-same : (old new : LogState) → SameKeys old new → Moves Within old new
   moves-same old new keys = record {
     numbers = keys.numbers;
-    places = λ n c there within. sym (keys.places n c (subst (λ m. n < m) keys.numbers there.number_below) there.code_below);
+    places = λ n c there within. sym (keys.places n c
+        (subst (λ m. n < m) keys.numbers there.number_below) there.code_below);
     versions = λ n c there within. sym (keys.versions n (subst (λ m. n < m) keys.numbers there.number_below));
   }
 
   -- one key that goes to a place outside these segments, or to none
-  pub moves-assigned : (old new : LogState) (number code place : ℕ) → Assigns old new number code place → (place ≢ 0 → Within (seg_of place) → ⊥)
+  pub moves-assigned : (old new : LogState) (number code place : ℕ) → Assigns old new number code place
+      → (place ≢ 0 → Within (seg_of place) → ⊥)
       → Moves Within old new
   moves-assigned old new number code place h outside = record {
     numbers = h.numbers;
@@ -60,7 +65,8 @@ module _ (Within : ℕ → Type 0) where
     places = λ n c there within. sym (h.places n c (subst (λ m. n < m) h.numbers there.number_below) there.code_below);
     versions = λ n c there within.
         let low : n < old.numbers = subst (λ m. n < m) h.numbers there.number_below in
-        let other : n ≢ number = λ e. there.somewhere (h.places n c low there.code_below ∙ ap (λ m. old.at m c) e ∙ h.nowhere c there.code_below) in
+        let other : n ≢ number = λ e. there.somewhere (h.places n c low there.code_below ∙ ap (λ m. old.at m c) e
+        ∙ h.nowhere c there.code_below) in
         sym (h.versions n low other);
   }
 
@@ -77,45 +83,60 @@ StaysDirty-trans a b c p q = record {
 pub StaysDirty-same : (old new : LogState) → new.segments ≡ old.segments → SameUse old new → StaysDirty old new
 StaysDirty-same old new segments used = record { segments = segments; dirty = λ s low dirty. used.states s low ∙ dirty }
 
-pub StaysDirty-opened : (old new : LogState) (spare segment : ℕ) → IsLog old spare → Opens old new segment → StaysDirty old new
-StaysDirty-opened old new spare segment log h = record { segments = h.keys.segments; dirty = opened_dirty old new spare segment log h }
+pub StaysDirty-opened : (old new : LogState) (spare segment : ℕ) → IsLog old spare → Opens old new segment
+    → StaysDirty old new
+StaysDirty-opened old new spare segment log h =
+    record { segments = h.keys.segments; dirty = opened_dirty old new spare segment log h }
 
 -- A key that takes a place of the log takes none in a segment that was dirty when the call began.
-pub taken_outside : (entry l : LogState) (spare number code place : ℕ) → IsLog l spare → StaysDirty entry l → MayTake l spare number code place
+pub taken_outside : (entry l : LogState) (spare number code place : ℕ) → IsLog l spare → StaysDirty entry l
+    → MayTake l spare number code place
     → DirtyIn entry (seg_of place) → ⊥
 taken_outside entry l spare number code place log stays may dirty =
-    let inside : seg_of place < entry.segments = subst (λ s. s < entry.segments) (sym may.here) (subst (λ n. l.active < n) stays.segments log.segments.inside) in
+    let inside : seg_of place < entry.segments =
+    subst (λ s. s < entry.segments) (sym may.here) (subst (λ n. l.active < n) stays.segments log.segments.inside) in
     dirty_not_active (sym (stays.dirty (seg_of place) inside dirty) ∙ ap l.state may.here ∙ log.segments.is_active)
 
 -- The present address of a key of the present version, and of any other.
-pub present_address-key : (l : LogState) (number code : ℕ) → number < l.numbers → code < BLOCK_CODES → present_address l number (l.version number) code ≡ l.at number code / 4
+pub present_address-key : (l : LogState) (number code : ℕ) → number < l.numbers → code < BLOCK_CODES
+    → present_address l number (l.version number) code ≡ l.at number code / 4
 unfolding present_address
 present_address-key l number code low below =
-    cond-true _ _ _ (and_from _ _ (lt-ltb number l.numbers low) (and_from _ _ (eq-eqb (l.version number) (l.version number) refl) (lt-ltb code BLOCK_CODES below)))
+    cond-true _ _ _ (and_from _ _ (lt-ltb number l.numbers low)
+    (and_from _ _ (eq-eqb (l.version number) (l.version number) refl) (lt-ltb code BLOCK_CODES below)))
 
-pub present_address-other : (l : LogState) (number version code : ℕ) → (l.numbers ≤ number) ⊎ ((l.version number ≢ version) ⊎ (BLOCK_CODES ≤ code)) → present_address l number version code ≡ 0
+pub present_address-other : (l : LogState) (number version code : ℕ) → (l.numbers ≤ number)
+    ⊎ ((l.version number ≢ version) ⊎ (BLOCK_CODES ≤ code)) → present_address l number version code ≡ 0
 unfolding present_address
 present_address-other l number version code (inl past) = cond-false _ _ _ (and_left _ _ (le-ltb number l.numbers past))
-present_address-other l number version code (inr (inl ne)) = cond-false _ _ _ (and_right _ _ (and_left _ _ (ne_eqb (l.version number) version ne)))
-present_address-other l number version code (inr (inr past)) = cond-false _ _ _ (and_right _ _ (and_right _ _ (le-ltb code BLOCK_CODES past)))
+present_address-other l number version code (inr (inl ne)) =
+    cond-false _ _ _ (and_right _ _ (and_left _ _ (ne_eqb (l.version number) version ne)))
+present_address-other l number version code (inr (inr past)) =
+    cond-false _ _ _ (and_right _ _ (and_right _ _ (le-ltb code BLOCK_CODES past)))
 
 -- keys that stay have the addresses that they had
-pub present_address-same : (old new : LogState) → SameKeys old new → (number version code : ℕ) → present_address new number version code ≡ present_address old number version code
+pub present_address-same : (old new : LogState) → SameKeys old new → (number version code : ℕ)
+    → present_address new number version code ≡ present_address old number version code
 present_address-same old new keys number version code =
     elim (cases_lt number old.numbers) [
       | inr past ↦
-          present_address-other new number version code (inl (let same = keys.numbers in omega arith)) ∙ sym (present_address-other old number version code (inl past))
+          present_address-other new number version code (inl (let same = keys.numbers in omega arith))
+          ∙ sym (present_address-other old number version code (inl past))
       | inl low ↦ elim (cases_lt code BLOCK_CODES) [
-        | inr past ↦ present_address-other new number version code (inr (inr past)) ∙ sym (present_address-other old number version code (inr (inr past)))
+        | inr past ↦ present_address-other new number version code (inr (inr past))
+            ∙ sym (present_address-other old number version code (inr (inr past)))
         | inl below ↦
             let there : number < new.numbers = subst (λ m. number < m) (sym keys.numbers) low in
             elim (cases_eq (old.version number) version) [
               | inl e ↦
-                  ap (λ v. present_address new number v code) (sym (keys.versions number low ∙ e)) ∙ present_address-key new number code there below
-                  ∙ ap (λ p. p / 4) (keys.places number code low below) ∙ sym (present_address-key old number code low below)
+                  ap (λ v. present_address new number v code) (sym (keys.versions number low ∙ e))
+                  ∙ present_address-key new number code there below
+                  ∙ ap (λ p. p / 4) (keys.places number code low below)
+                  ∙ sym (present_address-key old number code low below)
                   ∙ ap (λ v. present_address old number v code) e
               | inr ne ↦
-                  present_address-other new number version code (inr (inl (λ e. ne (sym (keys.versions number low) ∙ e))))
+                  present_address-other new number version code
+                  (inr (inl (λ e. ne (sym (keys.versions number low) ∙ e))))
                   ∙ sym (present_address-other old number version code (inr (inl ne)))
             ]
       ]

@@ -53,7 +53,8 @@ table-cells t [] some = absurd (some refl)
 table-cells t (i ∷ up) some = table-read t i up
 
 -- The bytes of a block that waits, of one in the log, and of one without address.
-pub via-waits : (t : Tree) (way : List ℕ) (a : ℕ) (bytes : List ℕ) → t.waits way ≡ Some bytes → bytes_via t way a ≡ bytes
+pub via-waits : (t : Tree) (way : List ℕ) (a : ℕ) (bytes : List ℕ) → t.waits way ≡ Some bytes → bytes_via t way a
+    ≡ bytes
 unfolding bytes_via
 via-waits t way a bytes h = ap (λ o. unwrap_or o (if a == 0 then zero_block else t.block a)) h
 
@@ -70,19 +71,22 @@ pub read-waits : (t : Tree) (way bytes : List ℕ) → t.waits way ≡ Some byte
 read-waits t way bytes h = read-via t way ∙ via-waits t way (address t way) bytes h
 
 -- the bytes at an address are the same where the same waits and the log has the same there
-pub via-same : (old new : Tree) (way : List ℕ) (a : ℕ) → new.waits way ≡ old.waits way → (a ≢ 0 → new.block a ≡ old.block a)
+pub via-same : (old new : Tree) (way : List ℕ) (a : ℕ) → new.waits way ≡ old.waits way
+    → (a ≢ 0 → new.block a ≡ old.block a)
     → bytes_via new way a ≡ bytes_via old way a
 unfolding bytes_via
 via-same old new way a waits block =
     ap (λ o. unwrap_or o (if a == 0 then zero_block else new.block a)) waits
-    ∙ ap (λ b. unwrap_or (old.waits way) b) (elim (cases_eq a 0) as (λ _. (if a == 0 then zero_block else new.block a) ≡ (if a == 0 then zero_block else old.block a)) [
+    ∙ ap (λ b. unwrap_or (old.waits way) b) (elim (cases_eq a 0) as (λ _. (if a == 0 then zero_block else new.block a)
+    ≡ (if a == 0 then zero_block else old.block a)) [
       | inl none ↦ cond-true _ _ _ (eq-eqb a 0 none) ∙ sym (cond-true _ _ _ (eq-eqb a 0 none))
       | inr some ↦ cond-false _ _ _ (ne_eqb a 0 some) ∙ block some ∙ sym (cond-false _ _ _ (ne_eqb a 0 some))
     ])
 
 -- Where the record is the same, and each known block has at its old address the bytes that it had, all readings are the
 -- same. Staging the bytes that a block has, settling one that the log has, and writing where nothing is read are such.
-module _ (old new : Tree) (root : new.root ≡ old.root) (same : (way : List ℕ) → IsBlockWay way → bytes_via new way (address old way) ≡ read old way) where
+module _ (old new : Tree) (root : new.root ≡ old.root) (same : (way : List ℕ) → IsBlockWay way
+    → bytes_via new way (address old way) ≡ read old way) where
   read_kept : (way : List ℕ) → IsBlockWay way → address new way ≡ address old way → read new way ≡ read old way
   read_kept way known e = read-via new way ∙ ap (bytes_via new way) e ∙ same way known
 
@@ -92,7 +96,8 @@ module _ (old new : Tree) (root : new.root ≡ old.root) (same : (way : List ℕ
   table_kept : (way : List ℕ) → IsBlockWay way → table new way ≡ table old way
   table_kept [] known = table-root new ∙ root ∙ sym (table-root old)
   table_kept (i ∷ up) known =
-      table-read new i up ∙ ap cells (read_kept (i ∷ up) known (cell_kept i up (table_kept up (up_known i up known)))) ∙ sym (table-read old i up)
+      table-read new i up ∙ ap cells (read_kept (i ∷ up) known (cell_kept i up (table_kept up (up_known i up known))))
+      ∙ sym (table-read old i up)
 
   address_kept : (way : List ℕ) → IsBlockWay way → address new way ≡ address old way
   address_kept [] known = address-root new ∙ sym (address-root old)
@@ -112,10 +117,13 @@ SameReadings-trans a b c p q = record {
 }
 
 -- no reading changes where the log keeps the blocks at the known blocks' addresses
-pub kept_blocks : (old new : Tree) → new.root ≡ old.root → ((way : List ℕ) → IsBlockWay way → new.waits way ≡ old.waits way)
-    → ((way : List ℕ) → IsBlockWay way → address old way ≢ 0 → new.block (address old way) ≡ old.block (address old way)) → SameReadings old new
+pub kept_blocks : (old new : Tree) → new.root ≡ old.root
+    → ((way : List ℕ) → IsBlockWay way → new.waits way ≡ old.waits way)
+    → ((way : List ℕ) → IsBlockWay way → address old way ≢ 0 → new.block (address old way)
+    ≡ old.block (address old way)) → SameReadings old new
 kept_blocks old new root waits blocks =
-    same_readings old new root (λ way known. via-same old new way (address old way) (waits way known) (blocks way known) ∙ sym (read-via old way))
+    same_readings old new root (λ way known. via-same old new way (address old way) (waits way known) (blocks way known)
+    ∙ sym (read-via old way))
 
 -- as where a block is written at an address that no known block has
 pub appended_unread : (old new : Tree) (a : ℕ) → StoresBlock old new a → IsUnread old a → SameReadings old new
@@ -123,19 +131,25 @@ appended_unread old new a h unread =
     kept_blocks old new h.root h.waits (λ way known some. h.blocks (address old way) (unread way known))
 
 -- or where the bytes wait that a block has
-pub staged_same : (old new : Tree) (way : List ℕ) → IsBlockWay way → Stages old new way (read old way) → SameReadings old new
+pub staged_same : (old new : Tree) (way : List ℕ) → IsBlockWay way → Stages old new way (read old way)
+    → SameReadings old new
 staged_same old new way known h =
     same_readings old new h.root (λ other there. elim (cases_way other way there known) [
-      | inl e ↦ via-waits new other (address old other) (read old way) (ap (λ w. new.waits w) e ∙ h.waiting) ∙ ap (read old) (sym e)
-      | inr ne ↦ via-same old new other (address old other) (h.waits other there ne) (λ some. h.blocks (address old other)) ∙ sym (read-via old other)
+      | inl e ↦ via-waits new other (address old other) (read old way) (ap (λ w. new.waits w) e ∙ h.waiting)
+          ∙ ap (read old) (sym e)
+      | inr ne ↦ via-same old new other (address old other) (h.waits other there ne)
+          (λ some. h.blocks (address old other)) ∙ sym (read-via old other)
     ])
 
 -- Other bytes wait for a block through which no way leads: its reading alone changes.
-module _ (old new : Tree) (way bytes : List ℕ) (known : IsBlockWay way) (leaf : (i : ℕ) → IsBlockWay (i ∷ way) → ⊥) (h : Stages old new way bytes) where
-  staged_read : (other : List ℕ) → IsBlockWay other → other ≢ way → address new other ≡ address old other → read new other ≡ read old other
+module _ (old new : Tree) (way bytes : List ℕ) (known : IsBlockWay way) (leaf : (i : ℕ) → IsBlockWay (i ∷ way) → ⊥)
+    (h : Stages old new way bytes) where
+  staged_read : (other : List ℕ) → IsBlockWay other → other ≢ way → address new other ≡ address old other
+      → read new other ≡ read old other
   staged_read other there ne e =
       read-via new other ∙ ap (bytes_via new other) e
-      ∙ via-same old new other (address old other) (h.waits other there ne) (λ some. h.blocks (address old other)) ∙ sym (read-via old other)
+      ∙ via-same old new other (address old other) (h.waits other there ne) (λ some. h.blocks (address old other))
+      ∙ sym (read-via old other)
 
   staged_cell : (i : ℕ) (up : List ℕ) → table new up ≡ table old up → address new (i ∷ up) ≡ address old (i ∷ up)
   staged_cell i up above = address-cell new i up ∙ ap (λ ys. slice_index ys i) above ∙ sym (address-cell old i up)
@@ -148,7 +162,8 @@ module _ (old new : Tree) (way bytes : List ℕ) (known : IsBlockWay way) (leaf 
   staged_table [] there ne = table-root new ∙ h.root ∙ sym (table-root old)
   staged_table (i ∷ up) there ne =
       table-read new i up
-      ∙ ap cells (staged_read (i ∷ up) there ne (staged_cell i up (staged_table up (up_known i up there) (through i up there))))
+      ∙ ap cells (staged_read (i ∷ up) there ne
+      (staged_cell i up (staged_table up (up_known i up there) (through i up there))))
       ∙ sym (table-read old i up)
 
   pub staged_addresses : (other : List ℕ) → IsBlockWay other → address new other ≡ address old other
@@ -162,24 +177,29 @@ module _ (old new : Tree) (way bytes : List ℕ) (known : IsBlockWay way) (leaf 
   staged_bytes = read-waits new way bytes h.waiting
 
 -- A block lands at an address that no known block had.
-module _ (old new : Tree) (i : ℕ) (up : List ℕ) (a : ℕ) (known : IsBlockWay (i ∷ up)) (h : Lands old new i up a) (unread : IsUnread old a) where
+module _ (old new : Tree) (i : ℕ) (up : List ℕ) (a : ℕ) (known : IsBlockWay (i ∷ up)) (h : Lands old new i up a)
+    (unread : IsUnread old a) where
   -- its address is the new one
   pub landed_address : address new (i ∷ up) ≡ a
   landed_address =
       address-cell new i up ∙ ap (λ ys. slice_index ys i) h.parent ∙ get_or-set_same (table old up) i a 0 h.room
 
-  landed_cell : (j : ℕ) (above : List ℕ) → IsBlockWay above → (above ≢ up → table new above ≡ table old above) → j ∷ above ≢ i ∷ up
+  landed_cell : (j : ℕ) (above : List ℕ) → IsBlockWay above → (above ≢ up → table new above ≡ table old above) → j
+      ∷ above ≢ i ∷ up
       → address new (j ∷ above) ≡ address old (j ∷ above)
   landed_cell j above there kept ne =
       elim (cases_way above up there (up_known i up known)) [
         | inl e ↦
             let other : j ≢ i = λ same. ne (ap (λ k. k ∷ above) same ∙ ap (λ w. i ∷ w) e) in
             address-cell new j above ∙ ap (λ w. slice_index (table new w) j) e ∙ ap (λ ys. slice_index ys j) h.parent
-            ∙ get_or-set_other (table old up) i j a 0 other ∙ ap (λ w. slice_index (table old w) j) (sym e) ∙ sym (address-cell old j above)
-        | inr apart ↦ address-cell new j above ∙ ap (λ ys. slice_index ys j) (kept apart) ∙ sym (address-cell old j above)
+            ∙ get_or-set_other (table old up) i j a 0 other ∙ ap (λ w. slice_index (table old w) j) (sym e)
+            ∙ sym (address-cell old j above)
+        | inr apart ↦ address-cell new j above ∙ ap (λ ys. slice_index ys j) (kept apart)
+            ∙ sym (address-cell old j above)
       ]
 
-  landed_read : (way : List ℕ) → IsBlockWay way → way ≢ up → (way ≢ i ∷ up → address new way ≡ address old way) → read new way ≡ read old way
+  landed_read : (way : List ℕ) → IsBlockWay way → way ≢ up → (way ≢ i ∷ up → address new way ≡ address old way)
+      → read new way ≡ read old way
   landed_read way there ne kept =
       elim (cases_way way (i ∷ up) there known) [
         | inl e ↦
@@ -187,7 +207,8 @@ module _ (old new : Tree) (i : ℕ) (up : List ℕ) (a : ℕ) (known : IsBlockWa
             ∙ via-log new (i ∷ up) a h.settled h.somewhere ∙ h.written ∙ ap (read old) (sym e)
         | inr apart ↦
             read-via new way ∙ ap (bytes_via new way) (kept apart)
-            ∙ via-same old new way (address old way) (h.waits way there apart ne) (λ some. h.blocks (address old way) (unread way there))
+            ∙ via-same old new way (address old way) (h.waits way there apart ne)
+            (λ some. h.blocks (address old way) (unread way there))
             ∙ sym (read-via old way)
       ]
 
@@ -220,7 +241,8 @@ pub data_leaf : (code : ℕ) → 131 ≤ code → (i : ℕ) → IsBlockWay (i �
 data_leaf code data_ i known = no_way_through code i data_ known.leads
 
 -- A block is given back.
-module _ (old new : Tree) (i : ℕ) (up : List ℕ) (known : IsBlockWay (i ∷ up)) (empty : (j : ℕ) → slice_index (cells zero_block) j ≡ 0) (h : Clears old new i up) where
+module _ (old new : Tree) (i : ℕ) (up : List ℕ) (known : IsBlockWay (i ∷ up)) (empty : (j : ℕ)
+    → slice_index (cells zero_block) j ≡ 0) (h : Clears old new i up) where
   -- it has no address
   pub cleared_address : address new (i ∷ up) ≡ 0
   cleared_address =
@@ -231,7 +253,8 @@ module _ (old new : Tree) (i : ℕ) (up : List ℕ) (known : IsBlockWay (i ∷ u
   cleared_bytes = read-via new (i ∷ up) ∙ ap (bytes_via new (i ∷ up)) cleared_address ∙ via-none new (i ∷ up) h.settled
 
   -- the cell of another block keeps its address, where it stands in the same block or in one whose cells were kept
-  cleared_cell : (j : ℕ) (above : List ℕ) → IsBlockWay (j ∷ above) → (above ≢ up → above ≢ i ∷ up → table new above ≡ table old above)
+  cleared_cell : (j : ℕ) (above : List ℕ) → IsBlockWay (j ∷ above)
+      → (above ≢ up → above ≢ i ∷ up → table new above ≡ table old above)
       → j ∷ above ≢ i ∷ up → address new (j ∷ above) ≡ address old (j ∷ above)
   cleared_cell j above there kept ne =
       let beyond = up_known j above there in
@@ -239,26 +262,33 @@ module _ (old new : Tree) (i : ℕ) (up : List ℕ) (known : IsBlockWay (i ∷ u
         | inl e ↦
             let other : j ≢ i = λ same. ne (ap (λ k. k ∷ above) same ∙ ap (λ w. i ∷ w) e) in
             address-cell new j above ∙ ap (λ w. slice_index (table new w) j) e ∙ ap (λ ys. slice_index ys j) h.parent
-            ∙ get_or-set_other (table old up) i j 0 0 other ∙ ap (λ w. slice_index (table old w) j) (sym e) ∙ sym (address-cell old j above)
+            ∙ get_or-set_other (table old up) i j 0 0 other ∙ ap (λ w. slice_index (table old w) j) (sym e)
+            ∙ sym (address-cell old j above)
         | inr apart ↦ elim (cases_way above (i ∷ up) beyond known) [
           | inl e ↦
               let under : IsBlockWay (j ∷ i ∷ up) = subst (λ w. IsBlockWay (j ∷ w)) e there in
-              ap (λ w. address new (j ∷ w)) e ∙ address-cell new j (i ∷ up) ∙ ap (λ ys. slice_index ys j) (table-read new i up)
-              ∙ ap (λ b. slice_index (cells b) j) cleared_bytes ∙ empty j ∙ sym (h.beneath j under) ∙ ap (λ w. address old (j ∷ w)) (sym e)
-          | inr far ↦ address-cell new j above ∙ ap (λ ys. slice_index ys j) (kept apart far) ∙ sym (address-cell old j above)
+              ap (λ w. address new (j ∷ w)) e ∙ address-cell new j (i ∷ up)
+              ∙ ap (λ ys. slice_index ys j) (table-read new i up)
+              ∙ ap (λ b. slice_index (cells b) j) cleared_bytes ∙ empty j ∙ sym (h.beneath j under)
+              ∙ ap (λ w. address old (j ∷ w)) (sym e)
+          | inr far ↦ address-cell new j above ∙ ap (λ ys. slice_index ys j) (kept apart far)
+              ∙ sym (address-cell old j above)
         ]
       ]
 
-  cleared_read : (way : List ℕ) → IsBlockWay way → way ≢ up → way ≢ i ∷ up → address new way ≡ address old way → read new way ≡ read old way
+  cleared_read : (way : List ℕ) → IsBlockWay way → way ≢ up → way ≢ i ∷ up → address new way ≡ address old way
+      → read new way ≡ read old way
   cleared_read way there ne far e =
       read-via new way ∙ ap (bytes_via new way) e
-      ∙ via-same old new way (address old way) (h.waits way there far ne) (λ some. h.blocks (address old way)) ∙ sym (read-via old way)
+      ∙ via-same old new way (address old way) (h.waits way there far ne) (λ some. h.blocks (address old way))
+      ∙ sym (read-via old way)
 
   cleared_table : (way : List ℕ) → IsBlockWay way → way ≢ up → way ≢ i ∷ up → table new way ≡ table old way
   cleared_table [] there ne far = table-root new ∙ h.root (λ e. ne (sym e)) ∙ sym (table-root old)
   cleared_table (j ∷ above) there ne far =
       table-read new j above
-      ∙ ap cells (cleared_read (j ∷ above) there ne far (cleared_cell j above there (cleared_table above (up_known j above there)) far))
+      ∙ ap cells (cleared_read (j ∷ above) there ne far
+      (cleared_cell j above there (cleared_table above (up_known j above there)) far))
       ∙ sym (table-read old j above)
 
   -- all other addresses stay

@@ -1,29 +1,36 @@
 -- Opening and cleaning a segment keep what holds of the log.
-use Rattle.std.proofs.Common.{◌≡◌, ◌≢◌, ℕ, zero, suc, ◌+◌, ◌-◌, ◌*◌, ◌<◌, ◌≤◌, ◌⊎◌, inl, inr, Some, refl, sym, ap, ◌∙◌, subst, arith}
+use Rattle.std.proofs.Common.{◌≡◌, ◌≢◌, ℕ, zero, suc, ◌+◌, ◌-◌, ◌*◌, ◌<◌, ◌≤◌, ◌⊎◌, inl, inr, Some, refl, sym, ap, ◌∙◌}
+use Rattle.std.proofs.Common.{subst, arith}
 use Rattle.std.proofs.lemmas.Bool.{cases_eq}
 use Rattle.lfs_ifile.specs.declared.segment.SegState.{SegState}
 use Rattle.lfs_ifile.specs.declared.segment.SegState.TheVariants.{Clean, Dirty, Active}
 use Rattle.lfs_bmap.specs.declared.blocks.TheConstants.{BLOCK_CODES}
 use Rattle.lfs_bmap.specs.Counting.{seg_of, units, total, weight_of}
 use Rattle.lfs_bmap.specs.Log.{LogState, IsPlaced, IsPlace, clean_unit, AreSegments, IsLog, Opens, Cleans, IsEmptyLog}
-use Rattle.lfs_bmap.proofs.CountingLemmas.{total-changed, total-part, total-zero, weight-none, weight-here, weight-elsewhere, live-none, live-part, live-empty}
-use Rattle.lfs_bmap.proofs.LogLemmas.{had_place, place_kept, owner_kept, counted_kept, active_not_clean, dirty_not_clean, dirty_not_active, seg_below, MayTake}
+use Rattle.lfs_bmap.proofs.CountingLemmas.{total-changed, total-part, total-zero, weight-none, weight-here}
+use Rattle.lfs_bmap.proofs.CountingLemmas.{weight-elsewhere, live-none, live-part, live-empty}
+use Rattle.lfs_bmap.proofs.LogLemmas.{had_place, place_kept, owner_kept, counted_kept, active_not_clean}
+use Rattle.lfs_bmap.proofs.LogLemmas.{dirty_not_clean, dirty_not_active, seg_below, MayTake}
 
 -- a place in a segment that is not clean is not in the one that is
-pub not_in_clean : (l : LogState) (spare segment : ℕ) → IsLog l spare → l.state segment ≡ Clean → (n c : ℕ) → IsPlaced l n c → seg_of (l.at n c) ≢ segment
+pub not_in_clean : (l : LogState) (spare segment : ℕ) → IsLog l spare → l.state segment ≡ Clean → (n c : ℕ)
+    → IsPlaced l n c → seg_of (l.at n c) ≢ segment
 not_in_clean l spare segment log clean n c h e = (log.keys n c h).not_clean (ap l.state e ∙ clean)
 
 -- a clean segment has no live bytes
-pub clean_is_empty : (l : LogState) (spare segment : ℕ) → IsLog l spare → segment < l.segments → l.state segment ≡ Clean → l.live segment ≡ 0
+pub clean_is_empty : (l : LogState) (spare segment : ℕ) → IsLog l spare → segment < l.segments → l.state segment ≡ Clean
+    → l.live segment ≡ 0
 clean_is_empty l spare segment log inside clean =
     log.counted segment inside
     ∙ live-none l.numbers BLOCK_CODES l.at segment (λ n c low below some.
     not_in_clean l spare segment log clean n c (record { number_below = low; code_below = below; somewhere = some }))
 
 -- a segment without live bytes has no key
-pub empty_has_none : (l : LogState) (spare segment : ℕ) → IsLog l spare → segment < l.segments → l.live segment ≡ 0 → (n c : ℕ) → IsPlaced l n c → seg_of (l.at n c) ≢ segment
+pub empty_has_none : (l : LogState) (spare segment : ℕ) → IsLog l spare → segment < l.segments → l.live segment ≡ 0
+    → (n c : ℕ) → IsPlaced l n c → seg_of (l.at n c) ≢ segment
 empty_has_none l spare segment log inside empty n c h =
-    live-empty l.numbers BLOCK_CODES l.at segment (sym (log.counted segment inside) ∙ empty) n c h.number_below h.code_below h.somewhere
+    live-empty l.numbers BLOCK_CODES l.at segment (sym (log.counted segment inside)
+    ∙ empty) n c h.number_below h.code_below h.somewhere
 
 -- Opening a segment keeps the log; nothing is spare then.
 module _ (old new : LogState) (spare segment : ℕ) (log : IsLog old spare) (h : Opens old new segment) where
@@ -31,7 +38,8 @@ module _ (old new : LogState) (spare segment : ℕ) (log : IsLog old spare) (h :
   opened_other e = active_not_clean (sym log.segments.is_active ∙ ap old.state (sym e) ∙ h.was_clean)
 
   -- a segment is the opened one, the one that was active, or as it was
-  opened_state : (s : ℕ) → s < old.segments → (P : SegState → Type 0) → (s ≡ segment → P Active) → (s ≡ old.active → P Dirty) → (s ≢ segment → s ≢ old.active → P (old.state s)) → P (new.state s)
+  opened_state : (s : ℕ) → s < old.segments → (P : SegState → Type 0) → (s ≡ segment → P Active)
+      → (s ≡ old.active → P Dirty) → (s ≢ segment → s ≢ old.active → P (old.state s)) → P (new.state s)
   opened_state s low P here there elsewhere =
       elim (cases_eq s segment) [
         | inl e ↦ subst P (sym (ap new.state e ∙ h.is_active)) (here e)
@@ -48,7 +56,8 @@ module _ (old new : LogState) (spare segment : ℕ) (log : IsLog old spare) (h :
 
   opened_count : new.clean ≡ total (λ s. clean_unit (new.state s)) new.segments
   opened_count =
-      let changed = total-changed (λ s. clean_unit (new.state s)) (λ s. clean_unit (old.state s)) old.segments segment h.inside opened_unit in
+      let changed = total-changed (λ s. clean_unit (new.state s))
+      (λ s. clean_unit (old.state s)) old.segments segment h.inside opened_unit in
       let one : clean_unit (old.state segment) ≡ 1 = ap clean_unit h.was_clean in
       let none : clean_unit (new.state segment) ≡ 0 = ap clean_unit h.is_active in
       let before : old.clean ≡ total (λ s. clean_unit (old.state s)) old.segments = log.segments.clean_count in
@@ -61,7 +70,8 @@ module _ (old new : LogState) (spare segment : ℕ) (log : IsLog old spare) (h :
     inside = let inside = h.inside in let segments = h.keys.segments in let active = h.active in omega arith;
     is_active = ap new.state h.active ∙ h.is_active;
     no_other = λ s low.
-        opened_state s (subst (λ n. s < n) h.keys.segments low) (λ state. state ≡ Active → s ≡ new.active) (λ e _. e ∙ sym h.active)
+        opened_state s (subst (λ n. s < n) h.keys.segments low) (λ state. state ≡ Active → s ≡ new.active) (λ e _. e
+        ∙ sym h.active)
         (λ _ is. absurd (dirty_not_active is))
         (λ _ far is. absurd (far (log.segments.no_other s (subst (λ n. s < n) h.keys.segments low) is)));
     from = subst (λ a. 64 * a ≤ new.next) (sym h.active) h.from;
@@ -78,7 +88,8 @@ module _ (old new : LogState) (spare segment : ℕ) (log : IsLog old spare) (h :
       subst (IsPlace new n c) (sym (place_kept old new h.keys n c there)) (record {
         in_volume = subst (λ m. old.at n c < 256 * m) (sym h.keys.segments) place.in_volume;
         owned = h.owners (old.at n c) away ∙ place.owned ∙ ap Some (owner_kept old new h.keys n c was.number_below);
-        not_clean = opened_state (seg_of (old.at n c)) low (λ state. state ≢ Clean) (λ e. absurd (away e)) (λ _. dirty_not_clean) (λ _ _. place.not_clean);
+        not_clean = opened_state (seg_of (old.at n c)) low (λ state. state ≢ Clean) (λ e. absurd (away e))
+            (λ _. dirty_not_clean) (λ _ _. place.not_clean);
         written = λ is. absurd (away (is ∙ h.active));
       })
 
@@ -88,21 +99,24 @@ module _ (old new : LogState) (spare segment : ℕ) (log : IsLog old spare) (h :
     keys = opened_place;
     counted = λ s low. counted_kept old new h.keys spare s log h.live low;
     spared =
-        let empty : new.live new.active ≡ 0 = ap new.live h.active ∙ h.live segment h.inside ∙ clean_is_empty old spare segment log h.inside h.was_clean in
+        let empty : new.live new.active ≡ 0 = ap new.live h.active ∙ h.live segment h.inside
+        ∙ clean_is_empty old spare segment log h.inside h.was_clean in
         omega arith;
   }
 
   -- what was dirty stays dirty
   pub opened_dirty : (s : ℕ) → s < old.segments → old.state s ≡ Dirty → new.state s ≡ Dirty
   opened_dirty s low dirty =
-      opened_state s low (λ state. state ≡ Dirty) (λ e. absurd (dirty_not_clean (sym dirty ∙ ap old.state e ∙ h.was_clean))) (λ _. refl) (λ _ _. dirty)
+      opened_state s low (λ state. state ≡ Dirty)
+      (λ e. absurd (dirty_not_clean (sym dirty ∙ ap old.state e ∙ h.was_clean))) (λ _. refl) (λ _ _. dirty)
 
 -- Cleaning a segment keeps the log.
 module _ (old new : LogState) (spare segment : ℕ) (log : IsLog old spare) (h : Cleans old new segment) where
   cleaned_other : segment ≢ old.active
   cleaned_other e = dirty_not_active (sym h.was_dirty ∙ ap old.state e ∙ log.segments.is_active)
 
-  cleaned_state : (s : ℕ) → s < old.segments → (P : SegState → Type 0) → (s ≡ segment → P Clean) → (s ≢ segment → P (old.state s)) → P (new.state s)
+  cleaned_state : (s : ℕ) → s < old.segments → (P : SegState → Type 0) → (s ≡ segment → P Clean)
+      → (s ≢ segment → P (old.state s)) → P (new.state s)
   cleaned_state s low P here elsewhere =
       elim (cases_eq s segment) [
         | inl e ↦ subst P (sym (ap new.state e ∙ h.is_clean)) (here e)
@@ -111,7 +125,9 @@ module _ (old new : LogState) (spare segment : ℕ) (log : IsLog old spare) (h :
 
   cleaned_count : new.clean ≡ total (λ s. clean_unit (new.state s)) new.segments
   cleaned_count =
-      let changed = total-changed (λ s. clean_unit (new.state s)) (λ s. clean_unit (old.state s)) old.segments segment h.inside (λ s low ne. ap clean_unit (h.states s low ne)) in
+      let changed = total-changed (λ s. clean_unit (new.state s))
+      (λ s. clean_unit (old.state s)) old.segments segment h.inside (λ s low ne. ap clean_unit (h.states s low ne))
+      in
       let none : clean_unit (old.state segment) ≡ 0 = ap clean_unit h.was_dirty in
       let one : clean_unit (new.state segment) ≡ 1 = ap clean_unit h.is_clean in
       let before : old.clean ≡ total (λ s. clean_unit (old.state s)) old.segments = log.segments.clean_count in
@@ -121,8 +137,10 @@ module _ (old new : LogState) (spare segment : ℕ) (log : IsLog old spare) (h :
 
   cleaned_segments : AreSegments new
   cleaned_segments = record {
-    inside = let inside = log.segments.inside in let segments = h.keys.segments in let active = h.end.active in omega arith;
-    is_active = ap new.state h.end.active ∙ h.states old.active log.segments.inside (λ e. cleaned_other (sym e)) ∙ log.segments.is_active;
+    inside = let inside = log.segments.inside in let segments = h.keys.segments in let active = h.end.active in
+        omega arith;
+    is_active = ap new.state h.end.active ∙ h.states old.active log.segments.inside (λ e. cleaned_other (sym e))
+        ∙ log.segments.is_active;
     no_other = λ s low.
         let inside : s < old.segments = subst (λ n. s < n) h.keys.segments low in
         cleaned_state s inside (λ state. state ≡ Active → s ≡ new.active) (λ _ is. absurd (active_not_clean (sym is)))
@@ -141,7 +159,8 @@ module _ (old new : LogState) (spare segment : ℕ) (log : IsLog old spare) (h :
       subst (IsPlace new n c) (sym (place_kept old new h.keys n c there)) (record {
         in_volume = subst (λ m. old.at n c < 256 * m) (sym h.keys.segments) place.in_volume;
         owned = h.owners (old.at n c) ∙ place.owned ∙ ap Some (owner_kept old new h.keys n c was.number_below);
-        not_clean = cleaned_state (seg_of (old.at n c)) low (λ state. state ≢ Clean) (λ e. absurd (away e)) (λ _. place.not_clean);
+        not_clean = cleaned_state (seg_of (old.at n c)) low (λ state. state ≢ Clean) (λ e. absurd (away e))
+            (λ _. place.not_clean);
         written = λ is. subst (λ a. old.at n c < 4 * a) (sym h.end.next) (place.written (is ∙ h.end.active));
       })
 
@@ -152,7 +171,8 @@ module _ (old new : LogState) (spare segment : ℕ) (log : IsLog old spare) (h :
     counted = λ s low. counted_kept old new h.keys spare s log h.live low;
     spared =
         let spared = log.spared in
-        let live : new.live new.active ≡ old.live old.active = ap new.live h.end.active ∙ h.live old.active log.segments.inside in
+        let live : new.live new.active ≡ old.live old.active = ap new.live h.end.active
+        ∙ h.live old.active log.segments.inside in
         let next = h.end.next in
         let active = h.end.active in
         omega arith;
@@ -193,7 +213,8 @@ module _ (l : LogState) (h : IsEmptyLog l) where
       clean_count = empty_count;
     };
     keys = λ n c there. absurd (no_place n c there);
-    counted = λ s low. h.live s low ∙ sym (live-none l.numbers BLOCK_CODES l.at s (λ n c less below some. absurd (some (h.nowhere n c less below))));
+    counted = λ s low. h.live s low ∙ sym (live-none l.numbers BLOCK_CODES l.at s
+        (λ n c less below some. absurd (some (h.nowhere n c less below))));
     spared = let live : l.live l.active ≡ 0 = ap l.live h.active ∙ h.live 0 h.some in omega arith;
   }
 
@@ -203,7 +224,8 @@ unit_of Clean h = absurd (h refl)
 unit_of Dirty h = refl
 unit_of Active h = refl
 
-pub no_clean_total : (state : ℕ → SegState) (n : ℕ) → ((s : ℕ) → s < n → state s ≢ Clean) → total (λ s. clean_unit (state s)) n ≡ 0
+pub no_clean_total : (state : ℕ → SegState) (n : ℕ) → ((s : ℕ) → s < n → state s ≢ Clean)
+    → total (λ s. clean_unit (state s)) n ≡ 0
 no_clean_total state n h = total-zero (λ s. clean_unit (state s)) n (λ s low. unit_of (state s) (h s low))
 
 pub none_clean : (l : LogState) → AreSegments l → ((s : ℕ) → s < l.segments → l.state s ≢ Clean) → l.clean ≡ 0
@@ -211,23 +233,27 @@ none_clean l h none = h.clean_count ∙ no_clean_total l.state l.segments none
 
 pub some_clean : (l : LogState) → AreSegments l → (s : ℕ) → s < l.segments → l.state s ≡ Clean → 0 < l.clean
 some_clean l h s low clean =
-    let part : clean_unit (l.state s) ≤ total (λ r. clean_unit (l.state r)) l.segments = total-part (λ r. clean_unit (l.state r)) l.segments s low in
+    let part : clean_unit (l.state s) ≤ total (λ r. clean_unit (l.state r)) l.segments =
+    total-part (λ r. clean_unit (l.state r)) l.segments s low in
     let one : clean_unit (l.state s) ≡ 1 = ap clean_unit clean in
     let count = h.clean_count in
     omega arith
 
 -- The live bytes of a segment have room for what a key takes, and have what a key gives back.
-pub taken_fits : (l : LogState) (spare number code place : ℕ) → IsLog l spare → MayTake l spare number code place → l.live l.active + 128 * units code ≤ 32768
+pub taken_fits : (l : LogState) (spare number code place : ℕ) → IsLog l spare → MayTake l spare number code place
+    → l.live l.active + 128 * units code ≤ 32768
 taken_fits l spare number code place log may =
     let spared = log.spared in
     let enough = may.enough in
     let to = log.segments.to in
     omega arith
 
-pub left_fits : (l : LogState) (spare number code : ℕ) → IsLog l spare → IsPlaced l number code → 128 * units code ≤ l.live (seg_of (l.at number code))
+pub left_fits : (l : LogState) (spare number code : ℕ) → IsLog l spare → IsPlaced l number code
+    → 128 * units code ≤ l.live (seg_of (l.at number code))
 left_fits l spare number code log there =
     let inside = seg_below (l.at number code) l.segments (log.keys number code there).in_volume in
-    let part = live-part l.numbers BLOCK_CODES l.at (seg_of (l.at number code)) number code there.number_below there.code_below in
+    let part = live-part l.numbers BLOCK_CODES l.at
+    (seg_of (l.at number code)) number code there.number_below there.code_below in
     let weight = weight-here (l.at number code) (seg_of (l.at number code)) code there.somewhere refl in
     let counted = log.counted (seg_of (l.at number code)) inside in
     omega arith
@@ -236,14 +262,16 @@ left_fits l spare number code log there =
 -- place moves them.
 pub live_moved : (old between new : ℕ → ℕ) (was place code : ℕ) → place ≢ 0
     → between (seg_of place) ≡ old (seg_of place) + 128 * units code → ((s : ℕ) → s ≢ seg_of place → between s ≡ old s)
-    → (was ≢ 0 → 128 * units code ≤ between (seg_of was)) → (was ≢ 0 → new (seg_of was) ≡ between (seg_of was) - 128 * units code)
+    → (was ≢ 0 → 128 * units code ≤ between (seg_of was))
+    → (was ≢ 0 → new (seg_of was) ≡ between (seg_of was) - 128 * units code)
     → ((s : ℕ) → (was ≡ 0) ⊎ (s ≢ seg_of was) → new s ≡ between s)
     → (s : ℕ) → new s + weight_of was s code ≡ old s + weight_of place s code
 live_moved old between new was place code some added kept enough taken stayed s =
     let gained : between s ≡ old s + weight_of place s code =
     elim (cases_eq s (seg_of place)) [
       | inl e ↦
-          ap between e ∙ added ∙ ap (λ t. old t + 128 * units code) (sym e) ∙ ap (λ w. old s + w) (sym (weight-here place s code some (sym e)))
+          ap between e ∙ added ∙ ap (λ t. old t + 128 * units code) (sym e)
+          ∙ ap (λ w. old s + w) (sym (weight-here place s code some (sym e)))
       | inr ne ↦
           let none : weight_of place s code ≡ 0 = weight-elsewhere place s code (λ e. ne (sym e)) in
           let stays : between s ≡ old s = kept s ne in
@@ -257,8 +285,10 @@ live_moved old between new was place code some added kept enough taken stayed s 
       | inr somewhere ↦ elim (cases_eq s (seg_of was)) [
         | inl e ↦
             let full : weight_of was s code ≡ 128 * units code = weight-here was s code somewhere (sym e) in
-            let many : 128 * units code ≤ between s = subst (λ t. 128 * units code ≤ between t) (sym e) (enough somewhere) in
-            let less : new s ≡ between s - 128 * units code = ap new e ∙ taken somewhere ∙ ap (λ t. between t - 128 * units code) (sym e) in
+            let many : 128 * units code ≤ between s =
+            subst (λ t. 128 * units code ≤ between t) (sym e) (enough somewhere) in
+            let less : new s ≡ between s - 128 * units code = ap new e ∙ taken somewhere
+            ∙ ap (λ t. between t - 128 * units code) (sym e) in
             omega arith
         | inr ne ↦
             let none : weight_of was s code ≡ 0 = weight-elsewhere was s code (λ e. ne (sym e)) in

@@ -1,5 +1,7 @@
--- The blocks that hold addresses, by their codes: the later a data block, the greater the code of what holds its address.
-use Rattle.std.proofs.Common.{Contains, List, [], ap, arith, inl, inr, length, refl, subst, suc, sym, zero, ℕ, ◌+◌, ◌-◌, ◌*◌, ◌/◌, ◌%◌, ◌<◌, ◌∙◌, ◌∷◌, ◌≡◌, ◌≢◌, ◌≤◌, ◌⊎◌, ◌↔◌}
+-- The blocks that hold addresses, by their codes: the later a data block, the greater the code of what holds its
+-- address.
+use Rattle.std.proofs.Common.{Contains, List, [], ap, arith, inl, inr, length, refl, subst, suc, sym, zero, ℕ, ◌+◌, ◌-◌}
+use Rattle.std.proofs.Common.{◌*◌, ◌/◌, ◌%◌, ◌<◌, ◌∙◌, ◌∷◌, ◌≡◌, ◌≢◌, ◌≤◌, ◌⊎◌, ◌↔◌}
 use Rattle.std.proofs.lemmas.Bool.{cases_lt, cond-false, cond-true, le-leb, lt-leb}
 use Rattle.lfs_types.specs.declared.limits.TheConstants.{FILE_BLOCKS}
 use Rattle.lfs_bmap.specs.declared.blocks.FileBlock.{FileBlock}
@@ -9,8 +11,10 @@ use Rattle.lfs_bmap.specs.Blocks.{IsFileBlock, code_of, first_under, table_of, w
 use Rattle.lfs_bmap.specs.Tables.{rank_of, tables_between}
 use Rattle.lfs_bmap.specs.Ways.{IsBlockWay, IsWay, code_at, codes_on, data_way}
 use Rattle.lfs_bmap.proofs.BlockLemmas.{code_of-below}
-use Rattle.lfs_bmap.proofs.WayLemmas.{code_at-data, data_way-double, data_way-single, no_way_through, way_of-code_of, way_of-data, way_of-known}
-use Rattle.lfs_bmap.proofs.HolderLemmas.{code_cases, codes_on-block, codes_on-record, data_table, table_of-child, table_of-single}
+use Rattle.lfs_bmap.proofs.WayLemmas.{code_at-data, data_way-double, data_way-single, no_way_through, way_of-code_of}
+use Rattle.lfs_bmap.proofs.WayLemmas.{way_of-data, way_of-known}
+use Rattle.lfs_bmap.proofs.HolderLemmas.{code_cases, codes_on-block, codes_on-record, data_table, table_of-child}
+use Rattle.lfs_bmap.proofs.HolderLemmas.{table_of-single}
 
 -- a block has a greater code than what holds its address
 pub table_of-less : (block : FileBlock) → code_of block ≢ 0 → code_of (table_of block) < code_of block
@@ -22,15 +26,19 @@ table_of-less (Data index) other =
     data_table (λ t. code_of t < 131 + index) index (λ low. omega arith) (λ past low. omega arith) (λ far. omega arith)
 
 -- what holds the address of a later data block has no lesser code
-pub table_of-later : (index other : ℕ) → index ≤ other → code_of (table_of (Data index)) ≤ code_of (table_of (Data other))
+pub table_of-later : (index other : ℕ) → index ≤ other
+    → code_of (table_of (Data index)) ≤ code_of (table_of (Data other))
 table_of-later index other less =
     data_table (λ t. code_of t ≤ code_of (table_of (Data other))) index
     (λ low. omega arith)
-    (λ past low. data_table (λ t. 1 ≤ code_of t) other (λ direct. absurd (omega arith)) (λ from to. omega arith) (λ far. omega arith))
-    (λ far. data_table (λ t. 3 + (index - 140) / 128 ≤ code_of t) other (λ direct. absurd (omega arith)) (λ from to. absurd (omega arith)) (λ more. omega arith))
+    (λ past low. data_table (λ t. 1 ≤ code_of t) other (λ direct. absurd (omega arith)) (λ from to. omega arith)
+    (λ far. omega arith))
+    (λ far. data_table (λ t. 3 + (index - 140) / 128 ≤ code_of t) other (λ direct. absurd (omega arith))
+    (λ from to. absurd (omega arith)) (λ more. omega arith))
 
 -- a block with a lesser code leads to data blocks from no later one on
-pub first_under-least : (t : FileBlock) (index : ℕ) → code_of t < code_of (table_of (Data index)) → first_under t ≤ index
+pub first_under-least : (t : FileBlock) (index : ℕ) → code_of t < code_of (table_of (Data index))
+    → first_under t ≤ index
 first_under-least Record index less = omega arith
 first_under-least Single index less = data_table (λ x. 1 < code_of x → 12 ≤ index) index
     (λ low more. absurd (omega arith)) (λ past low more. past) (λ far more. omega arith) less
@@ -42,7 +50,8 @@ first_under-least (Data k) index less = data_table (λ x. 131 + k < code_of x �
     (λ low more. absurd (omega arith)) (λ past low more. absurd (omega arith)) (λ far more. omega arith) less
 
 -- and one with a greater code, which holds addresses, to later ones alone
-pub first_under-past : (t : FileBlock) (index : ℕ) → code_of t < FIRST_DATA_CODE → code_of (table_of (Data index)) < code_of t → index < first_under t
+pub first_under-past : (t : FileBlock) (index : ℕ) → code_of t < FIRST_DATA_CODE
+    → code_of (table_of (Data index)) < code_of t → index < first_under t
 first_under-past Record index few less = absurd (omega arith)
 first_under-past Single index few less = data_table (λ x. code_of x < 1 → index < 12) index
     (λ low more. low) (λ past low more. absurd (omega arith)) (λ far more. absurd (omega arith)) less
@@ -67,7 +76,8 @@ under_child k j is known =
     let low : (140 + 128 * k + j - 140) % 128 ≡ j = omega arith in
     let high : (140 + 128 * k + j - 140) / 128 ≡ k = omega arith in
     let way : data_way (140 + 128 * k + j) ≡ j ∷ k ∷ 13 ∷ []
-    = data_way-double (140 + 128 * k + j) (omega arith) ∙ ap (λ i. i ∷ ((140 + 128 * k + j - 140) / 128) ∷ 13 ∷ []) low ∙ ap (λ i. j ∷ i ∷ 13 ∷ []) high in
+    = data_way-double (140 + 128 * k + j) (omega arith) ∙ ap (λ i. i ∷ ((140 + 128 * k + j - 140) / 128) ∷ 13 ∷ []) low
+    ∙ ap (λ i. j ∷ i ∷ 13 ∷ []) high in
     let coded = subst (λ w. code_at w < BLOCK_CODES) (sym way) known.coded in
     let code = code_at-data (140 + 128 * k + j) in
     record {
@@ -90,9 +100,16 @@ under_table Single is other j known =
       table = table_of-single (12 + j) (omega arith) (omega arith);
       other = λ e. omega arith;
     }
-under_table Double is other j known = record { block = Child j; is = known.leads.0; way = refl; table = refl; other = λ e. omega arith }
+under_table Double is other j known = record {
+  block = Child j;
+  is = known.leads.0;
+  way = refl;
+  table = refl;
+  other = λ e. omega arith;
+}
 under_table (Child k) is other j known = under_child k j is known
-under_table (Data k) is other j known = absurd (no_way_through (131 + k) j (omega arith) (subst (λ w. IsWay (j ∷ w)) (sym (way_of-data k)) known.leads))
+under_table (Data k) is other j known = absurd
+    (no_way_through (131 + k) j (omega arith) (subst (λ w. IsWay (j ∷ w)) (sym (way_of-data k)) known.leads))
 
 -- ---- the codes on a way
 pub codes_on-long : (way : List ℕ) → length (codes_on way) ≡ length way
@@ -101,20 +118,27 @@ codes_on-long [] = refl
 codes_on-long (i ∷ up) = ap suc (codes_on-long up)
 
 -- none on the way to a block that holds addresses is greater than its own
-within_more : (t : FileBlock) → IsFileBlock t → code_of t ≢ 0 → ((c : ℕ) → Contains (codes_on (way_to (table_of t))) c → c ≤ code_of t)
+within_more : (t : FileBlock) → IsFileBlock t → code_of t ≢ 0
+    → ((c : ℕ) → Contains (codes_on (way_to (table_of t))) c → c ≤ code_of t)
     → (c : ℕ) → Contains (codes_on (way_to t)) c → c ≤ code_of t
-within_more t is other above c has = elim (code_cases c (code_of t) (codes_on (way_to (table_of t))) (subst (λ cs. Contains cs c) (codes_on-block t is other) has)) [
-  | inl same ↦ omega arith
-  | inr more ↦ above c more
-]
+within_more t is other above c has = elim
+    (code_cases c (code_of t) (codes_on (way_to (table_of t)))
+    (subst (λ cs. Contains cs c) (codes_on-block t is other) has)) [
+      | inl same ↦ omega arith
+      | inr more ↦ above c more
+    ]
 
-pub codes_on-within : (t : FileBlock) → code_of t < FIRST_DATA_CODE → IsFileBlock t → (c : ℕ) → Contains (codes_on (way_to t)) c → c ≤ code_of t
+pub codes_on-within : (t : FileBlock) → code_of t < FIRST_DATA_CODE → IsFileBlock t → (c : ℕ)
+    → Contains (codes_on (way_to t)) c → c ≤ code_of t
 codes_on-within Record few is c has = absurd (codes_on-record c has)
-codes_on-within Single few is c has = within_more Single is (λ e. omega arith) (λ d more. absurd (codes_on-record d more)) c has
-codes_on-within Double few is c has = within_more Double is (λ e. omega arith) (λ d more. absurd (codes_on-record d more)) c has
+codes_on-within Single few is c has = within_more Single is (λ e. omega arith)
+    (λ d more. absurd (codes_on-record d more)) c has
+codes_on-within Double few is c has = within_more Double is (λ e. omega arith)
+    (λ d more. absurd (codes_on-record d more)) c has
 codes_on-within (Child k) few is c has =
     within_more (Child k) is (λ e. omega arith)
-    (λ d more. let low = within_more Double tt (λ e. omega arith) (λ f none. absurd (codes_on-record f none)) d more in omega arith) c has
+    (λ d more. let low = within_more Double tt (λ e. omega arith) (λ f none. absurd (codes_on-record f none)) d more in
+    omega arith) c has
 codes_on-within (Data k) few is c has = absurd (omega arith)
 
 -- ---- by the code of what holds a data block's address
@@ -143,19 +167,24 @@ child_code k c has = elim (code_cases c (3 + k) (2 ∷ []) (subst (λ cs. Contai
   | inr more ↦ inr (sym (one_code c 2 more))
 ]
 
--- What leads to the holder of a data block's address is this one itself, or on the way of each block behind it that holds
+-- What leads to the holder of a data block's address is this one itself, or on the way of each block behind it that
+-- holds
 -- addresses.
-behind_child : (t : FileBlock) → 3 ≤ code_of t → code_of t < FIRST_DATA_CODE → (c : ℕ) → c ≡ 2 → Contains (codes_on (way_to t)) c
+behind_child : (t : FileBlock) → 3 ≤ code_of t → code_of t < FIRST_DATA_CODE → (c : ℕ) → c ≡ 2
+    → Contains (codes_on (way_to t)) c
 behind_child Record from few c two = absurd (omega arith)
 behind_child Single from few c two = absurd (omega arith)
 behind_child Double from few c two = absurd (omega arith)
 behind_child (Child k) from few c two = subst (λ cs. Contains cs c) (sym (codes_on-child k)) (1, omega arith, sym two)
 behind_child (Data k) from few c two = absurd (omega arith)
 
-pub codes_on-behind : (index : ℕ) (t : FileBlock) → code_of t < FIRST_DATA_CODE → code_of (table_of (Data index)) ≤ code_of t
-    → (c : ℕ) → Contains (codes_on (way_to (table_of (Data index)))) c → (code_of (table_of (Data index)) ≡ c) ⊎ Contains (codes_on (way_to t)) c
+pub codes_on-behind : (index : ℕ) (t : FileBlock) → code_of t < FIRST_DATA_CODE
+    → code_of (table_of (Data index)) ≤ code_of t
+    → (c : ℕ) → Contains (codes_on (way_to (table_of (Data index)))) c → (code_of (table_of (Data index)) ≡ c)
+    ⊎ Contains (codes_on (way_to t)) c
 codes_on-behind index t few behind c has =
-    data_table (λ b. code_of b ≤ code_of t → Contains (codes_on (way_to b)) c → (code_of b ≡ c) ⊎ Contains (codes_on (way_to t)) c) index
+    data_table (λ b. code_of b ≤ code_of t → Contains (codes_on (way_to b)) c → (code_of b ≡ c)
+    ⊎ Contains (codes_on (way_to t)) c) index
     (λ low least there. absurd (codes_on-record c there))
     (λ past low least there. inl (sym (single_code c there)))
     (λ far least there. elim (child_code ((index - 140) / 128) c there) [
@@ -165,7 +194,8 @@ codes_on-behind index t few behind c has =
     behind has
 
 -- what leads to a block that holds addresses is the double indirect block, where the block is behind this one
-pub codes_on-above : (t : FileBlock) → code_of t < FIRST_DATA_CODE → (c : ℕ) → Contains (codes_on (way_to (table_of t))) c → (c ≡ 2) × (2 < code_of t)
+pub codes_on-above : (t : FileBlock) → code_of t < FIRST_DATA_CODE → (c : ℕ)
+    → Contains (codes_on (way_to (table_of t))) c → (c ≡ 2) × (2 < code_of t)
 codes_on-above Record few c has = absurd (codes_on-record c has)
 codes_on-above Single few c has = absurd (codes_on-record c has)
 codes_on-above Double few c has = absurd (codes_on-record c has)
@@ -195,7 +225,8 @@ rank_of-data k = cond-true _ _ _ (le-leb 131 (131 + k) (omega arith))
 
 rank_of-child : (k : ℕ) → k < 128 → rank_of (3 + k) ≡ 1
 unfolding rank_of
-rank_of-child k low = cond-false _ _ _ (lt-leb 131 (3 + k) (omega arith)) ∙ cond-true _ _ _ (le-leb 3 (3 + k) (omega arith))
+rank_of-child k low = cond-false _ _ _ (lt-leb 131 (3 + k) (omega arith))
+    ∙ cond-true _ _ _ (le-leb 3 (3 + k) (omega arith))
 
 rank_of-double : rank_of 2 ≡ 2
 unfolding rank_of
@@ -210,13 +241,16 @@ unfolding rank_of
 rank_of-few code = elim (cases_lt code 131) [
   | inr high ↦ subst (λ n. n < 3) (sym (cond-true _ _ _ (le-leb 131 code high))) (omega arith)
   | inl low ↦ elim (cases_lt code 3) [
-    | inr child ↦ subst (λ n. n < 3) (sym (cond-false _ _ _ (lt-leb 131 code low) ∙ cond-true _ _ _ (le-leb 3 code child))) (omega arith)
-    | inl few ↦ subst (λ n. n < 3) (sym (cond-false _ _ _ (lt-leb 131 code low) ∙ cond-false _ _ _ (lt-leb 3 code few))) (omega arith)
+    | inr child ↦ subst (λ n. n < 3) (sym (cond-false _ _ _ (lt-leb 131 code low)
+        ∙ cond-true _ _ _ (le-leb 3 code child))) (omega arith)
+    | inl few ↦ subst (λ n. n < 3) (sym (cond-false _ _ _ (lt-leb 131 code low) ∙ cond-false _ _ _ (lt-leb 3 code few)))
+        (omega arith)
   ]
 ]
 
 -- an indirect block is written after each block whose address it holds
-pub rank_of-table : (block : FileBlock) → IsFileBlock block → code_of (table_of block) ≢ 0 → rank_of (code_of block) < rank_of (code_of (table_of block))
+pub rank_of-table : (block : FileBlock) → IsFileBlock block → code_of (table_of block) ≢ 0
+    → rank_of (code_of block) < rank_of (code_of (table_of block))
 rank_of-table Record is other = absurd (other refl)
 rank_of-table Single is other = absurd (other refl)
 rank_of-table Double is other = absurd (other refl)
@@ -238,11 +272,14 @@ way_length (i ∷ j ∷ k ∷ l ∷ up) known = absurd known.leads
 
 pub block_way_length : (block : FileBlock) → IsFileBlock block → length (way_to block) ≤ 3
 block_way_length block is =
-    way_length (way_to block) (subst IsBlockWay (way_of-code_of block is) (way_of-known (code_of block) (code_of-below block is)))
+    way_length (way_to block) (subst IsBlockWay (way_of-code_of block is)
+    (way_of-known (code_of block) (code_of-below block is)))
 
 -- ---- from one data block to another
--- what leads to a later data block leads to the first one too, where its code is no greater than that of the first one's holder
-pub codes_on-first : (index other : ℕ) → index ≤ other → (c : ℕ) → Contains (codes_on (way_to (table_of (Data other)))) c → c ≤ code_of (table_of (Data index))
+-- what leads to a later data block leads to the first one too, where its code is no greater than that of the first
+-- one's holder
+pub codes_on-first : (index other : ℕ) → index ≤ other → (c : ℕ)
+    → Contains (codes_on (way_to (table_of (Data other)))) c → c ≤ code_of (table_of (Data index))
     → Contains (codes_on (way_to (table_of (Data index)))) c
 codes_on-first index other less c has few =
     data_table (λ x. Contains (codes_on (way_to x)) c → Contains (codes_on (way_to (table_of (Data index)))) c) other
@@ -269,16 +306,22 @@ codes_on-first index other less c has few =
 pub tables_between-few : (first last : ℕ) → first ≤ last → last ≤ first + 128 → tables_between first last ≤ 3
 tables_between-few first last less near =
     data_table (λ t. code_of (table_of (Data last)) - code_of t + length (way_to t) ≤ 3) first
-    (λ low. data_table (λ x. code_of x - 0 + 0 ≤ 3) last (λ direct. omega arith) (λ from to. omega arith) (λ far. omega arith))
-    (λ past low. data_table (λ x. code_of x - 1 + 1 ≤ 3) last (λ direct. omega arith) (λ from to. omega arith) (λ far. omega arith))
-    (λ far. data_table (λ x. code_of x - (3 + (first - 140) / 128) + 2 ≤ 3) last (λ direct. omega arith) (λ from to. omega arith) (λ more. omega arith))
+    (λ low. data_table (λ x. code_of x - 0 + 0 ≤ 3) last (λ direct. omega arith) (λ from to. omega arith)
+    (λ far. omega arith))
+    (λ past low. data_table (λ x. code_of x - 1 + 1 ≤ 3) last (λ direct. omega arith) (λ from to. omega arith)
+    (λ far. omega arith))
+    (λ far. data_table (λ x. code_of x - (3 + (first - 140) / 128) + 2 ≤ 3) last (λ direct. omega arith)
+    (λ from to. omega arith) (λ more. omega arith))
 
 -- ---- the data blocks whose addresses stand in a block
 pub run_record : (k : ℕ) → (table_of (Data k) ≡ Record) ↔ ((0 ≤ k) × (k < 12))
 run_record k =
     data_table (λ t. (t ≡ Record) ↔ ((0 ≤ k) × (k < 12))) k
     (λ low. ((λ e. (omega arith, low)), (λ h. refl)))
-    (λ past low. ((λ e. let codes = ap code_of e in absurd (omega arith)), (λ h. let end = h.1 in absurd (omega arith))))
+    (λ past low. (
+      (λ e. let codes = ap code_of e in absurd (omega arith)),
+      (λ h. let end = h.1 in absurd (omega arith)),
+    ))
     (λ far. ((λ e. let codes = ap code_of e in absurd (omega arith)), (λ h. let end = h.1 in absurd (omega arith))))
 
 pub run_single : (k : ℕ) → (table_of (Data k) ≡ Single) ↔ ((12 ≤ k) × (k < 140))
@@ -292,7 +335,10 @@ pub run_child : (j k : ℕ) → (table_of (Data k) ≡ Child j) ↔ ((140 + 128 
 run_child j k =
     data_table (λ t. (t ≡ Child j) ↔ ((140 + 128 * j ≤ k) × (k < 140 + 128 * j + 128))) k
     (λ low. ((λ e. let codes = ap code_of e in absurd (omega arith)), (λ h. let from = h.0 in absurd (omega arith))))
-    (λ past low. ((λ e. let codes = ap code_of e in absurd (omega arith)), (λ h. let from = h.0 in absurd (omega arith))))
+    (λ past low. (
+      (λ e. let codes = ap code_of e in absurd (omega arith)),
+      (λ h. let from = h.0 in absurd (omega arith)),
+    ))
     (λ far. (
       (λ e. let codes = ap code_of e in (omega arith, omega arith)),
       (λ h. let from = h.0 in let end = h.1 in let same : (k - 140) / 128 ≡ j = omega arith in ap Child same),

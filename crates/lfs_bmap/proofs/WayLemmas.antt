@@ -1,5 +1,6 @@
 -- Codes and ways are each other's inverse, and a way leads through ways.
-use Rattle.std.proofs.Common.{◌≡◌, ◌≢◌, ℕ, zero, suc, subst, lit<, ◌+◌, ◌-◌, ◌*◌, ◌/◌, ◌%◌, ◌<◌, ◌≤◌, ◌⊎◌, inl, inr, List, [], ◌∷◌, refl, sym, ap, ◌∙◌, arith}
+use Rattle.std.proofs.Common.{◌≡◌, ◌≢◌, ℕ, zero, suc, subst, lit<, ◌+◌, ◌-◌, ◌*◌, ◌/◌, ◌%◌, ◌<◌, ◌≤◌, ◌⊎◌, inl, inr}
+use Rattle.std.proofs.Common.{List, [], ◌∷◌, refl, sym, ap, ◌∙◌, arith}
 use Rattle.std.proofs.lemmas.Bool.{cases_lt, cases_eq, cond-true, cond-false, ne_eqb, lt-ltb, le-ltb}
 use Rattle.lfs_bmap.specs.declared.blocks.FileBlock.{FileBlock}
 use Rattle.lfs_bmap.specs.declared.blocks.FileBlock.TheVariants.{Record, Single, Double, Child, Data}
@@ -31,11 +32,13 @@ data_way-under n h =
       | inl low ↦
           let none : (n - 12) / 128 ≡ 0 = omega arith in
           let same : (n - 12) % 128 ≡ n - 12 = omega arith in
-          data_way-single n h low ∙ ap (λ j. j ∷ 12 ∷ []) (sym same) ∙ ap (λ t. ((n - 12) % 128) ∷ way_to (table_at t)) (sym none)
+          data_way-single n h low ∙ ap (λ j. j ∷ 12 ∷ []) (sym same)
+          ∙ ap (λ t. ((n - 12) % 128) ∷ way_to (table_at t)) (sym none)
       | inr high ↦
           let more : (n - 12) / 128 ≡ suc ((n - 140) / 128) = omega arith in
           let same : (n - 12) % 128 ≡ (n - 140) % 128 = omega arith in
-          data_way-double n high ∙ ap (λ j. j ∷ ((n - 140) / 128) ∷ 13 ∷ []) (sym same) ∙ ap (λ t. ((n - 12) % 128) ∷ way_to (table_at t)) (sym more)
+          data_way-double n high ∙ ap (λ j. j ∷ ((n - 140) / 128) ∷ 13 ∷ []) (sym same)
+          ∙ ap (λ t. ((n - 12) % 128) ∷ way_to (table_at t)) (sym more)
     ]
 
 -- The way of a code, by cases.
@@ -44,14 +47,16 @@ unfolding way_of
 way_of-child k h =
     let e : 3 + k - 3 ≡ k = omega arith in
     cond-false _ _ _ (ne_eqb (3 + k) 0 (λ p. omega arith)) ∙ cond-false _ _ _ (ne_eqb (3 + k) 1 (λ p. omega arith))
-    ∙ cond-false _ _ _ (ne_eqb (3 + k) 2 (λ p. omega arith)) ∙ cond-true _ _ _ (lt-ltb (3 + k) 131 (omega arith)) ∙ ap (λ m. m ∷ 13 ∷ []) e
+    ∙ cond-false _ _ _ (ne_eqb (3 + k) 2 (λ p. omega arith)) ∙ cond-true _ _ _ (lt-ltb (3 + k) 131 (omega arith))
+    ∙ ap (λ m. m ∷ 13 ∷ []) e
 
 pub way_of-data : (n : ℕ) → way_of (131 + n) ≡ data_way n
 unfolding way_of
 way_of-data n =
     let e : 131 + n - 131 ≡ n = omega arith in
     cond-false _ _ _ (ne_eqb (131 + n) 0 (λ p. omega arith)) ∙ cond-false _ _ _ (ne_eqb (131 + n) 1 (λ p. omega arith))
-    ∙ cond-false _ _ _ (ne_eqb (131 + n) 2 (λ p. omega arith)) ∙ cond-false _ _ _ (le-ltb (131 + n) 131 (omega arith)) ∙ ap data_way e
+    ∙ cond-false _ _ _ (ne_eqb (131 + n) 2 (λ p. omega arith)) ∙ cond-false _ _ _ (le-ltb (131 + n) 131 (omega arith))
+    ∙ ap data_way e
 
 -- the way of a block's code is its way
 pub way_of-code_of : (block : FileBlock) → IsFileBlock block → way_of (code_of block) ≡ way_to block
@@ -139,12 +144,14 @@ code_at-data n =
       | inl direct ↦ ap code_at (data_way-direct n direct) ∙ code_at-direct n direct
       | inr past ↦ elim (cases_lt n 140) [
         | inl single ↦ ap code_at (data_way-single n past single) ∙ code_at-single (n - 12) ∙ omega arith
-        | inr double ↦ ap code_at (data_way-double n double) ∙ code_at-double ((n - 140) % 128) ((n - 140) / 128) ∙ omega arith
+        | inr double ↦ ap code_at (data_way-double n double) ∙ code_at-double ((n - 140) % 128) ((n - 140) / 128)
+            ∙ omega arith
       ]
     ]
 
 -- what holds of the record, the indirect blocks and the data blocks holds of every code
-code_ind : (P : ℕ → Type 0) → P 0 → P 1 → P 2 → ((k : ℕ) → k < 128 → P (3 + k)) → ((n : ℕ) → P (131 + n)) → (code : ℕ) → P code
+code_ind : (P : ℕ → Type 0) → P 0 → P 1 → P 2 → ((k : ℕ) → k < 128 → P (3 + k)) → ((n : ℕ) → P (131 + n)) → (code : ℕ)
+    → P code
 code_ind P record_ single double child data_ zero = record_
 code_ind P record_ single double child data_ (suc zero) = single
 code_ind P record_ single double child data_ (suc (suc zero)) = double
@@ -166,7 +173,8 @@ same_code c d e = sym (code_at-way_of c) ∙ ap code_at e ∙ code_at-way_of d
 
 -- a code whose way leads somewhere is not the record's
 pub way_of-some : (code i : ℕ) (up : List ℕ) → way_of code ≡ i ∷ up → code ≢ 0
-way_of-some code i up e zero_ = let none : way_of 0 ≡ i ∷ up = subst (λ c. way_of c ≡ i ∷ up) zero_ e in nothing i up (sym way_of-zero ∙ none)
+way_of-some code i up e zero_ = let none : way_of 0 ≡ i
+    ∷ up = subst (λ c. way_of c ≡ i ∷ up) zero_ e in nothing i up (sym way_of-zero ∙ none)
 
 -- the way of a data block is a way
 data_way-way : (n : ℕ) → n < 16524 → IsWay (data_way n)
@@ -183,7 +191,8 @@ data_way-way n h =
 pub way_of-way : (code : ℕ) → code < all_codes → IsWay (way_of code)
 way_of-way =
     code_ind (λ code. code < all_codes → IsWay (way_of code)) way-record way-first way-second
-    (λ k low h. subst IsWay (sym (way_of-child k low)) (low, inr refl)) (λ n h. subst IsWay (sym (way_of-data n)) (data_way-way n (omega arith)))
+    (λ k low h. subst IsWay (sym (way_of-child k low)) (low, inr refl))
+    (λ n h. subst IsWay (sym (way_of-data n)) (data_way-way n (omega arith)))
 
 way_of-direct : (place : ℕ) → place < 12 → way_of (code_at (place ∷ [])) ≡ place ∷ []
 way_of-direct place h = ap way_of (code_at-direct place h) ∙ way_of-data place ∙ data_way-direct place h
@@ -193,22 +202,27 @@ way_of-place place (inl h) = way_of-direct place h
 way_of-place place (inr (inl e)) = subst (λ p. way_of (code_at (p ∷ [])) ≡ p ∷ []) (sym e) way_of-first
 way_of-place place (inr (inr e)) = subst (λ p. way_of (code_at (p ∷ [])) ≡ p ∷ []) (sym e) way_of-second
 
-way_of-cell : (cell place : ℕ) → cell < 128 → (place ≡ 12) ⊎ (place ≡ 13) → way_of (code_at (cell ∷ place ∷ [])) ≡ cell ∷ place ∷ []
+way_of-cell : (cell place : ℕ) → cell < 128 → (place ≡ 12) ⊎ (place ≡ 13) → way_of (code_at (cell ∷ place ∷ [])) ≡ cell
+    ∷ place ∷ []
 way_of-cell cell place h (inl e) =
     let moved : 143 + cell ≡ 131 + (12 + cell) = omega arith in
     let back : 12 + cell - 12 ≡ cell = omega arith in
     subst (λ p. way_of (code_at (cell ∷ p ∷ [])) ≡ cell ∷ p ∷ []) (sym e)
-    (ap way_of (code_at-single cell ∙ moved) ∙ way_of-data (12 + cell) ∙ data_way-single (12 + cell) (omega arith) (omega arith) ∙ ap (λ j. j ∷ 12 ∷ []) back)
+    (ap way_of (code_at-single cell ∙ moved) ∙ way_of-data (12 + cell)
+    ∙ data_way-single (12 + cell) (omega arith) (omega arith) ∙ ap (λ j. j ∷ 12 ∷ []) back)
 way_of-cell cell place h (inr e) =
-    subst (λ p. way_of (code_at (cell ∷ p ∷ [])) ≡ cell ∷ p ∷ []) (sym e) (ap way_of (code_at-child cell) ∙ way_of-child cell h)
+    subst (λ p. way_of (code_at (cell ∷ p ∷ [])) ≡ cell ∷ p ∷ []) (sym e) (ap way_of (code_at-child cell)
+    ∙ way_of-child cell h)
 
-way_of-under : (cell child place : ℕ) → cell < 128 → child < 128 → place ≡ 13 → way_of (code_at (cell ∷ child ∷ place ∷ [])) ≡ cell ∷ child ∷ place ∷ []
+way_of-under : (cell child place : ℕ) → cell < 128 → child < 128 → place ≡ 13
+    → way_of (code_at (cell ∷ child ∷ place ∷ [])) ≡ cell ∷ child ∷ place ∷ []
 way_of-under cell child place h k e =
     let moved : 271 + 128 * child + cell ≡ 131 + (140 + 128 * child + cell) = omega arith in
     let low : (140 + 128 * child + cell - 140) % 128 ≡ cell = omega arith in
     let high : (140 + 128 * child + cell - 140) / 128 ≡ child = omega arith in
     subst (λ p. way_of (code_at (cell ∷ child ∷ p ∷ [])) ≡ cell ∷ child ∷ p ∷ []) (sym e)
-    (ap way_of (code_at-double cell child ∙ moved) ∙ way_of-data (140 + 128 * child + cell) ∙ data_way-double (140 + 128 * child + cell) (omega arith)
+    (ap way_of (code_at-double cell child ∙ moved) ∙ way_of-data (140 + 128 * child + cell)
+    ∙ data_way-double (140 + 128 * child + cell) (omega arith)
     ∙ ap (λ j. j ∷ ((140 + 128 * child + cell - 140) / 128) ∷ 13 ∷ []) low ∙ ap (λ j. cell ∷ j ∷ 13 ∷ []) high)
 
 -- a way is the way of the code at it
@@ -239,7 +253,8 @@ pub up_code : (i : ℕ) (up : List ℕ) → IsWay (i ∷ up) → code_at up < 13
 up_code i [] h = up_code-record
 up_code i (place ∷ []) h = up_code-place place h.1
 up_code i (child ∷ place ∷ []) h =
-    subst (λ p. code_at (child ∷ p ∷ []) < 131) (sym h.2) (subst (λ n. n < 131) (sym (code_at-child child)) (let low = h.1 in omega arith))
+    subst (λ p. code_at (child ∷ p ∷ []) < 131) (sym h.2)
+    (subst (λ n. n < 131) (sym (code_at-child child)) (let low = h.1 in omega arith))
 up_code i (child ∷ place ∷ next ∷ up) h = absurd h
 
 -- the block that holds the address of a known block is known
@@ -248,7 +263,10 @@ up_known i up h = let low = up_code i up h.leads in record { leads = up_way i up
 
 -- the way of a code of this profile is known
 pub way_of-known : (code : ℕ) → code < BLOCK_CODES → IsBlockWay (way_of code)
-way_of-known code h = record { leads = way_of-way code (omega arith); coded = subst (λ c. c < BLOCK_CODES) (sym (code_at-way_of code)) h }
+way_of-known code h = record {
+  leads = way_of-way code (omega arith);
+  coded = subst (λ c. c < BLOCK_CODES) (sym (code_at-way_of code)) h;
+}
 
 -- a known way is that of a code of this profile
 pub known_way_of : (way : List ℕ) → IsBlockWay way → way_of (code_at way) ≡ way

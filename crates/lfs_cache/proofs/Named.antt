@@ -1,5 +1,6 @@
 -- The index after one more frame is named, and after a key is put or taken away.
-use Rattle.std.proofs.Common.{◌≡◌, ◌≢◌, ℕ, ◌+◌, ◌-◌, ◌*◌, ◌<◌, ◌≤◌, List, length, Option, Some, None, refl, sym, ap, subst, ◌∙◌, inl, inr, arith}
+use Rattle.std.proofs.Common.{◌≡◌, ◌≢◌, ℕ, ◌+◌, ◌-◌, ◌*◌, ◌<◌, ◌≤◌, List, length, Option, Some, None, refl, sym, ap}
+use Rattle.std.proofs.Common.{subst, ◌∙◌, inl, inr, arith}
 use Rattle.std.proofs.Math.ListN.{set, length-set}
 use Rattle.std.proofs.lemmas.List.{get_or-set_same, get_or-set_other, get_or_past}
 use Rattle.std.proofs.lemmas.Bool.{cases_lt, cases_eq}
@@ -21,7 +22,8 @@ pub none_of : {X : Type 0} (o : Option X) → ((x : X) → o ≡ Some x → ⊥)
 none_of None h = refl
 none_of (Some x) h = absurd (h x refl)
 
-pub named_first : (keys : List (Option Key)) (ps : List (Option ℕ)) → length ps ≡ 6 * length keys → ((p : ℕ) → frame_at ps p ≡ None) → AreIndexed keys ps 0 0
+pub named_first : (keys : List (Option Key)) (ps : List (Option ℕ)) → length ps ≡ 6 * length keys
+    → ((p : ℕ) → frame_at ps p ≡ None) → AreIndexed keys ps 0 0
 named_first keys ps sized none = record {
   sized = sized;
   inside = λ p f is. absurd (none_not (frame_at ps p) f (none p) is);
@@ -30,12 +32,15 @@ named_first keys ps sized none = record {
   room = omega arith;
 }
 
-pub named_none : (keys : List (Option Key)) (ps : List (Option ℕ)) (taken i : ℕ) → key_at keys i ≡ None → AreIndexed keys ps taken i → AreIndexed keys ps taken (i + 1)
+pub named_none : (keys : List (Option Key)) (ps : List (Option ℕ)) (taken i : ℕ) → key_at keys i ≡ None
+    → AreIndexed keys ps taken i → AreIndexed keys ps taken (i + 1)
 named_none keys ps taken i none h = record {
   sized = h.sized;
   inside = h.inside;
-  found = λ f k low is. elim (cases_eq f i) as (λ _. IsReached ps (start_of k (4 * length keys)) f)
-      [ inl same ↦ absurd (none_not (key_at keys i) k none (subst (λ g. key_at keys g ≡ Some k) same is)) | inr other ↦ h.found f k (omega arith) is ];
+  found = λ f k low is. elim (cases_eq f i) as (λ _. IsReached ps (start_of k (4 * length keys)) f) [
+    | inl same ↦ absurd (none_not (key_at keys i) k none (subst (λ g. key_at keys g ≡ Some k) same is))
+    | inr other ↦ h.found f k (omega arith) is
+  ];
   counted = h.counted;
   room = let r = h.room in omega arith;
 }
@@ -43,34 +48,44 @@ named_none keys ps taken i none h = record {
 some_same : {X : Type 0} (o : Option X) (a b : X) → o ≡ Some a → o ≡ Some b → a ≡ b
 some_same o a b e h = let same : Some a ≡ Some b = sym e ∙ h in cc
 
-pub named_more : (keys : List (Option Key)) (ps : List (Option ℕ)) (taken i s at : ℕ) (k : Key) → i < length keys → key_at keys i ≡ Some k → s ≡ start_of k (4 * length keys) → s ≤ at → IsFree ps s (at - s)
+pub named_more : (keys : List (Option Key)) (ps : List (Option ℕ)) (taken i s at : ℕ) (k : Key) → i < length keys
+    → key_at keys i ≡ Some k → s ≡ start_of k (4 * length keys) → s ≤ at → IsFree ps s (at - s)
     → AreIndexed keys ps taken i → AreIndexed keys (set ps at (Some i)) (taken + 1) (i + 1)
 named_more keys ps taken i s at k below is starts from free h = record {
   sized = length-set ps at (Some i) ∙ h.sized;
   inside = entered_bound ps i s at from free (length keys) below h.inside;
-  found = λ f k' low is'. elim (cases_eq f i) as (λ _. IsReached (set ps at (Some i)) (start_of k' (4 * length keys)) f) [
-    | inl same ↦ (let key_same : k ≡ k' = some_same (key_at keys i) k k' is (subst (λ g. key_at keys g ≡ Some k') same is') in
-        subst (λ g. IsReached (set ps at (Some i)) (start_of k' (4 * length keys)) g) (sym same)
-        (subst (λ z. IsReached (set ps at (Some i)) z i) (starts ∙ ap (λ z. start_of z (4 * length keys)) key_same) (entered_new ps i s at from free)))
-    | inr other ↦ entered_old ps i s at from free f (start_of k' (4 * length keys)) (h.found f k' (omega arith) is')
-  ];
+  found = λ f k' low is'. elim (cases_eq f i) as
+      (λ _. IsReached (set ps at (Some i)) (start_of k' (4 * length keys)) f) [
+        | inl same ↦ (let key_same : k ≡ k' = some_same (key_at keys i) k k' is
+            (subst (λ g. key_at keys g ≡ Some k') same is') in
+            subst (λ g. IsReached (set ps at (Some i)) (start_of k' (4 * length keys)) g) (sym same)
+            (subst (λ z. IsReached (set ps at (Some i)) z i) (starts ∙ ap (λ z. start_of z (4 * length keys)) key_same)
+            (entered_new ps i s at from free)))
+        | inr other ↦ entered_old ps i s at from free f (start_of k' (4 * length keys)) (h.found f k' (omega arith) is')
+      ];
   counted = let e = entered_count ps i s at from free in let r = h.counted in omega arith;
   room = let r = h.room in omega arith;
 }
 
-pub named_all : (keys : List (Option Key)) (ps : List (Option ℕ)) (taken : ℕ) → 0 < length keys → length keys ≤ 1024 → AreIndexed keys ps taken (length keys) → IsIndex keys ps taken
+pub named_all : (keys : List (Option Key)) (ps : List (Option ℕ)) (taken : ℕ) → 0 < length keys → length keys ≤ 1024
+    → AreIndexed keys ps taken (length keys) → IsIndex keys ps taken
 named_all keys ps taken some bounded h = record {
   some = some;
   bounded = bounded;
   sized = h.sized;
   inside = h.inside;
-  found = λ f k is. elim (cases_lt f (length keys)) as (λ _. IsReached ps (start_of k (4 * length keys)) f) [ inl low ↦ h.found f k low is | inr high ↦ absurd (none_not (key_at keys f) k (get_or_past keys f None high) is) ];
+  found = λ f k is. elim (cases_lt f (length keys)) as
+      (λ _. IsReached ps (start_of k (4 * length keys)) f) [
+        | inl low ↦ h.found f k low is
+        | inr high ↦ absurd (none_not (key_at keys f) k (get_or_past keys f None high) is)
+      ];
   counted = h.counted;
   room = let r = h.room in omega arith;
 }
 
 -- a key at the frame f, which is named at a free place
-pub index_put : (keys : List (Option Key)) (ps : List (Option ℕ)) (taken f s at : ℕ) (k : Key) → f < length keys → taken ≢ 2 * length keys → s ≡ start_of k (4 * length keys) → s ≤ at → IsFree ps s (at - s)
+pub index_put : (keys : List (Option Key)) (ps : List (Option ℕ)) (taken f s at : ℕ) (k : Key) → f < length keys
+    → taken ≢ 2 * length keys → s ≡ start_of k (4 * length keys) → s ≤ at → IsFree ps s (at - s)
     → IsIndex keys ps taken → IsIndex (set keys f (Some k)) (set ps at (Some f)) (taken + 1)
 index_put keys ps taken f s at k below room starts from free h =
     let n : length (set keys f (Some k)) ≡ length keys = length-set keys f (Some k) in
@@ -78,19 +93,26 @@ index_put keys ps taken f s at k below room starts from free h =
       some = let r = h.some in omega arith;
       bounded = let r = h.bounded in omega arith;
       sized = length-set ps at (Some f) ∙ (h.sized ∙ ap (λ z. 6 * z) (sym n));
-      inside = λ p g is. subst (λ z. g < z) (sym n) (entered_bound ps f s at from free (length keys) below h.inside p g is);
-      found = λ g k' is. subst (λ z. IsReached (set ps at (Some f)) (start_of k' (4 * z)) g) (sym n) (elim (cases_eq g f) as (λ _. IsReached (set ps at (Some f)) (start_of k' (4 * length keys)) g) [
-        | inl same ↦ (let key_same : k ≡ k' = some_same (key_at (set keys f (Some k)) f) k k' (get_or-set_same keys f (Some k) None below) (subst (λ z. key_at (set keys f (Some k)) z ≡ Some k') same is) in
-            subst (λ z. IsReached (set ps at (Some f)) (start_of k' (4 * length keys)) z) (sym same)
-            (subst (λ z. IsReached (set ps at (Some f)) z f) (starts ∙ ap (λ z. start_of z (4 * length keys)) key_same) (entered_new ps f s at from free)))
-        | inr other ↦ entered_old ps f s at from free g (start_of k' (4 * length keys)) (h.found g k' (sym (get_or-set_other keys f g (Some k) None other) ∙ is))
-      ]);
+      inside = λ p g is. subst (λ z. g < z) (sym n)
+          (entered_bound ps f s at from free (length keys) below h.inside p g is);
+      found = λ g k' is. subst (λ z. IsReached (set ps at (Some f)) (start_of k' (4 * z)) g) (sym n)
+          (elim (cases_eq g f) as (λ _. IsReached (set ps at (Some f)) (start_of k' (4 * length keys)) g) [
+            | inl same ↦ (let key_same : k ≡ k' = some_same (key_at (set keys f (Some k)) f) k k'
+                (get_or-set_same keys f (Some k) None below) (subst (λ z. key_at (set keys f (Some k)) z ≡ Some k') same is)
+                in
+                subst (λ z. IsReached (set ps at (Some f)) (start_of k' (4 * length keys)) z) (sym same)
+                (subst (λ z. IsReached (set ps at (Some f)) z f) (starts ∙ ap (λ z. start_of z (4 * length keys)) key_same)
+                (entered_new ps f s at from free)))
+            | inr other ↦ entered_old ps f s at from free g (start_of k' (4 * length keys))
+                (h.found g k' (sym (get_or-set_other keys f g (Some k) None other) ∙ is))
+          ]);
       counted = let e = entered_count ps f s at from free in let r = h.counted in omega arith;
       room = let r = h.room in omega arith;
     }
 
 -- no key at any frame
-pub index_none : (keys : List (Option Key)) (ps : List (Option ℕ)) → 0 < length keys → length keys ≤ 1024 → length ps ≡ 6 * length keys → ((f : ℕ) → key_at keys f ≡ None) → ((p : ℕ) → frame_at ps p ≡ None) → IsIndex keys ps 0
+pub index_none : (keys : List (Option Key)) (ps : List (Option ℕ)) → 0 < length keys → length keys ≤ 1024 → length ps
+    ≡ 6 * length keys → ((f : ℕ) → key_at keys f ≡ None) → ((p : ℕ) → frame_at ps p ≡ None) → IsIndex keys ps 0
 index_none keys ps some bounded sized none free = record {
   some = some;
   bounded = bounded;

@@ -1,5 +1,6 @@
 -- The blocks that the frames of a cache hold.
-use Rattle.std.specs.Prelude.{◌≡◌, ◌≢◌, ℕ, ◌+◌, ◌<◌, ◌≤◌, List, [], length, map, Option, Some, None, IsSome, slice_index_or}
+use Rattle.std.specs.Prelude.{◌≡◌, ◌≢◌, ℕ, ◌+◌, ◌<◌, ◌≤◌, List, [], length, map, Option, Some, None, IsSome}
+use Rattle.std.specs.Prelude.{slice_index_or}
 use Rattle.lfs_types.specs.declared.block.TheConstants.{BLOCK_SIZE}
 use Rattle.lfs_types.specs.Ranges.{least_frames}
 use Rattle.lfs_recency.specs.FrameLists.{FrameLists, frame_count, times, IsWhole}
@@ -18,9 +19,15 @@ abbrev pub entry_at : List (Option Key) → List (List ℕ) → ℕ → Key × L
 entry_at keys blocks f = (name_at keys f, slice_index_or blocks f [])
 
 abbrev pub held_by : FrameLists → List (Option Key) → Contents
-held_by l keys = record { locked = map (entry_at keys l.blocks) l.locked; lru = map (entry_at keys l.blocks) l.lru; age = length l.age; empty = length l.empty }
+held_by l keys = record {
+  locked = map (entry_at keys l.blocks) l.locked;
+  lru = map (entry_at keys l.blocks) l.lru;
+  age = length l.age;
+  empty = length l.empty;
+}
 
--- the keys at the frames are as the queues say, but for the frame of the number `but`, and `names` are those of the locked frames
+-- the keys at the frames are as the queues say, but for the frame of the number `but`, and `names` are those of the
+-- locked frames
 pub record AreHeld (l : FrameLists) (keys : List (Option Key)) (but : ℕ) (names : List Key) : Type 0 where
   pub whole : IsWhole l
   pub sized : length keys ≡ frame_count l

@@ -1,5 +1,6 @@
 -- The index of a cache: the key at each frame, and the places where a key's frame is found.
-use Rattle.std.specs.Prelude.{◌≡◌, ℕ, suc, ◌+◌, ◌*◌, ◌<◌, ◌≤◌, List, [], ◌∷◌, length, Option, Some, None, IsSome, slice_index_or}
+use Rattle.std.specs.Prelude.{◌≡◌, ℕ, suc, ◌+◌, ◌*◌, ◌<◌, ◌≤◌, List, [], ◌∷◌, length, Option, Some, None, IsSome}
+use Rattle.std.specs.Prelude.{slice_index_or}
 use Rattle.lfs_types.specs.Ranges.{most_frames}
 use Rattle.lfs_cache.specs.declared.key.Key.{Key}
 use Rattle.lfs_cache.specs.Keys.{start_of}
@@ -14,11 +15,13 @@ frame_at places p = slice_index_or places p None
 
 -- the first free place from `start` on is d places further
 abbrev pub IsFree : List (Option ℕ) → ℕ → ℕ → Type 0
-IsFree places start d = (start + d < length places) × (frame_at places (start + d) ≡ None) × ((e : ℕ) → e < d → IsSome (frame_at places (start + e)))
+IsFree places start d = (start + d < length places) × (frame_at places (start + d) ≡ None)
+    × ((e : ℕ) → e < d → IsSome (frame_at places (start + e)))
 
 -- f is found from `start` on, before any free place
 abbrev pub IsReached : List (Option ℕ) → ℕ → ℕ → Type 0
-IsReached places start f = (d : ℕ) × (start + d < length places) × (frame_at places (start + d) ≡ Some f) × ((e : ℕ) → e < d → IsSome (frame_at places (start + e)))
+IsReached places start f = (d : ℕ) × (start + d < length places) × (frame_at places (start + d) ≡ Some f)
+    × ((e : ℕ) → e < d → IsSome (frame_at places (start + e)))
 
 -- how many places are taken
 abbrev pub count_taken : List (Option ℕ) → ℕ

@@ -1,5 +1,6 @@
 -- What the judge of a row's new place finds on the way to it.
-use Rattle.std.proofs.Common.{◌≡◌, ℕ, ◌+◌, ◌==◌, true, false, List, [], ◌∷◌, ◌++◌, length, Option, Some, Err, refl, sym, ap, ◌∙◌, arith}
+use Rattle.std.proofs.Common.{◌≡◌, ℕ, ◌+◌, ◌==◌, true, false, List, [], ◌∷◌, ◌++◌, length, Option, Some, Err, refl, sym}
+use Rattle.std.proofs.Common.{ap, ◌∙◌, arith}
 use Rattle.std.specs.Prelude.{not}
 use Rattle.std.proofs.lemmas.Bool.{cond-true, ne_eqb}
 use Rattle.lfs_types.specs.Caller.{Caller}
@@ -21,29 +22,37 @@ abbrev in_directory : Rows → Caller → List (List ℕ) → List Check
 in_directory rows caller parents = searching_tests caller 1 (attrs_at rows (reached rows root parents)) (length parents)
 
 -- no row gets the root's place
-pub arrive_root : (rows : Rows) (caller : Caller) (names : List (List ℕ)) → length names ≡ 0 → first_failing (arriving rows caller names) ≡ Some (record { rule = IsNotRoot; path = 1; at = 0 })
+pub arrive_root : (rows : Rows) (caller : Caller) (names : List (List ℕ)) → length names ≡ 0
+    → first_failing (arriving rows caller names) ≡ Some (record { rule = IsNotRoot; path = 1; at = 0 })
 arrive_root rows caller [] h = refl
 arrive_root rows caller (x ∷ xs) h = absurd (omega arith)
 
-module _ (rows : Rows) (caller : Caller) (names parents : List (List ℕ)) (name : List ℕ) (e : names ≡ parents ++ name ∷ []) (count : length parents + 1 ≡ length names) where
+module _ (rows : Rows) (caller : Caller) (names parents : List (List ℕ)) (name : List ℕ) (e : names ≡ parents ++ name
+    ∷ []) (count : length parents + 1 ≡ length names) where
   -- the tests are those of the walk to the directory, and those behind it
-  to_walk : first_failing (arriving rows caller names) ≡ first_failing (walk rows caller 1 0 root parents ++ in_directory rows caller parents)
+  to_walk : first_failing (arriving rows caller names)
+      ≡ first_failing (walk rows caller 1 0 root parents ++ in_directory rows caller parents)
   to_walk =
       let some : (length names == 0) ≡ false = ne_eqb (length names) 0 (λ z. absurd (omega arith)) in
       cond-true _ _ _ (ap not some)
-      ∙ ap (λ ps. first_failing (walk rows caller 1 0 root ps ++ in_directory rows caller ps)) (ap front e ∙ front-last parents name)
+      ∙ ap (λ ps. first_failing (walk rows caller 1 0 root ps ++ in_directory rows caller ps)) (ap front e
+      ∙ front-last parents name)
 
   -- where the walk is denied, the call is
-  pub arrive_denied : (denial : Denial) → walked rows caller 1 0 root parents ≡ Err denial → first_failing (arriving rows caller names) ≡ Some denial
+  pub arrive_denied : (denial : Denial) → walked rows caller 1 0 root parents ≡ Err denial
+      → first_failing (arriving rows caller names) ≡ Some denial
   arrive_denied denial h = to_walk ∙ walk_denied rows caller 1 parents _ denial h
 
-module _ {c : Content} {w : World} {caller : Caller} {names parents : List (List ℕ)} {name : List ℕ} {n : ℕ} {a : Attrs} (way : Way c w caller 1 names parents name n a) where
+module _ {c : Content} {w : World} {caller : Caller} {names parents : List (List ℕ)} {name : List ℕ} {n : ℕ} {a : Attrs}
+    (way : Way c w caller 1 names parents name n a) where
   -- the tests of the directory decide
-  pub arrive_decided : (at : ℕ) → at ≡ length parents → first_failing (arriving w.rows caller names) ≡ first_failing (searching_tests caller 1 a at)
+  pub arrive_decided : (at : ℕ) → at ≡ length parents → first_failing (arriving w.rows caller names)
+      ≡ first_failing (searching_tests caller 1 a at)
   arrive_decided at same =
       to_walk w.rows caller names parents name way.names_are way.count
       ∙ walk_passed w.rows caller 1 parents _ n way.leads
-      ∙ ap (λ m. first_failing (searching_tests caller 1 (attrs_at w.rows m) (length parents))) (walked-reached w.rows caller 1 0 root parents n way.leads)
+      ∙ ap (λ m. first_failing (searching_tests caller 1 (attrs_at w.rows m) (length parents)))
+      (walked-reached w.rows caller 1 0 root parents n way.leads)
       ∙ ap (λ x. first_failing (searching_tests caller 1 x (length parents))) (attrs_reads c w way.shows n a way.shown)
       ∙ ap (λ k. first_failing (searching_tests caller 1 a k)) (sym same)
 

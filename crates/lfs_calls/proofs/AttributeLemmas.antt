@@ -27,13 +27,16 @@ use Rattle.lfs_calls.proofs.StepLemmas.{ShownFile, shown_file}
 -- ---- what a store is asked
 
 -- a store that was asked to set attributes sets them
-pub sets_attrs : (c : Content) (n : ℕ) (attrs : Attrs) → IsSomeAnd (map.get c n) (λ f. f.kind ≡ attrs.kind) → (new : Content) → new ≡ applied (SetAttrs n attrs ∷ []) c → SetsAttrs c new n attrs
+pub sets_attrs : (c : Content) (n : ℕ) (attrs : Attrs) → IsSomeAnd (map.get c n) (λ f. f.kind ≡ attrs.kind)
+    → (new : Content) → new ≡ applied (SetAttrs n attrs ∷ []) c → SetsAttrs c new n attrs
 sets_attrs c n attrs kind new is =
     let was = some_and (map.get c n) _ kind in
-    let there : new ≡ map.insert c n (file_of attrs was.value.bytes) = is ∙ ap (λ o. changed_at o n (λ f. file_of attrs f.bytes) c) was.is in
+    let there : new ≡ map.insert c n (file_of attrs was.value.bytes) = is
+    ∙ ap (λ o. changed_at o n (λ f. file_of attrs f.bytes) c) was.is in
     record {
       set = λ f e.
-          ap (λ x. map.get x n) is ∙ ap (λ o. map.get (changed_at o n (λ g. file_of attrs g.bytes) c) n) e ∙ get-insert_same c n (file_of attrs f.bytes);
+          ap (λ x. map.get x n) is ∙ ap (λ o. map.get (changed_at o n (λ g. file_of attrs g.bytes) c) n) e
+          ∙ get-insert_same c n (file_of attrs f.bytes);
       others = λ q apart. ap (λ x. map.get x q) there ∙ get-insert_other c n (file_of attrs was.value.bytes) q apart;
     }
 
@@ -41,7 +44,8 @@ sets_attrs c n attrs kind new is =
 
 module _ (c : Content) (w : World) (shows : Shows c w) (tree : IsTree w.rows) (path : List (List ℕ)) (n : ℕ) (a : Attrs)
     (leads : reached w.rows root path ≡ n) (shown : Some a ≡ shown_attrs c n)
-    (attrs : Attrs) (kind : attrs.kind ≡ a.kind) (change : File → File) (same : (bytes : List ℕ) → file_of attrs bytes ≡ change (file_of a bytes)) where
+    (attrs : Attrs) (kind : attrs.kind ≡ a.kind) (change : File → File) (same : (bytes : List ℕ) → file_of attrs bytes
+    ≡ change (file_of a bytes)) where
   abbrev old : ShownFile c n a
   old = shown_file c n a shown
 
@@ -60,7 +64,8 @@ module _ (c : Content) (w : World) (shows : Shows c w) (tree : IsTree w.rows) (p
 
   -- the store with the new attributes shows it
   pub attrs_shows : (after : Content) → SetsAttrs c after n attrs → Shows after (with_change w path change)
-  attrs_shows after sets = change_shows c w shows tree path n leads old.file new_file old.stored kind_is change seen_after after
+  attrs_shows after sets = change_shows c w shows tree path n leads old.file new_file old.stored kind_is change
+      seen_after after
       (subst (λ k. IsLength k (length old.file.bytes)) (sym kind_is) (shows.sizes n old.file old.stored))
       (λ _. refl) (sets.set old.file old.stored) sets.others
 
@@ -70,21 +75,26 @@ module _ (c : Content) (w : World) (shows : Shows c w) (tree : IsTree w.rows) (p
 
 -- ---- a call that sets attributes
 
-module _ {s mid : StoreState} (caller : Caller) (path : List (List ℕ)) (same : mid ≡ s) (file : Reached) (leads : InWorld s (λ w. Reaches s.content w.rows caller 0 path (Ok file))) where
+module _ {s mid : StoreState} (caller : Caller) (path : List (List ℕ)) (same : mid ≡ s) (file : Reached)
+    (leads : InWorld s (λ w. Reaches s.content w.rows caller 0 path (Ok file))) where
   -- the file has the kind that the store shows
-  pub kind_stored : (w : World) → IsVolume s w → IsSomeAnd (map.get mid.content file.number) (λ f. f.kind ≡ file.attrs.kind)
+  pub kind_stored : (w : World) → IsVolume s w
+      → IsSomeAnd (map.get mid.content file.number) (λ f. f.kind ≡ file.attrs.kind)
   kind_stored w v =
       let f = shown_file s.content file.number file.attrs (leads w v).1 in
-      is_some_and _ (ap (λ (c : Content). map.get c file.number) (same_content same) ∙ f.stored) (ap (λ (x : Attrs). x.kind) (sym f.same))
+      is_some_and _ (ap (λ (c : Content). map.get c file.number) (same_content same) ∙ f.stored)
+      (ap (λ (x : Attrs). x.kind) (sym f.same))
 
   -- the store shows the world with the changed file
-  pub attrs_set : (new : StoreState) (attrs : Attrs) → attrs.kind ≡ file.attrs.kind → (change : File → File) → ((bytes : List ℕ) → file_of attrs bytes ≡ change (file_of file.attrs bytes))
+  pub attrs_set : (new : StoreState) (attrs : Attrs) → attrs.kind ≡ file.attrs.kind → (change : File → File)
+      → ((bytes : List ℕ) → file_of attrs bytes ≡ change (file_of file.attrs bytes))
       → SetsAttrs mid.content new.content file.number attrs → InWorld s (λ w. IsVolume new (with_change w path change))
   attrs_set new attrs kind change same_file sets w v =
       let r = leads w v in
       let object = walked-reached w.rows caller 0 0 root path file.number r.0 in
       record {
-        shows = attrs_shows s.content w v.shows v.tree path file.number file.attrs object r.1 attrs kind change same_file new.content
+        shows = attrs_shows s.content w v.shows v.tree path file.number file.attrs object r.1 attrs kind change
+            same_file new.content
             (subst (λ (c : Content). SetsAttrs c new.content file.number attrs) (same_content same) sets);
         tree = attrs_tree s.content w v.shows v.tree path file.number file.attrs object r.1 attrs kind change same_file;
       }

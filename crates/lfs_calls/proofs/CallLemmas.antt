@@ -12,7 +12,9 @@ use Rattle.lfs_types.specs.declared.answer.Served.{Served}
 use Rattle.lfs_types.specs.declared.answer.Served.TheVariants.{Done}
 use Rattle.lfs_types.specs.declared.level.Level.{Level}
 use Rattle.lfs_types.specs.declared.request.Request.{Request}
-use Rattle.lfs_types.specs.declared.request.Request.TheVariants.{Stat, Read, Write, List as Names, SetLength, Create, Mkdir, Unlink, Rmdir, Rename, Chmod, Chown, Chflags, SetLevel, Sync}
+use Rattle.lfs_types.specs.declared.request.Request.TheVariants.{Stat, Read, Write, List as Names, SetLength, Create}
+use Rattle.lfs_types.specs.declared.request.Request.TheVariants.{Mkdir, Unlink, Rmdir, Rename, Chmod, Chown, Chflags}
+use Rattle.lfs_types.specs.declared.request.Request.TheVariants.{SetLevel, Sync}
 use Rattle.lfs_types.specs.declared.rule.Denial.{Denial}
 use Rattle.lfs_types.specs.declared.store.StoreRefusal.{StoreRefusal}
 use Rattle.lfs_types.specs.declared.store.StoreRefusal.TheVariants.{NoSpace, NoMemory}
@@ -56,7 +58,8 @@ looks_same (SetLevel level) same = same
 looks_same Sync same = same_content same
 
 -- and so where the content of a call that changes files didn't
-looks_kept : (old new : StoreState) (request : Request) → IsChanging request → new.content ≡ old.content → LooksOn request old new
+looks_kept : (old new : StoreState) (request : Request) → IsChanging request → new.content ≡ old.content
+    → LooksOn request old new
 looks_kept old new (Stat path) changing same = absurd changing
 looks_kept old new (Read path off len) changing same = absurd changing
 looks_kept old new (Names path) changing same = absurd changing
@@ -88,7 +91,8 @@ was_asked P NoMemory = tt
 
 module _ (level : Level) {s : StoreState} {caller : Caller} {request : Request} where
   -- a call that a rule denies
-  pub denied : {new : StoreState} → new ≡ s → (denial : Denial) → InWorld s (λ w. w.level ≡ level → decide w caller request ≡ Some denial)
+  pub denied : {new : StoreState} → new ≡ s → (denial : Denial)
+      → InWorld s (λ w. w.level ≡ level → decide w caller request ≡ Some denial)
       → IsCallAt level s new caller request (Err (Denied denial))
   denied same denial is = record {
     outcome = is;
@@ -102,7 +106,8 @@ module _ (level : Level) {s : StoreState} {caller : Caller} {request : Request} 
   }
 
   -- a call for which a resource ran out, before anything changed
-  pub lacking : {new : StoreState} → new ≡ s → (resource : Resource) → InWorld s (λ w. w.level ≡ level → IsOutcome s w caller request (answers.Refused resource))
+  pub lacking : {new : StoreState} → new ≡ s → (resource : Resource)
+      → InWorld s (λ w. w.level ≡ level → IsOutcome s w caller request (answers.Refused resource))
       → IsCallAt level s new caller request (Err (Refused resource))
   lacking same resource is = record {
     outcome = is;
@@ -115,13 +120,15 @@ module _ (level : Level) {s : StoreState} {caller : Caller} {request : Request} 
     follows = follows_itself same;
   }
 
-  refused_as : (refusal : StoreRefusal) → MayRefuse s.clean s.shape.can_lack_memory refusal → IsChanging request → (w : World) → IsToServe s caller request w
+  refused_as : (refusal : StoreRefusal) → MayRefuse s.clean s.shape.can_lack_memory refusal → IsChanging request
+      → (w : World) → IsToServe s caller request w
       → IsOutcome s w caller request (answers.Refused (resource_of refusal))
   refused_as NoSpace may changing w serve = ((serve.allowed, (serve.numbered, changing)), serve.roomy, may)
   refused_as NoMemory may changing w serve = (serve.allowed, serve.numbered, serve.roomy, inl (may, changing))
 
   -- a call whose changes the store refused, with what it may be answered
-  pub refused_so : {mid new : StoreState} {P : Content → Type 0} → mid ≡ s → (refusal : StoreRefusal) → IsChanging request
+  pub refused_so : {mid new : StoreState} {P : Content → Type 0} → mid ≡ s → (refusal : StoreRefusal)
+      → IsChanging request
       → InWorld s (λ w. w.level ≡ level → IsOutcome s w caller request (answers.Refused (resource_of refusal)))
       → ChangesTo mid P (Err refusal) new → IsCallAt level s new caller request (Err (Refused (resource_of refusal)))
   refused_so {new = new} same refusal changing is change =
@@ -146,14 +153,16 @@ module _ (level : Level) {s : StoreState} {caller : Caller} {request : Request} 
       refused_so same refusal changing (λ w v at. refused_as refusal may changing w (serve w v at)) change
 
   -- a call that changes nothing and shows something
-  pub shown : {new : StoreState} → new ≡ s → (shows : Served) → InWorld s (λ w. w.level ≡ level → IsToServe s caller request w)
+  pub shown : {new : StoreState} → new ≡ s → (shows : Served)
+      → InWorld s (λ w. w.level ≡ level → IsToServe s caller request w)
       → InWorld s (λ w. shows ≡ answer_of w request) → ((w : World) → effect s.shape.numbers w caller request ≡ w)
       → ((w : World) → LeavesEntries request s.content s.content w.rows)
       → IsCallAt level s new caller request (Ok shows)
   shown {new = new} same shows serve is stays entries = record {
     outcome = λ w v at. let x = serve w v at in ((x.allowed, x.numbered, is w v), x.roomy);
     leaves = λ w v. subst (IsVolume new) (sym (stays w)) (still same v);
-    entries = λ w v. subst (λ (c : Content). LeavesEntries request s.content c w.rows) (sym (same_content same)) (entries w);
+    entries = λ w v. subst (λ (c : Content). LeavesEntries request s.content c w.rows) (sym (same_content same))
+        (entries w);
     halted = tt;
     looks = looks_same request same;
     unasked = tt;
@@ -162,7 +171,8 @@ module _ (level : Level) {s : StoreState} {caller : Caller} {request : Request} 
   }
 
   -- a call that changes files, with what it may be answered
-  pub done_so : {mid new : StoreState} → mid ≡ s → LooksOn request s new → InWorld s (λ w. w.level ≡ level → IsOutcome s w caller request (answers.Served Done))
+  pub done_so : {mid new : StoreState} → mid ≡ s → LooksOn request s new
+      → InWorld s (λ w. w.level ≡ level → IsOutcome s w caller request (answers.Served Done))
       → InWorld s (λ w. IsVolume new (effect s.shape.numbers w caller request))
       → InWorld s (λ w. LeavesEntries request s.content new.content w.rows) → Follows mid new
       → IsCallAt level s new caller request (Ok Done)
@@ -178,8 +188,11 @@ module _ (level : Level) {s : StoreState} {caller : Caller} {request : Request} 
   }
 
   -- a call that changes files
-  pub done : {mid new : StoreState} → mid ≡ s → LooksOn request s new → InWorld s (λ w. w.level ≡ level → IsToServe s caller request w)
-      → ((w : World) → Done ≡ answer_of w request) → InWorld s (λ w. IsVolume new (effect s.shape.numbers w caller request))
+  pub done : {mid new : StoreState} → mid ≡ s → LooksOn request s new
+      → InWorld s (λ w. w.level ≡ level → IsToServe s caller request w)
+      → ((w : World) → Done ≡ answer_of w request)
+      → InWorld s (λ w. IsVolume new (effect s.shape.numbers w caller request))
       → InWorld s (λ w. LeavesEntries request s.content new.content w.rows) → Follows mid new
       → IsCallAt level s new caller request (Ok Done)
-  done same looks serve is = done_so same looks (λ w v at. let x = serve w v at in ((x.allowed, x.numbered, is w), x.roomy))
+  done same looks serve is = done_so same looks
+      (λ w v at. let x = serve w v at in ((x.allowed, x.numbered, is w), x.roomy))

@@ -1,5 +1,6 @@
 -- What a call that changes a file's bytes or its length may be answered, and what it leaves.
-use Rattle.std.proofs.Common.{◌≡◌, ℕ, ◌≤◌, Bool, true, false, List, [], ◌∷◌, ◌++◌, length, None, Some, refl, sym, ap, subst, ◌∙◌}
+use Rattle.std.proofs.Common.{◌≡◌, ℕ, ◌≤◌, Bool, true, false, List, [], ◌∷◌, ◌++◌, length, None, Some, refl, sym, ap}
+use Rattle.std.proofs.Common.{subst, ◌∙◌}
 use Rattle.std.specs.Prelude.{IsSomeAnd}
 use Rattle.std.specs.FinMap as map
 use Rattle.lfs_types.specs.Caller.{Caller}
@@ -28,7 +29,8 @@ use Rattle.lfs_calls.proofs.Visible.{Stored, shown_of, visible-regular}
 
 -- users see the bytes of a file as they are stored
 module _ (c : Content) (w : World) (shows : Shows c w) (path : List (List ℕ)) (n : ℕ) (a : Attrs)
-    (leads : reached w.rows root path ≡ n) (shown : Some a ≡ shown_attrs c n) (regular : is_directory_kind a.kind ≡ false) where
+    (leads : reached w.rows root path ≡ n) (shown : Some a ≡ shown_attrs c n) (regular : is_directory_kind a.kind
+    ≡ false) where
   abbrev f : ShownFile c n a
   f = shown_file c n a shown
 
@@ -49,8 +51,10 @@ module _ (c : Content) (w : World) (shows : Shows c w) (path : List (List ℕ)) 
 
   -- ---- the world after the bytes of a file were changed
 
-  module _ (after : Content) (tree : IsTree w.rows) (caller : Caller) (by : List ℕ → List ℕ) (changes : ChangesBytes c after n caller by) (change : File → File)
-      (changed : change f.file ≡ record f.file { mode = mode_after caller f.file.mode; bytes = by f.file.bytes }) (fits : length (by f.file.bytes) ≤ FILE_BYTES) where
+  module _ (after : Content) (tree : IsTree w.rows) (caller : Caller) (by : List ℕ → List ℕ)
+      (changes : ChangesBytes c after n caller by) (change : File → File)
+      (changed : change f.file ≡ record f.file { mode = mode_after caller f.file.mode; bytes = by f.file.bytes })
+      (fits : length (by f.file.bytes) ≤ FILE_BYTES) where
     abbrev new_file : File
     new_file = record f.file { mode = mode_after caller f.file.mode; bytes = by f.file.bytes }
 
@@ -72,7 +76,8 @@ module _ (c : Content) (w : World) (shows : Shows c w) (path : List (List ℕ)) 
 
 -- ---- what a store is asked
 
-module _ (c : Content) (n : ℕ) (a : Attrs) (shown : Some a ≡ shown_attrs c n) (caller : Caller) (by : List ℕ → List ℕ) where
+module _ (c : Content) (n : ℕ) (a : Attrs) (shown : Some a ≡ shown_attrs c n) (caller : Caller) (by : List ℕ
+    → List ℕ) where
   -- the stored file
   abbrev pub old_file : File
   old_file = (shown_file c n a shown).file
@@ -114,13 +119,16 @@ module _ (c : Content) (n : ℕ) (a : Attrs) (shown : Some a ≡ shown_attrs c n
   after_moded mode = ap (λ o. changed_at o n (λ f. file_of (moded mode) f.bytes) after_bytes) changed_there
 
   -- a caller's change leaves the mode that the caller's changes leave
-  pub changes_bytes : (mode : ℕ) → mode ≡ mode_after caller a.mode → (new : Content) → new ≡ changed (SetAttrs n (moded mode)) after_bytes → ChangesBytes c new n caller by
+  pub changes_bytes : (mode : ℕ) → mode ≡ mode_after caller a.mode → (new : Content) → new
+      ≡ changed (SetAttrs n (moded mode)) after_bytes → ChangesBytes c new n caller by
   changes_bytes mode m new is = record {
-    changed = λ f e. subst (λ (x : File). map.get new n ≡ Some (record x { mode = mode_after caller x.mode; bytes = by x.bytes })) (the_old f e)
+    changed = λ f e. subst (λ (x : File). map.get new n
+        ≡ Some (record x { mode = mode_after caller x.mode; bytes = by x.bytes })) (the_old f e)
         (ap (λ x. map.get x n) (is ∙ after_moded mode) ∙ get-insert_same after_bytes n (moded_file mode)
         ∙ ap (λ (x : Attrs). Some (file_of (record x { mode = mode }) changed_file.bytes)) same
         ∙ ap (λ k. Some (record changed_file { mode = k })) (m ∙ ap (λ (x : Attrs). mode_after caller x.mode) same));
-    others = λ q apart. ap (λ x. map.get x q) (is ∙ after_moded mode) ∙ get-insert_other after_bytes n (moded_file mode) q apart
+    others = λ q apart. ap (λ x. map.get x q) (is ∙ after_moded mode)
+        ∙ get-insert_other after_bytes n (moded_file mode) q apart
         ∙ ap (λ x. map.get x q) after_is ∙ get-insert_other c n changed_file q apart;
   }
 
@@ -139,15 +147,23 @@ module _ (c : Content) (n : ℕ) (a : Attrs) (shown : Some a ≡ shown_attrs c n
 -- ---- what the tests of a change say, where none fails
 
 -- the file is no directory
-pub change_regular : (caller : Caller) (appends : Bool) (a : Attrs) (k : ℕ) (more : List Check) → first_failing (change_tests caller appends a k ++ more) ≡ None → is_directory_kind a.kind ≡ false
+pub change_regular : (caller : Caller) (appends : Bool) (a : Attrs) (k : ℕ) (more : List Check)
+    → first_failing (change_tests caller appends a k ++ more) ≡ None → is_directory_kind a.kind ≡ false
 change_regular caller appends a k more h = not-true (is_directory_kind a.kind) (met_first _ _ _ h).0
 
 -- nor does a test behind them fail
-pub change_more : (caller : Caller) (appends : Bool) (a : Attrs) (k : ℕ) (fits : Bool) (denial : Denial) → first_failing (change_tests caller appends a k ++ record { met = fits; denial = denial } ∷ []) ≡ None → fits ≡ true
-change_more caller appends a k fits denial h = (met_first fits denial None (passes-append (change_tests caller appends a k) (record { met = fits; denial = denial } ∷ []) h).1).0
+pub change_more : (caller : Caller) (appends : Bool) (a : Attrs) (k : ℕ) (fits : Bool) (denial : Denial)
+    → first_failing (change_tests caller appends a k ++ record { met = fits; denial = denial } ∷ []) ≡ None → fits
+    ≡ true
+change_more caller appends a k fits denial h =
+    (met_first fits denial None (passes-append (change_tests caller appends a k) (record { met = fits; denial = denial }
+    ∷ []) h).1).0
 
 -- a file's size is one that it may have
-pub size_fits : (c : Content) (w : World) → Shows c w → (n : ℕ) (a : Attrs) → Some a ≡ shown_attrs c n → is_directory_kind a.kind ≡ false → a.size ≤ FILE_BYTES
+pub size_fits : (c : Content) (w : World) → Shows c w → (n : ℕ) (a : Attrs) → Some a ≡ shown_attrs c n
+    → is_directory_kind a.kind ≡ false → a.size ≤ FILE_BYTES
 size_fits c w shows n a shown regular =
     let f = shown_file c n a shown in
-    subst (λ (x : Attrs). x.size ≤ FILE_BYTES) (sym f.same) (subst (λ k. IsLength k (length f.file.bytes)) (stored_regular c n a shown regular) (shows.sizes n f.file f.stored))
+    subst (λ (x : Attrs). x.size ≤ FILE_BYTES) (sym f.same)
+    (subst (λ k. IsLength k (length f.file.bytes)) (stored_regular c n a shown regular)
+    (shows.sizes n f.file f.stored))

@@ -20,7 +20,8 @@ pub visible-empty : (f : File) → f.kind ≡ Directory → (visible f).bytes �
 visible-empty f h = subst (λ k. visible_bytes k f.bytes ≡ []) (sym h) refl
 
 -- the store after it
-module _ (c after : Content) (w : World) (shows : Shows c w) (tree : IsTree w.rows) (n : ℕ) (r : Row) (there : map.get w.rows n ≡ Some r)
+module _ (c after : Content) (w : World) (shows : Shows c w) (tree : IsTree w.rows) (n : ℕ) (r : Row)
+    (there : map.get w.rows n ≡ Some r)
     (f file : File) (stored : map.get c n ≡ Some f) (kind : file.kind ≡ f.kind)
     (size : IsLength file.kind (length file.bytes))
     (blocks : f.kind ≡ Directory → file.bytes ≡ f.bytes)
@@ -36,40 +37,64 @@ module _ (c after : Content) (w : World) (shows : Shows c w) (tree : IsTree w.ro
   pub Shows-changed : Shows after (record w { rows = rows_after })
   Shows-changed = record {
     files = λ q. ⊎_elim
-        (λ same. subst (λ k. option_map visible (map.get after k) ≡ option_map (λ (x : Row). x.file) (map.get rows_after k)) (sym same)
-        (ap (option_map visible) written ∙ sym (ap (option_map (λ (x : Row). x.file)) (get-insert_same w.rows n (record r { file = visible file })))))
-        (λ apart. ap (option_map visible) (others q apart) ∙ shows.files q ∙ sym (ap (option_map (λ (x : Row). x.file)) (get-insert_other w.rows n (record r { file = visible file }) q apart)))
+        (λ same. subst (λ k. option_map visible (map.get after k)
+        ≡ option_map (λ (x : Row). x.file) (map.get rows_after k)) (sym same)
+        (ap (option_map visible) written ∙ sym (ap (option_map (λ (x : Row). x.file))
+        (get-insert_same w.rows n (record r { file = visible file })))))
+        (λ apart. ap (option_map visible) (others q apart) ∙ shows.files q
+        ∙ sym (ap (option_map (λ (x : Row). x.file))
+        (get-insert_other w.rows n (record r { file = visible file }) q apart)))
         (cases_eq q n);
-    sizes = each_value c after n file written others (λ q g. IsLength g.kind (length g.bytes)) size (λ q g apart. shows.sizes q g);
+    sizes = each_value c after n file written others (λ q g. IsLength g.kind (length g.bytes)) size
+        (λ q g apart. shows.sizes q g);
     listings = each_value c after n file written others (λ q g. g.kind ≡ Directory → ListsRows rows_after q g.bytes)
         (λ is.
         let was = shows.listings n f stored (sym kind ∙ is) in
         subst (ListsRows rows_after n) (sym (blocks (sym kind ∙ is)))
-        (record { blocks = was.blocks; distinct = was.distinct; names = λ name. was.names name ∙ sym (same_children n name) }))
+        (record {
+          blocks = was.blocks;
+          distinct = was.distinct;
+          names = λ name. was.names name
+              ∙ sym (same_children n name);
+        }))
         (λ q g apart e is.
         let was = shows.listings q g e is in
-        record { blocks = was.blocks; distinct = was.distinct; names = λ name. was.names name ∙ sym (same_children q name) });
+        record {
+          blocks = was.blocks;
+          distinct = was.distinct;
+          names = λ name. was.names name
+              ∙ sym (same_children q name);
+        });
   }
 
 -- the world after the file at a path's end was changed
-module _ (c : Content) (w : World) (shows : Shows c w) (tree : IsTree w.rows) (path : List (List ℕ)) (n : ℕ) (leads : reached w.rows root path ≡ n)
-    (f file : File) (stored : map.get c n ≡ Some f) (kind : file.kind ≡ f.kind) (change : File → File) (seen : visible file ≡ change (visible f)) where
+module _ (c : Content) (w : World) (shows : Shows c w) (tree : IsTree w.rows) (path : List (List ℕ)) (n : ℕ)
+    (leads : reached w.rows root path ≡ n)
+    (f file : File) (stored : map.get c n ≡ Some f) (kind : file.kind ≡ f.kind) (change : File → File)
+    (seen : visible file ≡ change (visible f)) where
   abbrev old : Stored w n f
   old = shown_of c w shows n f stored
 
-  world_after : with_change w path change ≡ record w { rows = map.insert w.rows n (record old.row { file = visible file }) }
+  world_after : with_change w path change ≡ record w {
+    rows =
+        map.insert w.rows n (record old.row { file = visible file });
+  }
   world_after =
       ap (λ m. with_file (map.get w.rows m) m change w) leads
       ∙ ap (λ o. with_file o n change w) old.there
-      ∙ ap (λ (x : File). record w { rows = map.insert w.rows n (record old.row { file = x }) }) (ap change (sym old.same) ∙ sym seen)
+      ∙ ap (λ (x : File). record w { rows = map.insert w.rows n (record old.row { file = x }) })
+      (ap change (sym old.same) ∙ sym seen)
 
   -- it is a tree
   pub change_tree : IsTree (with_change w path change).rows
   change_tree = subst (λ (x : World). IsTree x.rows) (sym world_after)
-      (IsTree-changed w.rows tree n old.row old.there (visible file) (kind ∙ ap (λ (x : File). x.kind) old.same) (visible-empty file))
+      (IsTree-changed w.rows tree n old.row old.there (visible file) (kind ∙ ap (λ (x : File). x.kind) old.same)
+      (visible-empty file))
 
   -- the store that has the changed file shows it
-  pub change_shows : (after : Content) → IsLength file.kind (length file.bytes) → (f.kind ≡ Directory → file.bytes ≡ f.bytes) → map.get after n ≡ Some file → ((q : ℕ) → q ≢ n → map.get after q ≡ map.get c q)
+  pub change_shows : (after : Content) → IsLength file.kind (length file.bytes)
+      → (f.kind ≡ Directory → file.bytes ≡ f.bytes) → map.get after n ≡ Some file
+      → ((q : ℕ) → q ≢ n → map.get after q ≡ map.get c q)
       → Shows after (with_change w path change)
   change_shows after size blocks written others = subst (Shows after) (sym world_after)
       (Shows-changed c after w shows tree n old.row old.there f file stored kind size blocks written others)

@@ -38,22 +38,30 @@ module _ (c : Content) (n : ℕ) (a : Attrs) (shown : Some a ≡ shown_attrs c n
     few_puts = omega arith;
     few_lengths = omega arith;
     few_bytes = omega arith;
-    each = (is_some_and _ (stored c n a shown caller by) (may_have c n a shown caller by regular len fits), (can_set_mode c n a shown caller by mode, tt));
+    each = (
+      is_some_and _ (stored c n a shown caller by) (may_have c n a shown caller by regular len fits),
+      (can_set_mode c n a shown caller by mode, tt),
+    );
   }
 
 -- ---- the world after it
 
 -- the store that has the cut file shows it
-pub cut_volume : {s mid : StoreState} (new : StoreState) (caller : Caller) (path : List (List ℕ)) (same : mid ≡ s) (file : Reached) (leads : InWorld s (λ w. Reaches s.content w.rows caller 0 path (Ok file)))
-    (len : ℕ) → is_directory_kind file.attrs.kind ≡ false → len ≤ FILE_BYTES → ChangesBytes mid.content new.content file.number caller (λ old. resized old len)
+pub cut_volume : {s mid : StoreState} (new : StoreState) (caller : Caller) (path : List (List ℕ)) (same : mid ≡ s)
+    (file : Reached) (leads : InWorld s (λ w. Reaches s.content w.rows caller 0 path (Ok file)))
+    (len : ℕ) → is_directory_kind file.attrs.kind ≡ false → len ≤ FILE_BYTES
+    → ChangesBytes mid.content new.content file.number caller (λ old. resized old len)
     → InWorld s (λ w. IsVolume new (with_change w path (cut caller len)))
 cut_volume {s} {mid} new caller path same file leads len regular fits changes w v =
     let r = leads w v in
     let object = walked-reached w.rows caller 0 0 root path file.number r.0 in
     let old = (shown_file s.content file.number file.attrs r.1).file.bytes in
-    let here = subst (λ (c : Content). ChangesBytes c new.content file.number caller (λ old. resized old len)) (same_content same) changes in
+    let here = subst (λ (c : Content). ChangesBytes c new.content file.number caller (λ old. resized old len))
+    (same_content same) changes in
     let short : length (resized old len) ≤ FILE_BYTES = rw (length-resized old len) fits in
     record {
-      shows = bytes_shows s.content w v.shows path file.number file.attrs object r.1 regular new.content v.tree caller _ here (cut caller len) refl short;
-      tree = bytes_tree s.content w v.shows path file.number file.attrs object r.1 regular new.content v.tree caller _ here (cut caller len) refl short;
+      shows = bytes_shows s.content w v.shows path file.number file.attrs object r.1 regular new.content v.tree caller _
+          here (cut caller len) refl short;
+      tree = bytes_tree s.content w v.shows path file.number file.attrs object r.1 regular new.content v.tree caller _
+          here (cut caller len) refl short;
     }

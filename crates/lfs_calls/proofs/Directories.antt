@@ -15,7 +15,8 @@ use Rattle.lfs_types.proofs.Somewhere.{is_some_and, present}
 use Rattle.lfs_types.specs.declared.limits.TheConstants.{FILE_BYTES}
 use Rattle.lfs_calls.proofs.StepLemmas.{ShownFile, shown_file, stored_directory}
 
-module _ {c : Content} {w : World} (shows : Shows c w) (n : ℕ) (a : Attrs) (shown : Some a ≡ shown_attrs c n) (directory : is_directory_kind a.kind ≡ true) where
+module _ {c : Content} {w : World} (shows : Shows c w) (n : ℕ) (a : Attrs) (shown : Some a ≡ shown_attrs c n)
+    (directory : is_directory_kind a.kind ≡ true) where
   -- the stored file
   abbrev pub dir_file : ShownFile c n a
   dir_file = shown_file c n a shown
@@ -30,7 +31,8 @@ module _ {c : Content} {w : World} (shows : Shows c w) (n : ℕ) (a : Attrs) (sh
 
   -- it has a length that a directory may have
   pub file_length : IsLength Directory (length dir_file.file.bytes)
-  file_length = subst (λ k. IsLength k (length dir_file.file.bytes)) file_kind (shows.sizes n dir_file.file dir_file.stored)
+  file_length = subst (λ k. IsLength k (length dir_file.file.bytes)) file_kind
+      (shows.sizes n dir_file.file dir_file.stored)
 
   -- its bytes are those of its number
   pub file_bytes : bytes_of c n ≡ dir_file.file.bytes
@@ -66,4 +68,9 @@ module _ {c : Content} {w : World} (shows : Shows c w) (n : ℕ) (a : Attrs) (sh
 
   -- it lists a name whose number it has
   pub lists_name : (name : List ℕ) → IsSome (number_in name (all_entries (bytes_of c n))) → ListsName c n a.size name
-  lists_name name found = record { stored = dir_stored; bounded = size_bounded; blocks = bytes_listing.blocks; listed = found }
+  lists_name name found = record {
+    stored = dir_stored;
+    bounded = size_bounded;
+    blocks = bytes_listing.blocks;
+    listed = found;
+  }

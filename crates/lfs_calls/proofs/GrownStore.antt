@@ -20,7 +20,8 @@ empty_length : (k : Kind) → IsLength k 0
 empty_length Regular = omega arith
 empty_length Directory = (omega arith, omega arith)
 
-module _ (c after : Content) (w : World) (shows : Shows c w) (tree : IsTree w.rows) (n : ℕ) (row : Row) (f : File) (bytes : List ℕ)
+module _ (c after : Content) (w : World) (shows : Shows c w) (tree : IsTree w.rows) (n : ℕ) (row : Row) (f : File)
+    (bytes : List ℕ)
     (absent : map.get w.rows n ≡ None) (below : n ≡ root → ⊥)
     (free : child w.rows row.parent row.name ≡ None)
     (stored : map.get c row.parent ≡ Some f) (directory : f.kind ≡ Directory)
@@ -43,17 +44,22 @@ module _ (c after : Content) (w : World) (shows : Shows c w) (tree : IsTree w.ro
 
   files_after : (q : ℕ) → option_map visible (map.get after q) ≡ option_map (λ (r : Row). r.file) (map.get grown q)
   files_after = at_each (λ q. option_map visible (map.get after q) ≡ option_map (λ (r : Row). r.file) (map.get grown q))
-      (ap (option_map visible) made ∙ ap Some (visible-none row.file empty) ∙ sym (ap (option_map (λ (r : Row). r.file)) (get-insert_same w.rows n row)))
-      (ap (option_map visible) written ∙ ap Some (visible-directory f bytes directory) ∙ sym (ap (option_map visible) stored) ∙ shows.files row.parent
+      (ap (option_map visible) made ∙ ap Some (visible-none row.file empty)
+      ∙ sym (ap (option_map (λ (r : Row). r.file)) (get-insert_same w.rows n row)))
+      (ap (option_map visible) written ∙ ap Some (visible-directory f bytes directory)
+      ∙ sym (ap (option_map visible) stored) ∙ shows.files row.parent
       ∙ sym (ap (option_map (λ (r : Row). r.file)) (get-insert_other w.rows n row row.parent unlike)))
-      (λ q apart away. ap (option_map visible) (others q apart away) ∙ shows.files q ∙ sym (ap (option_map (λ (r : Row). r.file)) (get-insert_other w.rows n row q apart)))
+      (λ q apart away. ap (option_map visible) (others q apart away) ∙ shows.files q
+      ∙ sym (ap (option_map (λ (r : Row). r.file)) (get-insert_other w.rows n row q apart)))
 
   sizes_after : (q : ℕ) (g : File) → map.get after q ≡ Some g → IsLength g.kind (length g.bytes)
   sizes_after = at_each (λ q. (g : File) → map.get after q ≡ Some g → IsLength g.kind (length g.bytes))
       (λ g e. let same : row.file ≡ g = cc in
-      subst (λ (x : File). IsLength x.kind (length x.bytes)) same (subst (λ bs. IsLength row.file.kind (length bs)) (sym empty) (empty_length row.file.kind)))
+      subst (λ (x : File). IsLength x.kind (length x.bytes)) same
+      (subst (λ bs. IsLength row.file.kind (length bs)) (sym empty) (empty_length row.file.kind)))
       (λ g e. let same : record f { bytes = bytes } ≡ g = cc in
-      subst (λ (x : File). IsLength x.kind (length x.bytes)) same (subst (λ k. IsLength k (length bytes)) (sym directory) size))
+      subst (λ (x : File). IsLength x.kind (length x.bytes)) same
+      (subst (λ k. IsLength k (length bytes)) (sym directory) size))
       (λ q apart away g e. shows.sizes q g (sym (others q apart away) ∙ e))
 
   -- nothing hangs in the new row
@@ -75,13 +81,15 @@ module _ (c after : Content) (w : World) (shows : Shows c w) (tree : IsTree w.ro
   listings_after : (q : ℕ) (g : File) → map.get after q ≡ Some g → g.kind ≡ Directory → ListsRows grown q g.bytes
   listings_after = at_each (λ q. (g : File) → map.get after q ≡ Some g → g.kind ≡ Directory → ListsRows grown q g.bytes)
       (λ g e _. let same : row.file ≡ g = cc in lists_nothing g.bytes (sym (ap (λ (x : File). x.bytes) same) ∙ empty))
-      (λ g e _. let same : record f { bytes = bytes } ≡ g = cc in subst (λ (x : File). ListsRows grown row.parent x.bytes) same listing)
+      (λ g e _. let same : record f { bytes = bytes }
+      ≡ g = cc in subst (λ (x : File). ListsRows grown row.parent x.bytes) same listing)
       (λ q apart away g e kind.
       let was = shows.listings q g (sym (others q apart away) ∙ e) kind in
       record {
         blocks = was.blocks;
         distinct = was.distinct;
-        names = λ name. was.names name ∙ sym (child-new_other w.rows n row absent below free tree.unique q name (λ h _. away (sym h)));
+        names = λ name. was.names name ∙ sym (child-new_other w.rows n row absent below free tree.unique q name
+            (λ h _. away (sym h)));
       })
 
   -- the store shows the world with the new row

@@ -1,5 +1,6 @@
 -- What a call that makes a row may be answered, and what it leaves.
-use Rattle.std.proofs.Common.{◌≡◌, ◌≢◌, ℕ, zero, suc, ◌+◌, ◌-◌, ◌%◌, ◌<◌, ◌≤◌, ◌==◌, true, false, List, [], ◌∷◌, ◌++◌, length, Option, None, Some, Ok, Err, refl, sym, ap, subst, ◌∙◌, ⊎_elim, arith}
+use Rattle.std.proofs.Common.{◌≡◌, ◌≢◌, ℕ, zero, suc, ◌+◌, ◌-◌, ◌%◌, ◌<◌, ◌≤◌, ◌==◌, true, false, List, [], ◌∷◌, ◌++◌}
+use Rattle.std.proofs.Common.{length, Option, None, Some, Ok, Err, refl, sym, ap, subst, ◌∙◌, ⊎_elim, arith}
 use Rattle.std.specs.Prelude.{not, is_some, is_none, IsSome}
 use Rattle.std.specs.Borrow.{Bor}
 use Rattle.std.proofs.lemmas.Bool.{cond-true, cond-false, ne_eqb, cases_Bool, cases_eq}
@@ -56,30 +57,39 @@ in_parent rows caller parents name =
     making_tests caller (is_none (child rows dir name)) (attrs_at rows dir) (length parents)
 
 -- no name may be given to the root
-pub make_root : (rows : Rows) (caller : Caller) (names : List (List ℕ)) → length names ≡ 0 → first_failing (making rows caller names) ≡ Some (record { rule = NameFree; path = 0; at = 0 })
+pub make_root : (rows : Rows) (caller : Caller) (names : List (List ℕ)) → length names ≡ 0
+    → first_failing (making rows caller names) ≡ Some (record { rule = NameFree; path = 0; at = 0 })
 make_root rows caller [] h = refl
 make_root rows caller (x ∷ xs) h = absurd (omega arith)
 
 -- a path of names before the last, and a last
-making_in : (rows : Rows) (caller : Caller) (names parents : List (List ℕ)) (name : List ℕ) → names ≡ parents ++ name ∷ [] → (length names == 0) ≡ false
-    → first_failing (making rows caller names) ≡ first_failing (walk rows caller 0 0 root parents ++ in_parent rows caller parents name)
+making_in : (rows : Rows) (caller : Caller) (names parents : List (List ℕ)) (name : List ℕ) → names ≡ parents ++ name
+    ∷ [] → (length names == 0) ≡ false
+    → first_failing (making rows caller names)
+    ≡ first_failing (walk rows caller 0 0 root parents ++ in_parent rows caller parents name)
 making_in rows caller names parents name e some =
     cond-true _ _ _ (ap not some)
     ∙ ap (λ ys. first_failing (walk rows caller 0 0 root (front ys) ++ in_parent rows caller (front ys) (last ys))) e
-    ∙ ap (λ ps. first_failing (walk rows caller 0 0 root ps ++ in_parent rows caller ps (last (parents ++ name ∷ [])))) (front-last parents name)
-    ∙ ap (λ n. first_failing (walk rows caller 0 0 root parents ++ in_parent rows caller parents n)) (last-last parents name)
+    ∙ ap (λ ps. first_failing (walk rows caller 0 0 root ps ++ in_parent rows caller ps (last (parents ++ name ∷ []))))
+    (front-last parents name)
+    ∙ ap (λ n. first_failing (walk rows caller 0 0 root parents ++ in_parent rows caller parents n))
+    (last-last parents name)
 
-module _ (rows : Rows) (caller : Caller) (names parents : List (List ℕ)) (name : List ℕ) (e : names ≡ parents ++ name ∷ []) (count : length parents + 1 ≡ length names) where
+module _ (rows : Rows) (caller : Caller) (names parents : List (List ℕ)) (name : List ℕ) (e : names ≡ parents ++ name
+    ∷ []) (count : length parents + 1 ≡ length names) where
   -- the tests are those of the walk to the directory, and those behind it
-  pub to_walk : first_failing (making rows caller names) ≡ first_failing (walk rows caller 0 0 root parents ++ in_parent rows caller parents name)
+  pub to_walk : first_failing (making rows caller names)
+      ≡ first_failing (walk rows caller 0 0 root parents ++ in_parent rows caller parents name)
   to_walk = making_in rows caller names parents name e (ne_eqb (length names) 0 (λ z. absurd (omega arith)))
 
   -- where the walk is denied, the call is
-  pub make_denied : (denial : Denial) → walked rows caller 0 0 root parents ≡ Err denial → first_failing (making rows caller names) ≡ Some denial
+  pub make_denied : (denial : Denial) → walked rows caller 0 0 root parents ≡ Err denial
+      → first_failing (making rows caller names) ≡ Some denial
   make_denied denial h = to_walk ∙ walk_denied rows caller 0 parents _ denial h
 
 -- the directory to which the names before the last of a path lead
-pub record Way (c : Content) (w : World) (caller : Caller) (path : ℕ) (names parents : List (List ℕ)) (name : List ℕ) (n : ℕ) (a : Attrs) : Type 0 where
+pub record Way (c : Content) (w : World) (caller : Caller) (path : ℕ) (names parents : List (List ℕ)) (name : List ℕ)
+    (n : ℕ) (a : Attrs) : Type 0 where
   pub shows : Shows c w
   pub names_are : names ≡ parents ++ name ∷ []
   pub count : length parents + 1 ≡ length names
@@ -90,30 +100,37 @@ not_there : (o : Option ℕ) → is_none o ≡ true → o ≡ None
 not_there None h = refl
 not_there (Some n) h = absurd (cc)
 
-module _ {c : Content} {w : World} {caller : Caller} {path : ℕ} {names parents : List (List ℕ)} {name : List ℕ} {n : ℕ} {a : Attrs} (way : Way c w caller path names parents name n a) where
+module _ {c : Content} {w : World} {caller : Caller} {path : ℕ} {names parents : List (List ℕ)} {name : List ℕ} {n : ℕ}
+    {a : Attrs} (way : Way c w caller path names parents name n a) where
   parent_is : reached w.rows root parents ≡ n
   parent_is = walked-reached w.rows caller path 0 root parents n way.leads
 
   -- the names before the last lead to the directory
   pub make_object : reached w.rows root (front names) ≡ n
-  make_object = ap (λ ys. reached w.rows root (front ys)) way.names_are ∙ ap (reached w.rows root) (front-last parents name) ∙ parent_is
+  make_object = ap (λ ys. reached w.rows root (front ys)) way.names_are
+      ∙ ap (reached w.rows root) (front-last parents name) ∙ parent_is
 
   -- the last name of the path
   pub last_is : last names ≡ name
   last_is = last_of names parents name way.names_are
 
-module _ {c : Content} {w : World} {caller : Caller} {names parents : List (List ℕ)} {name : List ℕ} {n : ℕ} {a : Attrs} (way : Way c w caller 0 names parents name n a) where
+module _ {c : Content} {w : World} {caller : Caller} {names parents : List (List ℕ)} {name : List ℕ} {n : ℕ} {a : Attrs}
+    (way : Way c w caller 0 names parents name n a) where
   -- the tests of the directory decide
-  pub to_tests : (at : ℕ) → at ≡ length parents → first_failing (making w.rows caller names) ≡ first_failing (making_tests caller (is_none (child w.rows n name)) a at)
+  pub to_tests : (at : ℕ) → at ≡ length parents → first_failing (making w.rows caller names)
+      ≡ first_failing (making_tests caller (is_none (child w.rows n name)) a at)
   to_tests at same =
       to_walk w.rows caller names parents name way.names_are way.count
       ∙ walk_passed w.rows caller 0 parents _ n way.leads
-      ∙ ap (λ m. first_failing (making_tests caller (is_none (child w.rows m name)) (attrs_at w.rows m) (length parents))) (parent_is way)
-      ∙ ap (λ x. first_failing (making_tests caller (is_none (child w.rows n name)) x (length parents))) (attrs_reads c w way.shows n a way.shown)
+      ∙ ap (λ m. first_failing (making_tests caller (is_none (child w.rows m name)) (attrs_at w.rows m)
+      (length parents))) (parent_is way)
+      ∙ ap (λ x. first_failing (making_tests caller (is_none (child w.rows n name)) x (length parents)))
+      (attrs_reads c w way.shows n a way.shown)
       ∙ ap (λ k. first_failing (making_tests caller (is_none (child w.rows n name)) a k)) (sym same)
 
   -- where they are met, the directory may list the name
-  pub parent_is_free : is_directory_kind a.kind ≡ true → is_none (child w.rows n name) ≡ true → IsParent c w.rows names (record { number = n; attrs = a })
+  pub parent_is_free : is_directory_kind a.kind ≡ true → is_none (child w.rows n name) ≡ true
+      → IsParent c w.rows names (record { number = n; attrs = a })
   parent_is_free directory free = record {
     some = let count = way.count in omega (arith, count);
     object = make_object way;
@@ -124,7 +141,8 @@ module _ {c : Content} {w : World} {caller : Caller} {names parents : List (List
 
 -- ---- what the store is asked
 
-module _ (c : Content) (number : ℕ) (attrs : Attrs) (dir off : ℕ) (block : List ℕ) (f : File) (unused : map.get c number ≡ None) (stored : map.get c dir ≡ Some f) where
+module _ (c : Content) (number : ℕ) (attrs : Attrs) (dir off : ℕ) (block : List ℕ) (f : File) (unused : map.get c number
+    ≡ None) (stored : map.get c dir ≡ Some f) where
   abbrev made_file : File
   made_file = file_of attrs []
 
@@ -150,43 +168,59 @@ module _ (c : Content) (number : ℕ) (attrs : Attrs) (dir off : ℕ) (block : L
   -- it has the new file and the block, and is otherwise what it was
   pub makes_file : (new : Content) → new ≡ after_changes → MakesFile c new number made_file dir off block
   makes_file new is = record {
-    made = ap (λ x. map.get x number) (is ∙ after) ∙ get-insert_other made dir put_dir number (λ same. apart (sym same)) ∙ get-insert_same c number made_file;
+    made = ap (λ x. map.get x number) (is ∙ after) ∙ get-insert_other made dir put_dir number (λ same. apart (sym same))
+        ∙ get-insert_same c number made_file;
     listed = λ g e.
         let same : f ≡ g = cc in
-        subst (λ (x : File). map.get new dir ≡ Some (record x { bytes = splice x.bytes off block })) same (ap (λ x. map.get x dir) (is ∙ after) ∙ get-insert_same made dir put_dir);
-    others = λ q a b. ap (λ x. map.get x q) (is ∙ after) ∙ get-insert_other made dir put_dir q b ∙ get-insert_other c number made_file q a;
+        subst (λ (x : File). map.get new dir ≡ Some (record x { bytes = splice x.bytes off block })) same
+        (ap (λ x. map.get x dir) (is ∙ after) ∙ get-insert_same made dir put_dir);
+    others = λ q a b. ap (λ x. map.get x q) (is ∙ after) ∙ get-insert_other made dir put_dir q b
+        ∙ get-insert_other c number made_file q a;
   }
 
   -- a store may be asked for it
-  pub can_make : (numbers : ℕ) (pointed : Bor (List ℕ)) → pointed.now ≡ block → 4 ≤ number → number < numbers → length block ≡ 512 → IsLength f.kind (length (splice f.bytes off block)) → CanApply numbers (Make number attrs ∷ Put dir off pointed ∷ []) c
+  pub can_make : (numbers : ℕ) (pointed : Bor (List ℕ)) → pointed.now ≡ block → 4 ≤ number → number < numbers
+      → length block ≡ 512 → IsLength f.kind (length (splice f.bytes off block))
+      → CanApply numbers (Make number attrs ∷ Put dir off pointed ∷ []) c
   can_make numbers pointed same low high size long = record {
     few = omega arith;
     few_puts = omega arith;
     few_lengths = omega arith;
     few_bytes = let n = ap (λ (bs : List ℕ). length bs) same in omega arith;
-    each = ((low, high, unused), (is_some_and _ there (subst (λ bs. IsLength f.kind (length (splice f.bytes off bs))) (sym same) long), tt));
+    each = (
+      (low, high, unused),
+      (
+        is_some_and _ there
+            (subst (λ bs. IsLength f.kind (length (splice f.bytes off bs))) (sym same) long),
+        tt,
+      ),
+    );
   }
 
 -- ---- numbers
 
 -- the number that is found is the least unused one
-pub least_unused-is : (rows : Rows) (count n m : ℕ) → n ≤ m → m ≤ n + count → map.get rows m ≡ None → ((k : ℕ) → n ≤ k → k < m → IsSome (map.get rows k)) → least_unused rows count n ≡ m
+pub least_unused-is : (rows : Rows) (count n m : ℕ) → n ≤ m → m ≤ n + count → map.get rows m ≡ None
+    → ((k : ℕ) → n ≤ k → k < m → IsSome (map.get rows k)) → least_unused rows count n ≡ m
 unfolding least_unused
 least_unused-is rows zero n m low high free used = omega arith
 least_unused-is rows (suc count) n m low high free used = ⊎_elim
-    (λ t. cond-true _ _ _ t ∙ least_unused-is rows count (n + 1) m (above t) (omega arith) free (λ k h. used k (omega arith)))
+    (λ t. cond-true _ _ _ t ∙ least_unused-is rows count (n + 1) m (above t) (omega arith) free
+    (λ k h. used k (omega arith)))
     (λ t. cond-false _ _ _ t ∙ at_end t)
     (cases_Bool (is_some (map.get rows n))) where
       above : is_some (map.get rows n) ≡ true → n + 1 ≤ m
       above t = ⊎_elim
-          (λ e. let none : is_some (map.get rows n) ≡ false = ap (λ k. is_some (map.get rows k)) e ∙ ap is_some free in absurd (cc))
+          (λ e. let none : is_some (map.get rows n) ≡ false = ap (λ k. is_some (map.get rows k)) e
+          ∙ ap is_some free in absurd (cc))
           (λ (apart : n ≢ m). omega arith)
           (cases_eq n m)
 
       at_end : is_some (map.get rows n) ≡ false → n ≡ m
       at_end t = ⊎_elim
           (λ e. e)
-          (λ (apart : n ≢ m). let some : is_some (map.get rows n) ≡ true = used n (omega arith) (omega arith) in absurd (cc))
+          (λ (apart : n ≢ m). let some : is_some (map.get rows n)
+          ≡ true = used n (omega arith) (omega arith) in absurd (cc))
           (cases_eq n m)
 
 -- where the store has no number left, the tree has none
@@ -196,9 +230,11 @@ all_used c w shows numbers used n low high =
     present (shown_of c w shows n f.value f.is).there
 
 -- a directory with a block written has a length that it may have
-pub grown_length : (k : Kind) (bytes : List ℕ) (off : ℕ) (block : List ℕ) → k ≡ Directory → length bytes % 512 ≡ 0 → off ≤ length bytes → off % 512 ≡ 0 → off < FILE_BYTES → length block ≡ 512 → length bytes ≤ FILE_BYTES
+pub grown_length : (k : Kind) (bytes : List ℕ) (off : ℕ) (block : List ℕ) → k ≡ Directory → length bytes % 512 ≡ 0
+    → off ≤ length bytes → off % 512 ≡ 0 → off < FILE_BYTES → length block ≡ 512 → length bytes ≤ FILE_BYTES
     → IsLength k (length (splice bytes off block))
 grown_length k bytes off block kind whole within aligned fits size bounded =
     let is : length (splice bytes off block) ≡ off + length block + (length bytes - (off + length block)) =
-    ap (λ (bs : List ℕ). length bs) (splice-put_over bytes off block (omega arith) within) ∙ length-put_over bytes off block within in
+    ap (λ (bs : List ℕ). length bs) (splice-put_over bytes off block (omega arith) within)
+    ∙ length-put_over bytes off block within in
     subst (λ x. IsLength x (length (splice bytes off block))) (sym kind) (omega arith, omega arith)

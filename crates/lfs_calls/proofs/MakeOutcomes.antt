@@ -30,12 +30,14 @@ make_changing path mode Regular = tt
 make_changing path mode Directory = tt
 
 -- it leaves the entries where its kinds do
-pub make_entries : (old new : Content) (rows : Rows) (path : List (List ℕ)) (mode : ℕ) (kind : Kind) → EntersFirst old new rows path → LeavesEntries (request_for kind path mode) old new rows
+pub make_entries : (old new : Content) (rows : Rows) (path : List (List ℕ)) (mode : ℕ) (kind : Kind)
+    → EntersFirst old new rows path → LeavesEntries (request_for kind path mode) old new rows
 make_entries old new rows path mode Regular enters = enters
 make_entries old new rows path mode Directory enters = enters
 
 -- and does not look alone
-pub make_looks : (old new : StoreState) (path : List (List ℕ)) (mode : ℕ) (kind : Kind) → LooksOn (request_for kind path mode) old new
+pub make_looks : (old new : StoreState) (path : List (List ℕ)) (mode : ℕ) (kind : Kind)
+    → LooksOn (request_for kind path mode) old new
 make_looks old new path mode Regular = tt
 make_looks old new path mode Directory = tt
 
@@ -44,12 +46,14 @@ module _ (s : StoreState) (w : World) (caller : Caller) (path : List (List ℕ))
   may_be kind answer = IsOutcome s w caller (request_for kind path mode) answer
 
   -- a call that the rules deny
-  pub make_denial : (kind : Kind) (denial : Denial) → first_failing (making w.rows caller path) ≡ Some denial → may_be kind (Denied denial)
+  pub make_denial : (kind : Kind) (denial : Denial) → first_failing (making w.rows caller path) ≡ Some denial
+      → may_be kind (Denied denial)
   make_denial Regular denial h = h
   make_denial Directory denial h = h
 
   -- the world after one that is served
-  pub make_after : (kind : Kind) → after_answer s.shape.numbers w caller (request_for kind path mode) (Served Done) ≡ with_new s.shape.numbers w caller path kind mode
+  pub make_after : (kind : Kind) → after_answer s.shape.numbers w caller (request_for kind path mode) (Served Done)
+      ≡ with_new s.shape.numbers w caller path kind mode
   make_after Regular = refl
   make_after Directory = refl
 
@@ -61,7 +65,8 @@ module _ (s : StoreState) (w : World) (caller : Caller) (path : List (List ℕ))
 
     module _ (numbered : AllUsed s.shape.numbers w.rows → ⊥) where
       -- a call in a directory that is full
-      pub make_full : (kind : Kind) → FILE_BLOCKS ≤ length (children w.rows (reached w.rows root (front path))) → FitsNowhere (bytes_of s.content (reached w.rows root (front path))) None (last path)
+      pub make_full : (kind : Kind) → FILE_BLOCKS ≤ length (children w.rows (reached w.rows root (front path)))
+          → FitsNowhere (bytes_of s.content (reached w.rows root (front path))) None (last path)
           → may_be kind (Refused DirectoryFull)
       make_full Regular crowded full = ((allowed, (numbered, crowded)), full)
       make_full Directory crowded full = ((allowed, (numbered, crowded)), full)
@@ -73,6 +78,9 @@ module _ (s : StoreState) (w : World) (caller : Caller) (path : List (List ℕ))
         make_done Directory = ((allowed, numbered, refl), roomy)
 
         -- a call whose changes the store refused
-        pub make_refused : (kind : Kind) (refusal : StoreRefusal) → MayRefuse s.clean s.shape.can_lack_memory refusal → may_be kind (Refused (resource_of refusal))
-        make_refused Regular refusal may = refused_outcome s w caller (request_for Regular path mode) refusal may allowed numbered tt roomy
-        make_refused Directory refusal may = refused_outcome s w caller (request_for Directory path mode) refusal may allowed numbered tt roomy
+        pub make_refused : (kind : Kind) (refusal : StoreRefusal) → MayRefuse s.clean s.shape.can_lack_memory refusal
+            → may_be kind (Refused (resource_of refusal))
+        make_refused Regular refusal may = refused_outcome s w caller
+            (request_for Regular path mode) refusal may allowed numbered tt roomy
+        make_refused Directory refusal may = refused_outcome s w caller
+            (request_for Directory path mode) refusal may allowed numbered tt roomy

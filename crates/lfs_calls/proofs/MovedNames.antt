@@ -28,7 +28,8 @@ use Rattle.lfs_calls.proofs.SwappedStore.{Shows-swapped}
 some_same : {a b : ℕ} → Some a ≡ Some b → a ≡ b
 some_same e = cc
 
-module _ {c : Content} {w : World} (shows : Shows c w) (tree : IsTree w.rows) {move : Move} {old : List ℕ} (leaves : Leaves c w.rows move old) where
+module _ {c : Content} {w : World} (shows : Shows c w) (tree : IsTree w.rows) {move : Move} {old : List ℕ}
+    (leaves : Leaves c w.rows move old) where
   abbrev p : ℕ
   p = move.removal.dir.number
 
@@ -56,7 +57,8 @@ module _ {c : Content} {w : World} (shows : Shows c w) (tree : IsTree w.rows) {m
 
   -- ---- to a place that was free
 
-  module _ {new : List ℕ} (free : child w.rows q new ≡ None) {places : Places} (found : ArePlaces c move old new places) (after : Content) (writes : WritesBlocks c after p places.taken q places.room) where
+  module _ {new : List ℕ} (free : child w.rows q new ≡ None) {places : Places} (found : ArePlaces c move old new places)
+      (after : Content) (writes : WritesBlocks c after p places.taken q places.room) where
     abbrev rows_free : Rows
     rows_free = map.insert w.rows n (row new)
 
@@ -65,11 +67,15 @@ module _ {c : Content} {w : World} (shows : Shows c w) (tree : IsTree w.rows) {m
     shows_free =
         let d = f shows tree leaves in
         let e = g shows tree leaves found.taking.1 in
-        Shows-moved c w shows tree n p old (hung shows tree leaves) d.file d.stored (kind_old shows tree leaves found.taking.1) places.taken found.taking.0 (at_file shows tree leaves found.taking.1)
-        q new free e.value e.is e.holds places.room found.room.0 (subst (λ o. IsRoom (bytes_of_file o) n new places.room found.room.0) e.is found.room.1)
+        Shows-moved c w shows tree n p old (hung shows tree leaves) d.file d.stored
+        (kind_old shows tree leaves found.taking.1) places.taken found.taking.0
+        (at_file shows tree leaves found.taking.1)
+        q new free e.value e.is e.holds places.room found.room.0
+        (subst (λ o. IsRoom (bytes_of_file o) n new places.room found.room.0) e.is found.room.1)
         after writes
 
-    files_free : (d : ℕ) → option_map (λ (r : Row). r.file) (map.get rows_free d) ≡ option_map (λ (r : Row). r.file) (map.get w.rows d)
+    files_free : (d : ℕ) → option_map (λ (r : Row). r.file) (map.get rows_free d)
+        ≡ option_map (λ (r : Row). r.file) (map.get w.rows d)
     files_free = same_files w n (hung shows tree leaves).row (hung shows tree leaves).there q new
 
     -- it lists the row under its new name, no more under the old one, and otherwise what it listed
@@ -82,28 +88,40 @@ module _ {c : Content} {w : World} (shows : Shows c w) (tree : IsTree w.rows) {m
           keeps = λ d x found from to. found_still c after w moved shows shows_free d (files_free d) x found
               (child-moved_other w.rows n (row new) hangs.below tree.unique free d x (λ e f. to (sym e) (sym f))
               ∙ child-left_elsewhere w.rows n tree.unique p old hangs d x from);
-          loses = found_now c after w moved shows shows_free p old None (directory_still c after w moved shows shows_free p (files_free p) out)
+          loses = found_now c after w moved shows shows_free p old None
+              (directory_still c after w moved shows shows_free p (files_free p) out)
               (child-moved_other w.rows n (row new) hangs.below tree.unique free p old
-              (λ e f. (let taken = ap (λ k. child w.rows k old) e ∙ hangs_is in let open_place = ap (child w.rows q) (sym f) ∙ free in absurd (cc)))
+              (λ e f. (let taken = ap (λ k. child w.rows k old) e
+              ∙ hangs_is in let open_place = ap (child w.rows q) (sym f) ∙ free in absurd (cc)))
               ∙ none);
-          gives = found_now c after w moved shows shows_free q new (Some n) (directory_still c after w moved shows shows_free q (files_free q) into) (child-moved w.rows n (row new) hangs.below tree.unique free);
+          gives = found_now c after w moved shows shows_free q new (Some n)
+              (directory_still c after w moved shows shows_free q (files_free q) into)
+              (child-moved w.rows n (row new) hangs.below tree.unique free);
         }
 
   -- ---- to that of another row
 
-  module _ {new : List ℕ} (m : ℕ) (there : child w.rows q new ≡ Some m) (apart : m ≢ n) {places : Places} (found : AreSwapped c move old new places) (after : Content)
+  module _ {new : List ℕ} (m : ℕ) (there : child w.rows q new ≡ Some m) (apart : m ≢ n) {places : Places}
+      (found : AreSwapped c move old new places) (after : Content)
       (writes : SwapsBlocks c after p places.taken q places.room m) where
     abbrev rows_over : Rows
-    rows_over = swapped w.rows tree.unique n m p q old new apart (hung shows tree leaves) (child-is w.rows q new m there)
+    rows_over = swapped w.rows tree.unique n m p q old new apart (hung shows tree leaves)
+        (child-is w.rows q new m there)
 
     -- the store shows the world with the moved row in the other's place
-    pub shows_over : Shows after (record w { rows = swapped w.rows tree.unique n m p q old new apart (hung shows tree leaves) (child-is w.rows q new m there) })
+    pub shows_over : Shows after (record w {
+      rows =
+          swapped w.rows tree.unique n m p q old new apart (hung shows tree leaves) (child-is w.rows q new m there);
+    })
     shows_over =
         let d = f shows tree leaves in
         let e = g shows tree leaves found.taking.1 in
-        Shows-swapped c w shows tree n p old (hung shows tree leaves) d.file d.stored (kind_old shows tree leaves found.taking.1) places.taken found.taking.0 (at_file shows tree leaves found.taking.1)
+        Shows-swapped c w shows tree n p old (hung shows tree leaves) d.file d.stored
+        (kind_old shows tree leaves found.taking.1) places.taken found.taking.0
+        (at_file shows tree leaves found.taking.1)
         q new m (child-is w.rows q new m there) apart (above shows tree leaves) (small shows tree leaves)
-        e.value e.is e.holds places.room found.swap.0 (subst (λ o. IsSwap (bytes_of_file o) new n places.room found.swap.0) e.is found.swap.1)
+        e.value e.is e.holds places.room found.swap.0
+        (subst (λ o. IsSwap (bytes_of_file o) new n places.room found.swap.0) e.is found.swap.1)
         after writes
 
     -- it lists the row under the other's name, no more under its old one, and otherwise what it listed
@@ -115,17 +133,22 @@ module _ {c : Content} {w : World} (shows : Shows c w) (tree : IsTree w.rows) {m
         let files = swapped_files w.rows tree.unique n m p q old new apart hangs other in
         let gone : map.get after m ≡ None = writes m ∙ get-remove_same _ m in
         let holds : q ≢ m = not_in_itself w.rows tree q new m other in
-        let held : p ≢ m = λ e. (let none = childless old in let some = ap (λ k. child w.rows k old) (sym e) ∙ hangs_is in absurd (cc)) in
+        let held : p ≢ m = λ e. (let none = childless old in let some = ap (λ k. child w.rows k old) (sym e)
+        ∙ hangs_is in absurd (cc)) in
         record {
           keeps = λ d x found from to was. ⊎_elim
-              (λ e. found_gone c after w shows d (λ y. ap (λ k. child w.rows k y) e ∙ childless y) (ap (map.get after) e ∙ gone) x found was)
+              (λ e. found_gone c after w shows d (λ y. ap (λ k. child w.rows k y) e ∙ childless y) (ap (map.get after) e
+              ∙ gone) x found was)
               (λ left. found_still c after w moved shows shows_over d (files d left) x found
               (child-swapped_other w.rows tree.unique n m p q old new apart hangs other d x (λ e f. to (sym e) (sym f))
               ∙ child-left_elsewhere w.rows n tree.unique p old hangs d x from) was)
               (cases_eq d m);
-          loses = found_now c after w moved shows shows_over p old None (directory_still c after w moved shows shows_over p (files p held) out)
+          loses = found_now c after w moved shows shows_over p old None
+              (directory_still c after w moved shows shows_over p (files p held) out)
               (child-swapped_other w.rows tree.unique n m p q old new apart hangs other p old
               (λ e f. apart (some_same (sym there ∙ ap (child w.rows q) f ∙ ap (λ k. child w.rows k old) e ∙ hangs_is)))
               ∙ child-removed w.rows n tree.unique p old hangs);
-          gives = found_now c after w moved shows shows_over q new (Some n) (directory_still c after w moved shows shows_over q (files q holds) into) (child-swapped w.rows tree.unique n m p q old new apart hangs other);
+          gives = found_now c after w moved shows shows_over q new (Some n)
+              (directory_still c after w moved shows shows_over q (files q holds) into)
+              (child-swapped w.rows tree.unique n m p q old new apart hangs other);
         }

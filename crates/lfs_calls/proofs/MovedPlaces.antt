@@ -1,5 +1,6 @@
 -- The blocks in which a moved row's names are looked for.
-use Rattle.std.proofs.Common.{◌≡◌, ◌≢◌, ℕ, ◌+◌, ◌*◌, ◌/◌, ◌^◌, ◌<◌, ◌==◌, List, [], ◌∷◌, length, take, drop, Option, None, Some, sym, ap, subst, ◌∙◌, ⊎_elim, arith}
+use Rattle.std.proofs.Common.{◌≡◌, ◌≢◌, ℕ, ◌+◌, ◌*◌, ◌/◌, ◌^◌, ◌<◌, ◌==◌, List, [], ◌∷◌, length, take, drop, Option}
+use Rattle.std.proofs.Common.{None, Some, sym, ap, subst, ◌∙◌, ⊎_elim, arith}
 use Rattle.std.specs.Prelude.{IsSomeAnd}
 use Rattle.std.specs.Bool.{then_some}
 use Rattle.std.specs.Borrow.{Bor}
@@ -32,7 +33,8 @@ use Rattle.lfs_calls.proofs.StepLemmas.{ShownFile}
 use Rattle.lfs_types.specs.declared.limits.TheConstants.{FILE_BYTES}
 use Rattle.lfs_calls.proofs.WithBlock.{stood-here, stood-other, length-stood}
 
-module _ {c : Content} {w : World} (shows : Shows c w) (tree : IsTree w.rows) {move : Move} {old : List ℕ} (goes : Leaves c w.rows move old) where
+module _ {c : Content} {w : World} (shows : Shows c w) (tree : IsTree w.rows) {move : Move} {old : List ℕ}
+    (goes : Leaves c w.rows move old) where
   abbrev p : ℕ
   p = move.removal.dir.number
 
@@ -67,7 +69,9 @@ module _ {c : Content} {w : World} (shows : Shows c w) (tree : IsTree w.rows) {m
 
   -- the row's number is that of an entry
   is_entry : IsEntry (n, old)
-  is_entry = All-contains IsEntry (all_entries old_bytes) (n, old) (AreEntries-each (all_entries old_bytes) old_listing.distinct) (Contains-number_in old n (all_entries old_bytes) old_is_listed)
+  is_entry = All-contains IsEntry (all_entries old_bytes) (n, old)
+      (AreEntries-each (all_entries old_bytes) old_listing.distinct)
+      (Contains-number_in old n (all_entries old_bytes) old_is_listed)
 
   -- it isn't 0
   pub above : 0 < n
@@ -88,7 +92,8 @@ module _ {c : Content} {w : World} (shows : Shows c w) (tree : IsTree w.rows) {m
 
     -- the block without the entry is one of the old directory's file
     pub at_file : IsTaking f.file.bytes old taken k
-    at_file = subst (λ bs. IsTaking bs old taken k) (file_bytes shows p move.removal.dir.attrs goes.hangs.shown_dir goes.hangs.directory) taking
+    at_file = subst (λ bs. IsTaking bs old taken k)
+        (file_bytes shows p move.removal.dir.attrs goes.hangs.shown_dir goes.hangs.directory) taking
 
     -- which is a directory
     pub kind_old : f.file.kind ≡ Directory
@@ -105,8 +110,12 @@ module _ {c : Content} {w : World} (shows : Shows c w) (tree : IsTree w.rows) {m
     -- the new directory is stored still
     pub ready_new : IsSomeAnd (map.get without_old q) (λ g. g.kind ≡ Directory)
     ready_new = ⊎_elim
-        (λ e. is_some_and (λ (g : File). g.kind ≡ Directory) (ap (map.get without_old) e ∙ block_there c p f.file f.stored kind_old taken) kind_old)
-        (λ apart. is_some_and (λ (g : File). g.kind ≡ Directory) (block_others c p f.file f.stored kind_old taken q apart ∙ (dir_file shows q move.dir.attrs goes.shown goes.directory).stored) (file_kind shows q move.dir.attrs goes.shown goes.directory))
+        (λ e. is_some_and (λ (g : File). g.kind ≡ Directory) (ap (map.get without_old) e
+        ∙ block_there c p f.file f.stored kind_old taken) kind_old)
+        (λ apart. is_some_and (λ (g : File). g.kind ≡ Directory)
+        (block_others c p f.file f.stored kind_old taken q apart
+        ∙ (dir_file shows q move.dir.attrs goes.shown goes.directory).stored)
+        (file_kind shows q move.dir.attrs goes.shown goes.directory))
         (cases_eq q p)
 
     -- its file
@@ -120,7 +129,9 @@ module _ {c : Content} {w : World} (shows : Shows c w) (tree : IsTree w.rows) {m
 
     -- in one directory
     seen_same : p ≡ q → splice new_bytes taken.off taken.block ≡ seen
-    seen_same e = ap (λ m. splice (bytes_of c m) taken.off taken.block) (sym e) ∙ ap (λ bs. splice bs taken.off taken.block) (file_bytes shows p move.removal.dir.attrs goes.hangs.shown_dir goes.hangs.directory)
+    seen_same e = ap (λ m. splice (bytes_of c m) taken.off taken.block) (sym e)
+        ∙ ap (λ bs. splice bs taken.off taken.block)
+        (file_bytes shows p move.removal.dir.attrs goes.hangs.shown_dir goes.hangs.directory)
         ∙ ap bytes_of_file (sym (block_there c p f.file f.stored kind_old taken)) ∙ ap (bytes_of without_old) e
 
     -- in two
@@ -130,54 +141,72 @@ module _ {c : Content} {w : World} (shows : Shows c w) (tree : IsTree w.rows) {m
     -- they are read through the block
     pub seen_is : (b : Bor Room) → b.now ≡ taken → with_block new_bytes (then_some (p == q) b) ≡ seen
     seen_is b is = ⊎_elim
-        (λ t. ap (λ here. with_block new_bytes (then_some here b)) t ∙ ap (λ (r : Room). splice new_bytes r.off r.block) is ∙ seen_same (eqb-true p q t))
+        (λ t. ap (λ here. with_block new_bytes (then_some here b)) t
+        ∙ ap (λ (r : Room). splice new_bytes r.off r.block) is ∙ seen_same (eqb-true p q t))
         (λ t. ap (λ here. with_block new_bytes (then_some here b)) t ∙ seen_apart (eqb-false p q t))
         (cases_Bool (p == q))
 
     -- as the store has them when the room is sought
-    pub seen_through : (now : Content) → now ≡ c → (o : Option (Bor Room)) (b : Bor Room) → b.now ≡ taken → o ≡ then_some (p == q) b → with_block (bytes_of now q) o ≡ seen
-    seen_through now same o b is chosen = ap (λ x. with_block (bytes_of x q) o) same ∙ ap (with_block new_bytes) chosen ∙ seen_is b is
+    pub seen_through : (now : Content) → now ≡ c → (o : Option (Bor Room)) (b : Bor Room) → b.now ≡ taken → o
+        ≡ then_some (p == q) b → with_block (bytes_of now q) o ≡ seen
+    seen_through now same o b is chosen = ap (λ x. with_block (bytes_of x q) o) same ∙ ap (with_block new_bytes) chosen
+        ∙ seen_is b is
 
     -- the new name isn't among the listed ones
     pub seen_free : (new : List ℕ) → child w.rows q new ≡ None → number_in new (all_entries seen) ≡ None
-    seen_free new free = seen_listing.names new ∙ free_still w.rows n (record hung.row { parent = q; name = new }) hung.below tree.unique free
+    seen_free new free = seen_listing.names new
+        ∙ free_still w.rows n (record hung.row { parent = q; name = new }) hung.below tree.unique free
 
     -- that of another row is
-    pub seen_there : (new : List ℕ) (m : ℕ) → child w.rows q new ≡ Some m → m ≢ n → number_in new (all_entries seen) ≡ Some m
+    pub seen_there : (new : List ℕ) (m : ℕ) → child w.rows q new ≡ Some m → m ≢ n → number_in new (all_entries seen)
+        ≡ Some m
     seen_there new m is apart = seen_listing.names new
-        ∙ child-answer _ (unique-shrunk w.rows n tree.unique) q new (Some m) (hangs_still w.rows n q new m apart (child-is w.rows q new m is))
+        ∙ child-answer _ (unique-shrunk w.rows n tree.unique) q new (Some m)
+        (hangs_still w.rows n q new m apart (child-is w.rows q new m is))
 
     -- they are as many as before
     pub seen_length : length seen ≡ length new_bytes
     seen_length = ⊎_elim
         (λ e. ap (λ (bs : List ℕ). length bs) (sym (seen_same e))
-        ∙ length-stood new_bytes taken (subst (λ m. StandsIn (bytes_of c m) taken) e stands) (bytes_length shows q move.dir.attrs goes.shown goes.directory).1)
+        ∙ length-stood new_bytes taken (subst (λ m. StandsIn (bytes_of c m) taken) e stands)
+        (bytes_length shows q move.dir.attrs goes.shown goes.directory).1)
         (λ apart. ap (λ (bs : List ℕ). length bs) (sym (seen_apart apart)))
         (cases_eq p q)
 
     -- a block of the one directory, without the old name
-    left_in_one : p ≡ q → (j : ℕ) → j < length old_bytes / 512 → left_of (Some old) (entries_of (block_at old_bytes j)) ≡ entries_of (block_at seen j)
+    left_in_one : p ≡ q → (j : ℕ) → j < length old_bytes / 512 → left_of (Some old) (entries_of (block_at old_bytes j))
+        ≡ entries_of (block_at seen j)
     left_in_one e j within =
-        let here : splice old_bytes taken.off taken.block ≡ seen = ap (λ m. splice (bytes_of c m) taken.off taken.block) e ∙ seen_same e in
+        let here : splice old_bytes taken.off taken.block
+        ≡ seen = ap (λ m. splice (bytes_of c m) taken.off taken.block) e ∙ seen_same e in
         ⊎_elim
         (λ same.
-        let block : block_at seen k ≡ taken.block = ap (λ bs. block_at bs k) (sym here) ∙ ap (λ off. take 512 (drop off (splice old_bytes taken.off taken.block))) (sym taking.off) ∙ stood-here old_bytes taken stands in
-        ap (λ i. left_of (Some old) (entries_of (block_at old_bytes i))) same ∙ sym taking.takes ∙ ap entries_of (sym block) ∙ ap (λ i. entries_of (block_at seen i)) (sym same))
+        let block : block_at seen k ≡ taken.block = ap (λ bs. block_at bs k) (sym here)
+        ∙ ap (λ off. take 512 (drop off (splice old_bytes taken.off taken.block))) (sym taking.off)
+        ∙ stood-here old_bytes taken stands in
+        ap (λ i. left_of (Some old) (entries_of (block_at old_bytes i))) same ∙ sym taking.takes
+        ∙ ap entries_of (sym block) ∙ ap (λ i. entries_of (block_at seen i)) (sym same))
         (λ apart.
         let other : 512 * j ≢ taken.off = λ x. apart (omega (arith, x, taking.off)) in
-        let block : block_at seen j ≡ block_at old_bytes j = ap (λ bs. block_at bs j) (sym here) ∙ stood-other old_bytes taken stands (512 * j) (omega arith) other in
-        let gone : number_in old (all_entries seen) ≡ None = seen_listing.names old ∙ ap (λ m. child (map.remove w.rows n) m old) (sym e) ∙ child-removed w.rows n tree.unique p old hung in
+        let block : block_at seen j ≡ block_at old_bytes j = ap (λ bs. block_at bs j) (sym here)
+        ∙ stood-other old_bytes taken stands (512 * j) (omega arith) other in
+        let gone : number_in old (all_entries seen) ≡ None = seen_listing.names old
+        ∙ ap (λ m. child (map.remove w.rows n) m old) (sym e) ∙ child-removed w.rows n tree.unique p old hung in
         let absent = absent_in_block old seen j (omega (arith, seen_length, ap (λ m. length (bytes_of c m)) e)) gone in
-        without-absent old (entries_of (block_at old_bytes j)) (ap (λ b. number_in old (entries_of b)) (sym block) ∙ absent) ∙ ap entries_of (sym block))
+        without-absent old (entries_of (block_at old_bytes j)) (ap (λ b. number_in old (entries_of b)) (sym block)
+        ∙ absent) ∙ ap entries_of (sym block))
         (cases_eq j k)
 
-    entries_left : (j : ℕ) → j < length new_bytes / 512 → left_of (name_left move old) (entries_of (block_at new_bytes j)) ≡ entries_of (block_at seen j)
+    entries_left : (j : ℕ) → j < length new_bytes / 512
+        → left_of (name_left move old) (entries_of (block_at new_bytes j)) ≡ entries_of (block_at seen j)
     entries_left j within = ⊎_elim
         (λ t.
         let e = eqb-true p q t in
         ap (λ o. left_of o (entries_of (block_at new_bytes j))) (cond-true (p == q) (Some old) None t)
-        ∙ ap (λ m. left_of (Some old) (entries_of (block_at (bytes_of c m) j))) (sym e) ∙ left_in_one e j (subst (λ m. j < length (bytes_of c m) / 512) (sym e) within))
-        (λ t. ap (λ o. left_of o (entries_of (block_at new_bytes j))) (cond-false (p == q) (Some old) None t) ∙ ap (λ bs. entries_of (block_at bs j)) (seen_apart (eqb-false p q t)))
+        ∙ ap (λ m. left_of (Some old) (entries_of (block_at (bytes_of c m) j))) (sym e)
+        ∙ left_in_one e j (subst (λ m. j < length (bytes_of c m) / 512) (sym e) within))
+        (λ t. ap (λ o. left_of o (entries_of (block_at new_bytes j))) (cond-false (p == q) (Some old) None t)
+        ∙ ap (λ bs. entries_of (block_at bs j)) (seen_apart (eqb-false p q t)))
         (cases_Bool (p == q))
 
     -- where the new name fits nowhere in what is seen, it fits nowhere without the old one
@@ -193,11 +222,14 @@ module _ {c : Content} {w : World} (shows : Shows c w) (tree : IsTree w.rows) {m
         }
 
     -- where there is room for it, the directory isn't full
-    pub somewhere : {new : List ℕ} {room : Room} {j : ℕ} → IsRoom seen n new room j → FitsNowhere new_bytes (name_left move old) new → ⊥
+    pub somewhere : {new : List ℕ} {room : Room} {j : ℕ} → IsRoom seen n new room j
+        → FitsNowhere new_bytes (name_left move old) new → ⊥
     somewhere {new} {room} {j} fits full =
         let below = fits.fits in
         let left = ap used_of (entries_left j (omega (arith, full.whole))) in
         let over = full.full j below in
         let used = used_of-block room.block (entries_of room.block) fits.block in
-        let sum : used_of (entries_of room.block) ≡ used_of (entries_of (block_at seen j)) + used_of ((n, new) ∷ []) = ap used_of fits.adds ∙ used_of-append (entries_of (block_at seen j)) ((n, new) ∷ []) in
+        let sum : used_of (entries_of room.block) ≡ used_of (entries_of (block_at seen j))
+        + used_of ((n, new) ∷ []) = ap used_of fits.adds
+        ∙ used_of-append (entries_of (block_at seen j)) ((n, new) ∷ []) in
         absurd (omega (arith, left, over, used, sum))

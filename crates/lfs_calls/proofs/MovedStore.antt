@@ -34,23 +34,27 @@ AreListed c rows = (n : ℕ) (f : File) → map.get c n ≡ Some f → f.kind �
 
 -- a row that hangs elsewhere has the file that it had, and so has each other
 pub same_files : (w : World) (n : ℕ) (row : Row) → map.get w.rows n ≡ Some row → (parent : ℕ) (name : List ℕ) (m : ℕ)
-    → option_map (λ (r : Row). r.file) (map.get (map.insert w.rows n (record row { parent = parent; name = name })) m) ≡ option_map (λ (r : Row). r.file) (map.get w.rows m)
+    → option_map (λ (r : Row). r.file) (map.get (map.insert w.rows n (record row { parent = parent; name = name })) m)
+    ≡ option_map (λ (r : Row). r.file) (map.get w.rows m)
 same_files w n row there parent name m =
     let moved : Row = record row { parent = parent; name = name } in
     ⊎_elim
-    (λ e. ap (λ i. option_map (λ (r : Row). r.file) (map.get (map.insert w.rows n moved) i)) e ∙ ap (option_map (λ (r : Row). r.file)) (get-insert_same w.rows n moved)
+    (λ e. ap (λ i. option_map (λ (r : Row). r.file) (map.get (map.insert w.rows n moved) i)) e
+    ∙ ap (option_map (λ (r : Row). r.file)) (get-insert_same w.rows n moved)
     ∙ sym (ap (option_map (λ (r : Row). r.file)) (ap (map.get w.rows) e ∙ there)))
     (λ apart. ap (option_map (λ (r : Row). r.file)) (get-insert_other w.rows n moved m apart))
     (cases_eq m n)
 
 -- ---- a block of a directory is written
 
-module _ (c : Content) (d : ℕ) (f : File) (stored : map.get c d ≡ Some f) (directory : f.kind ≡ Directory) (room : Room) where
+module _ (c : Content) (d : ℕ) (f : File) (stored : map.get c d ≡ Some f) (directory : f.kind ≡ Directory)
+    (room : Room) where
   abbrev put_file : File
   put_file = record f { bytes = splice f.bytes room.off room.block }
 
   block_put-is : block_put d room c ≡ map.insert c d put_file
-  block_put-is = ap (λ o. changed_at o d (λ (x : File). record x { bytes = splice x.bytes room.off room.block }) c) stored
+  block_put-is = ap (λ o. changed_at o d (λ (x : File). record x { bytes = splice x.bytes room.off room.block }) c)
+      stored
 
   -- the directory has the block
   pub block_there : map.get (block_put d room c) d ≡ Some put_file
@@ -63,33 +67,44 @@ module _ (c : Content) (d : ℕ) (f : File) (stored : map.get c d ≡ Some f) (d
   -- users see the same files
   pub seen_same : (q : ℕ) → option_map visible (map.get (block_put d room c) q) ≡ option_map visible (map.get c q)
   seen_same q = ⊎_elim
-      (λ e. ap (λ m. option_map visible (map.get (block_put d room c) m)) e ∙ ap (option_map visible) block_there ∙ ap Some (visible-directory f _ directory)
+      (λ e. ap (λ m. option_map visible (map.get (block_put d room c) m)) e ∙ ap (option_map visible) block_there
+      ∙ ap Some (visible-directory f _ directory)
       ∙ sym (ap (option_map visible) stored) ∙ sym (ap (λ m. option_map visible (map.get c m)) e))
       (λ apart. ap (option_map visible) (block_others q apart))
       (cases_eq q d)
 
-  after_block : (P : ℕ → File → Type 0) → P d put_file → ((q : ℕ) (g : File) → q ≢ d → map.get c q ≡ Some g → P q g) → (q : ℕ) (g : File) → map.get (block_put d room c) q ≡ Some g → P q g
+  after_block : (P : ℕ → File → Type 0) → P d put_file → ((q : ℕ) (g : File) → q ≢ d → map.get c q ≡ Some g → P q g)
+      → (q : ℕ) (g : File) → map.get (block_put d room c) q ≡ Some g → P q g
   after_block = each_value c (block_put d room c) d put_file block_there block_others
 
   -- each file has a length that it may have
-  pub sized_after : AreSized c → IsLength Directory (length (splice f.bytes room.off room.block)) → AreSized (block_put d room c)
+  pub sized_after : AreSized c → IsLength Directory (length (splice f.bytes room.off room.block))
+      → AreSized (block_put d room c)
   sized_after sized long = after_block (λ q g. IsLength g.kind (length g.bytes))
       (subst (λ k. IsLength k (length (splice f.bytes room.off room.block))) (sym directory) long)
       (λ q g apart. sized q g)
 
   -- each directory lists its rows
-  pub listed_after : (rows changed : Rows) → AreListed c rows → ((q : ℕ) → q ≢ d → (name : List ℕ) → child changed q name ≡ child rows q name)
+  pub listed_after : (rows changed : Rows) → AreListed c rows
+      → ((q : ℕ) → q ≢ d → (name : List ℕ) → child changed q name ≡ child rows q name)
       → ListsRows changed d (splice f.bytes room.off room.block) → AreListed (block_put d room c) changed
   listed_after rows changed listed others here = after_block (λ q g. g.kind ≡ Directory → ListsRows changed q g.bytes)
       (λ _. here)
       (λ q g apart e kind.
       let was = listed q g e kind in
-      record { blocks = was.blocks; distinct = was.distinct; names = λ name. was.names name ∙ sym (others q apart name) })
+      record {
+        blocks = was.blocks;
+        distinct = was.distinct;
+        names = λ name. was.names name
+            ∙ sym (others q apart name);
+      })
 
 -- ---- an entry is taken away
 
-module _ (c : Content) (w : World) (shows : Shows c w) (tree : IsTree w.rows) (n p : ℕ) (old : List ℕ) (hangs : IsChild w.rows p old n)
-    (f : File) (stored : map.get c p ≡ Some f) (directory : f.kind ≡ Directory) (taken : Room) (k : ℕ) (taking : IsTaking f.bytes old taken k) where
+module _ (c : Content) (w : World) (shows : Shows c w) (tree : IsTree w.rows) (n p : ℕ) (old : List ℕ)
+    (hangs : IsChild w.rows p old n)
+    (f : File) (stored : map.get c p ≡ Some f) (directory : f.kind ≡ Directory) (taken : Room) (k : ℕ)
+    (taking : IsTaking f.bytes old taken k) where
   listing : ListsRows w.rows p f.bytes
   listing = shows.listings p f stored directory
 
@@ -110,7 +125,8 @@ module _ (c : Content) (w : World) (shows : Shows c w) (tree : IsTree w.rows) (n
   -- ---- and put into another directory, or into the same
 
   module _ (q : ℕ) (name : List ℕ) (free : child w.rows q name ≡ None)
-      (g : File) (stored_new : map.get (block_put p taken c) q ≡ Some g) (directory_new : g.kind ≡ Directory) (room : Room) (j : ℕ) (fits : IsRoom g.bytes n name room j) where
+      (g : File) (stored_new : map.get (block_put p taken c) q ≡ Some g) (directory_new : g.kind ≡ Directory)
+      (room : Room) (j : ℕ) (fits : IsRoom g.bytes n name room j) where
     -- the content after both blocks
     abbrev pub c_after : Content
     c_after = block_put q room (block_put p taken c)
@@ -132,11 +148,14 @@ module _ (c : Content) (w : World) (shows : Shows c w) (tree : IsTree w.rows) (n
     within = omega (arith, fits.off, fits.within, long_new.1)
 
     put : splice g.bytes room.off room.block ≡ put_over g.bytes (512 * j) room.block
-    put = splice-put_over g.bytes room.off room.block (omega (arith, size)) within ∙ ap (λ off. put_over g.bytes off room.block) fits.off
+    put = splice-put_over g.bytes room.off room.block (omega (arith, size)) within
+        ∙ ap (λ off. put_over g.bytes off room.block) fits.off
 
     long_after : IsLength Directory (length (splice g.bytes room.off room.block))
     long_after =
-        let count = ap (λ (bs : List ℕ). length bs) (splice-put_over g.bytes room.off room.block (omega (arith, size)) within) ∙ length-put_over g.bytes room.off room.block within in
+        let count = ap (λ (bs : List ℕ). length bs)
+        (splice-put_over g.bytes room.off room.block (omega (arith, size)) within)
+        ∙ length-put_over g.bytes room.off room.block within in
         let whole = long_new.1 in
         let bounded = long_new.0 in
         (omega (arith, count, size, fits.off, fits.fits), omega (arith, count, size, fits.off))
@@ -153,7 +172,8 @@ module _ (c : Content) (w : World) (shows : Shows c w) (tree : IsTree w.rows) (n
         (λ x other. child-moved_other w.rows n row hangs.below tree.unique free q x (λ _ same. other (sym same))))
 
     moved_listed : AreListed c_after rows_moved
-    moved_listed = listed_after (block_put p taken c) q g stored_new directory_new room (map.remove w.rows n) rows_moved taken_listed
+    moved_listed = listed_after (block_put p taken c) q g stored_new directory_new room
+        (map.remove w.rows n) rows_moved taken_listed
         (λ m apart x. child-moved_other w.rows n row hangs.below tree.unique free m x (λ e _. apart (sym e)))
         listing_after
 
@@ -161,9 +181,12 @@ module _ (c : Content) (w : World) (shows : Shows c w) (tree : IsTree w.rows) (n
     moved_sized = sized_after (block_put p taken c) q g stored_new directory_new room taken_sized long_after
 
     -- the store shows the world with the moved row
-    pub Shows-moved : (after : Content) → ((m : ℕ) → map.get after m ≡ map.get c_after m) → Shows after (record w { rows = rows_moved })
+    pub Shows-moved : (after : Content) → ((m : ℕ) → map.get after m ≡ map.get c_after m)
+        → Shows after (record w { rows = rows_moved })
     Shows-moved after same = record {
-      files = λ m. ap (option_map visible) (same m) ∙ seen_same (block_put p taken c) q g stored_new directory_new room m ∙ seen_same c p f stored directory taken m
+      files = λ m. ap (option_map visible) (same m)
+          ∙ seen_same (block_put p taken c) q g stored_new directory_new room m
+          ∙ seen_same c p f stored directory taken m
           ∙ shows.files m ∙ sym (same_files w n hangs.row hangs.there q name m);
       sizes = λ m x e. moved_sized m x (sym (same m) ∙ e);
       listings = λ m x e. moved_listed m x (sym (same m) ∙ e);

@@ -1,5 +1,6 @@
 -- What a cache says of names after changes, and after what is found under a name was entered.
-use Rattle.std.proofs.Common.{◌≡◌, ℕ, Bool, true, false, cond, List, Option, None, Some, Result, Ok, Err, inl, inr, sym, ap, subst, ◌∙◌, ⊎_elim}
+use Rattle.std.proofs.Common.{◌≡◌, ℕ, Bool, true, false, cond, List, Option, None, Some, Result, Ok, Err, inl, inr, sym}
+use Rattle.std.proofs.Common.{ap, subst, ◌∙◌, ⊎_elim}
 use Rattle.std.specs.Prelude.{◌⊎◌, OnOk, OnErr, bytes_eq, length, nat_le}
 use Rattle.std.proofs.lemmas.Bool.{both_ways, cases_eq, cases_Bool}
 use Rattle.std.proofs.lemmas.Slice.Eq.{bytes_eq-Decides}
@@ -28,7 +29,8 @@ kept_only false found m h = absurd (cc)
 -- what is said after something was entered was entered, or said before of another name
 entered_is : (P : ℕ → List ℕ → Option ℕ → Type 0) (old new : NameCache) (dir : ℕ) (name : List ℕ) (found : Option ℕ)
     → says new dir name ≡ kept_of name (Some found) → SaysNoMore old new dir name → P dir name found
-    → (d : ℕ) (n : List ℕ) (m : Option ℕ) → says new d n ≡ Some m → ((d ≡ dir → n ≡ name → ⊥) → says old d n ≡ Some m → P d n m) → P d n m
+    → (d : ℕ) (n : List ℕ) (m : Option ℕ) → says new d n ≡ Some m
+    → ((d ≡ dir → n ≡ name → ⊥) → says old d n ≡ Some m → P d n m) → P d n m
 entered_is P old new dir name found entered others here d n m h rest = ⊎_elim
     (λ same.
     let there : says new dir name ≡ Some m = sym (ap (λ x. says new x n) same.0 ∙ ap (says new dir) same.1) ∙ h in
@@ -49,19 +51,24 @@ true_kept names old new was keeps d n m h = keeps d n m (was d n m h)
 
 -- what is said after what is found was entered is true
 pub true_entered : (old new : NameCache) (c : Content) (dir : ℕ) (name : List ℕ) (found : Option ℕ)
-    → says new dir name ≡ kept_of name (Some found) → SaysNoMore old new dir name → IsFound c dir name found → AreTrue old c → AreTrue new c
+    → says new dir name ≡ kept_of name (Some found) → SaysNoMore old new dir name → IsFound c dir name found
+    → AreTrue old c → AreTrue new c
 true_entered old new c dir name found entered others is was d n m h =
     entered_is (IsFound c) old new dir name found entered others is d n m h (λ apart. was d n m)
 
 -- and so of a content in which something else is found under one name
 pub true_named : (old new : NameCache) (before after : Content) (dir : ℕ) (name : List ℕ) (found : Option ℕ)
-    → says new dir name ≡ kept_of name (Some found) → SaysNoMore old new dir name → FindsNew before after dir name found → AreTrue old before → AreTrue new after
+    → says new dir name ≡ kept_of name (Some found) → SaysNoMore old new dir name → FindsNew before after dir name found
+    → AreTrue old before → AreTrue new after
 true_named old new before after dir name found entered others finds was d n m h =
-    entered_is (IsFound after) old new dir name found entered others finds.finds d n m h (λ apart said. finds.keeps d n m apart (was d n m said))
+    entered_is (IsFound after) old new dir name found entered others finds.finds d n m h
+    (λ apart said. finds.keeps d n m apart (was d n m said))
 
 -- or under two
-pub true_moved : (names mid new : NameCache) (before after : Content) (from : ℕ) (old : List ℕ) (to : ℕ) (name : List ℕ) (number : ℕ)
-    → says mid from old ≡ kept_of old (Some None) → SaysNoMore names mid from old → says new to name ≡ kept_of name (Some (Some number)) → SaysNoMore mid new to name
+pub true_moved : (names mid new : NameCache) (before after : Content) (from : ℕ) (old : List ℕ) (to : ℕ) (name : List ℕ)
+    (number : ℕ)
+    → says mid from old ≡ kept_of old (Some None) → SaysNoMore names mid from old → says new to name
+    ≡ kept_of name (Some (Some number)) → SaysNoMore mid new to name
     → MovesName before after from old to name number → AreTrue names before → AreTrue new after
 true_moved names mid new before after from old to name number first others second others2 moves was d n m h =
     entered_is (IsFound after) mid new to name (Some number) second others2 moves.gives d n m h

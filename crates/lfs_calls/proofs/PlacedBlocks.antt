@@ -15,15 +15,18 @@ use Rattle.lfs_calls.proofs.MovedPlaces.{at_file, f, kind_old, seen, seen_length
 use Rattle.lfs_types.specs.declared.limits.TheConstants.{FILE_BYTES}
 use Rattle.lfs_types.proofs.Somewhere.{is_some_and}
 
-module _ {c : Content} {w : World} (shows : Shows c w) (tree : IsTree w.rows) {move : Move} {old : List ℕ} (leaves : Leaves c w.rows move old)
+module _ {c : Content} {w : World} (shows : Shows c w) (tree : IsTree w.rows) {move : Move} {old : List ℕ}
+    (leaves : Leaves c w.rows move old)
     {taken : Room} {k : ℕ} (taking : IsTaking (bytes_of c move.removal.dir.number) old taken k) where
   -- the block without the old entry is one of its directory
   pub old_block : IsBlockOf c move.removal.dir.number taken
   old_block =
       let t = at_file shows tree leaves taking in
-      let long = file_length shows move.removal.dir.number move.removal.dir.attrs leaves.hangs.shown_dir leaves.hangs.directory in
+      let long = file_length shows move.removal.dir.number move.removal.dir.attrs leaves.hangs.shown_dir
+      leaves.hangs.directory in
       record {
-        directory = is_some_and (λ (x : File). (x.kind ≡ Directory) × (length x.bytes % 512 ≡ 0) × (length x.bytes ≤ FILE_BYTES) × (taken.off ≤ length x.bytes)) (f shows tree leaves).stored
+        directory = is_some_and (λ (x : File). (x.kind ≡ Directory) × (length x.bytes % 512 ≡ 0)
+            × (length x.bytes ≤ FILE_BYTES) × (taken.off ≤ length x.bytes)) (f shows tree leaves).stored
             (kind_old shows tree leaves taking, long.1, long.0, omega (arith, t.off, t.within));
         aligned = omega (arith, t.off);
         fits = omega (arith, t.off, t.within, long.0);
@@ -35,30 +38,46 @@ module _ {c : Content} {w : World} (shows : Shows c w) (tree : IsTree w.rows) {m
   old_within = omega (arith, taking.off, taking.within)
 
   -- and a block with the new entry one of its own
-  pub new_block : {new : List ℕ} {room : Room} {j : ℕ} → IsRoom (seen shows tree leaves taking) move.removal.file.number new room j → IsBlockOf c move.dir.number room
+  pub new_block : {new : List ℕ} {room : Room} {j : ℕ}
+      → IsRoom (seen shows tree leaves taking) move.removal.file.number new room j → IsBlockOf c move.dir.number room
   new_block {new} {room} {j} r =
       let d = dir_file shows move.dir.number move.dir.attrs leaves.shown leaves.directory in
       let long = file_length shows move.dir.number move.dir.attrs leaves.shown leaves.directory in
-      let same : length (bytes_of c move.dir.number) ≡ length d.file.bytes = ap (λ (bs : List ℕ). length bs) (file_bytes shows move.dir.number move.dir.attrs leaves.shown leaves.directory) in
+      let same : length (bytes_of c move.dir.number)
+      ≡ length d.file.bytes = ap (λ (bs : List ℕ). length bs)
+      (file_bytes shows move.dir.number move.dir.attrs leaves.shown leaves.directory) in
       let count = seen_length shows tree leaves taking in
       record {
-        directory = is_some_and (λ (x : File). (x.kind ≡ Directory) × (length x.bytes % 512 ≡ 0) × (length x.bytes ≤ FILE_BYTES) × (room.off ≤ length x.bytes)) d.stored
-            (file_kind shows move.dir.number move.dir.attrs leaves.shown leaves.directory, long.1, long.0, omega (arith, r.off, r.within, count, same, long.1));
+        directory = is_some_and (λ (x : File). (x.kind ≡ Directory) × (length x.bytes % 512 ≡ 0)
+            × (length x.bytes ≤ FILE_BYTES) × (room.off ≤ length x.bytes)) d.stored (
+              file_kind shows move.dir.number move.dir.attrs leaves.shown leaves.directory,
+              long.1,
+              long.0,
+              omega (arith, r.off, r.within, count, same, long.1),
+            );
         aligned = omega (arith, r.off);
         fits = omega (arith, r.off, r.fits);
         size = r.block.size;
       }
 
   -- as is one in which an entry got another number
-  pub swap_block : {new : List ℕ} {room : Room} {j : ℕ} → IsSwap (seen shows tree leaves taking) new move.removal.file.number room j → IsBlockOf c move.dir.number room
+  pub swap_block : {new : List ℕ} {room : Room} {j : ℕ}
+      → IsSwap (seen shows tree leaves taking) new move.removal.file.number room j → IsBlockOf c move.dir.number room
   swap_block {new} {room} {j} r =
       let d = dir_file shows move.dir.number move.dir.attrs leaves.shown leaves.directory in
       let long = file_length shows move.dir.number move.dir.attrs leaves.shown leaves.directory in
-      let same : length (bytes_of c move.dir.number) ≡ length d.file.bytes = ap (λ (bs : List ℕ). length bs) (file_bytes shows move.dir.number move.dir.attrs leaves.shown leaves.directory) in
+      let same : length (bytes_of c move.dir.number)
+      ≡ length d.file.bytes = ap (λ (bs : List ℕ). length bs)
+      (file_bytes shows move.dir.number move.dir.attrs leaves.shown leaves.directory) in
       let count = seen_length shows tree leaves taking in
       record {
-        directory = is_some_and (λ (x : File). (x.kind ≡ Directory) × (length x.bytes % 512 ≡ 0) × (length x.bytes ≤ FILE_BYTES) × (room.off ≤ length x.bytes)) d.stored
-            (file_kind shows move.dir.number move.dir.attrs leaves.shown leaves.directory, long.1, long.0, omega (arith, r.off, r.within, count, same, long.1));
+        directory = is_some_and (λ (x : File). (x.kind ≡ Directory) × (length x.bytes % 512 ≡ 0)
+            × (length x.bytes ≤ FILE_BYTES) × (room.off ≤ length x.bytes)) d.stored (
+              file_kind shows move.dir.number move.dir.attrs leaves.shown leaves.directory,
+              long.1,
+              long.0,
+              omega (arith, r.off, r.within, count, same, long.1),
+            );
         aligned = omega (arith, r.off);
         fits = omega (arith, r.off, r.within, count, same, long.0);
         size = r.block.size;

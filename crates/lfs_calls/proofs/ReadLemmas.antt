@@ -21,7 +21,8 @@ use Rattle.lfs_calls.proofs.StepLemmas.{shown_file, stored_regular, attrs_reads,
 use Rattle.lfs_calls.proofs.Visible.{Stored, shown_of, visible-regular}
 
 -- the size that is shown of a file: 0 of a directory
-size_shown : (k : Kind) (bytes : List ℕ) (size : ℕ) → (is_directory_kind k ≡ true → size ≡ 0) → (is_directory_kind k ≡ false → size ≡ length bytes) → size ≡ length (visible_bytes k bytes)
+size_shown : (k : Kind) (bytes : List ℕ) (size : ℕ) → (is_directory_kind k ≡ true → size ≡ 0)
+    → (is_directory_kind k ≡ false → size ≡ length bytes) → size ≡ length (visible_bytes k bytes)
 size_shown Regular bytes size dir file = file refl
 size_shown Directory bytes size dir file = dir refl
 
@@ -45,7 +46,8 @@ module _ (c : Content) (w : World) (shows : Shows c w) (caller : Caller) (path :
   file_is = ap (λ m. file_at (map.get w.rows m)) object ∙ ap file_at row_is.there ∙ sym row_is.same
 
   -- the attributes that users see of it, all but the size
-  pub attrs_is : attrs_at w.rows (reached w.rows root path) ≡ record a { size = length (visible (shown_file c n a shown).file).bytes }
+  pub attrs_is : attrs_at w.rows (reached w.rows root path)
+      ≡ record a { size = length (visible (shown_file c n a shown).file).bytes }
   attrs_is = ap (attrs_at w.rows) object ∙ attrs_reads c w shows n a shown
 
   -- it is a directory's where the attributes say so
@@ -54,16 +56,19 @@ module _ (c : Content) (w : World) (shows : Shows c w) (caller : Caller) (path :
 
   -- it grants what the attributes do
   pub grants_is : (bit : _) → row_grants caller bit (map.get w.rows (reached w.rows root path)) ≡ grants_of caller a bit
-  grants_is bit = ap (λ m. row_grants caller bit (map.get w.rows m)) object ∙ grants_reads c w shows n a shown caller bit
+  grants_is bit = ap (λ m. row_grants caller bit (map.get w.rows m)) object
+      ∙ grants_reads c w shows n a shown caller bit
 
   -- a Stat shows the attributes with the size that users see
-  pub stat_answer : (size : ℕ) → (is_directory_kind a.kind ≡ true → size ≡ 0) → (is_directory_kind a.kind ≡ false → size ≡ a.size)
+  pub stat_answer : (size : ℕ) → (is_directory_kind a.kind ≡ true → size ≡ 0)
+      → (is_directory_kind a.kind ≡ false → size ≡ a.size)
       → served.Stat n (record a { size = size }) ≡ answer_of w (Stat path)
   stat_answer size dir file =
       let f = shown_file c n a shown in
       let kinds : a.kind ≡ f.file.kind = ap (λ (x : Attrs). x.kind) f.same in
       let sizes : size ≡ length (visible_bytes f.file.kind f.file.bytes) =
-      size_shown f.file.kind f.file.bytes size (λ h. dir (ap is_directory_kind kinds ∙ h)) (λ h. file (ap is_directory_kind kinds ∙ h) ∙ ap (λ (x : Attrs). x.size) f.same) in
+      size_shown f.file.kind f.file.bytes size (λ h. dir (ap is_directory_kind kinds ∙ h))
+      (λ h. file (ap is_directory_kind kinds ∙ h) ∙ ap (λ (x : Attrs). x.size) f.same) in
       ap (λ s. served.Stat n (record a { size = s })) sizes
       ∙ ap (λ (x : Attrs). served.Stat n (record x { size = length (visible_bytes f.file.kind f.file.bytes) })) f.same
       ∙ ap (λ (x : File). served.Stat n (attrs_of x)) (sym file_is)
@@ -71,8 +76,10 @@ module _ (c : Content) (w : World) (shows : Shows c w) (caller : Caller) (path :
 
   module _ (off len : ℕ) where
     -- the bytes that are stored of a file are those that users see
-    pub read_answer : is_directory_kind a.kind ≡ false → (bytes : List ℕ) → bytes ≡ slice_of (bytes_of c n) off (min len read_max) → served.Bytes bytes ≡ answer_of w (Read path off len)
+    pub read_answer : is_directory_kind a.kind ≡ false → (bytes : List ℕ) → bytes
+        ≡ slice_of (bytes_of c n) off (min len read_max) → served.Bytes bytes ≡ answer_of w (Read path off len)
     read_answer h bytes e =
         let f = shown_file c n a shown in
-        let same : f.file.bytes ≡ (file_at (map.get w.rows (reached w.rows root path))).bytes = ap (λ (x : File). x.bytes) (sym (file_is ∙ visible-regular f.file (stored_regular c n a shown h))) in
+        let same : f.file.bytes ≡ (file_at (map.get w.rows (reached w.rows root path))).bytes =
+        ap (λ (x : File). x.bytes) (sym (file_is ∙ visible-regular f.file (stored_regular c n a shown h))) in
         ap served.Bytes (e ∙ ap (λ bs. slice_of bs off (min len read_max)) (ap bytes_of_file f.stored ∙ same))

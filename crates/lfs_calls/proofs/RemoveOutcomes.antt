@@ -27,7 +27,8 @@ module _ (path : List (List ℕ)) where
   remove_looks old new Directory = tt
 
   -- it leaves the entries where its kinds do
-  pub remove_entries : (old new : Content) (rows : Rows) (kind : Kind) → ClosesUp old new rows path → LeavesEntries (removal_request kind path) old new rows
+  pub remove_entries : (old new : Content) (rows : Rows) (kind : Kind) → ClosesUp old new rows path
+      → LeavesEntries (removal_request kind path) old new rows
   remove_entries old new rows Regular closes = closes
   remove_entries old new rows Directory closes = closes
 
@@ -37,11 +38,13 @@ module _ (path : List (List ℕ)) where
   remove_answer w Directory = refl
 
   -- the world after it
-  pub remove_after : (numbers : ℕ) (w : World) (caller : Caller) (kind : Kind) → without_row (reached w.rows root path) w ≡ effect numbers w caller (removal_request kind path)
+  pub remove_after : (numbers : ℕ) (w : World) (caller : Caller) (kind : Kind)
+      → without_row (reached w.rows root path) w ≡ effect numbers w caller (removal_request kind path)
   remove_after numbers w caller Regular = refl
   remove_after numbers w caller Directory = refl
 
   -- where the rules allow it, it is to be served
-  pub remove_serves : (s : StoreState) (w : World) (caller : Caller) (kind : Kind) → decide w caller (removal_request kind path) ≡ None → IsToServe s caller (removal_request kind path) w
+  pub remove_serves : (s : StoreState) (w : World) (caller : Caller) (kind : Kind)
+      → decide w caller (removal_request kind path) ≡ None → IsToServe s caller (removal_request kind path) w
   remove_serves s w caller Regular allowed = record { allowed = allowed; numbered = λ h. h; roomy = λ h. h }
   remove_serves s w caller Directory allowed = record { allowed = allowed; numbered = λ h. h; roomy = λ h. h }

@@ -1,5 +1,6 @@
 -- The tree and the store after a Rename.
-use Rattle.std.proofs.Common.{◌≡◌, ◌≢◌, ℕ, ◌≤◌, ◌==◌, cond, List, length, None, Some, refl, sym, ap, subst, ◌∙◌, eq-eqb, ne_eqb}
+use Rattle.std.proofs.Common.{◌≡◌, ◌≢◌, ℕ, ◌≤◌, ◌==◌, cond, List, length, None, Some, refl, sym, ap, subst, ◌∙◌, eq-eqb}
+use Rattle.std.proofs.Common.{ne_eqb}
 use Rattle.std.specs.Prelude.{if◌then◌else◌}
 use Rattle.std.specs.FinMap as map
 use Rattle.lfs_types.specs.Caller.{Caller}
@@ -15,7 +16,8 @@ use Rattle.lfs_calls.specs.Content.{Shows, FitsNowhere}
 use Rattle.lfs_calls.specs.Makes.{IsRoom}
 use Rattle.lfs_calls.specs.Removes.{IsTaking}
 use Rattle.lfs_calls.specs.Outcomes.{FillsDirectory, taken_from}
-use Rattle.lfs_calls.specs.Renames.{ArePlaces, AreSwapped, HasNoRoom, IsMove, IsSwap, Leaves, MovesFirst, SwapsBlocks, SwapsInPlace, WritesBlocks, block_put, name_left}
+use Rattle.lfs_calls.specs.Renames.{ArePlaces, AreSwapped, HasNoRoom, IsMove, IsSwap, Leaves, MovesFirst, SwapsBlocks}
+use Rattle.lfs_calls.specs.Renames.{SwapsInPlace, WritesBlocks, block_put, name_left}
 use Rattle.lfs_model.proofs.Children.{child-is}
 use Rattle.lfs_calls.proofs.Crowded.{crowded}
 use Rattle.lfs_calls.proofs.Directories.{bytes_listing}
@@ -24,7 +26,8 @@ use Rattle.lfs_calls.proofs.MovedNames as names
 use Rattle.lfs_calls.proofs.SwappedRows.{swapped}
 use Rattle.lfs_types.specs.declared.limits.TheConstants.{FILE_BLOCKS}
 
-module _ {c : Content} {w : World} (shows : Shows c w) (tree : IsTree w.rows) (caller : Caller) {from to : List (List ℕ)} {move : Move} (is : IsMove c w.rows from to move) where
+module _ {c : Content} {w : World} (shows : Shows c w) (tree : IsTree w.rows)
+    (caller : Caller) {from to : List (List ℕ)} {move : Move} (is : IsMove c w.rows from to move) where
   abbrev p : ℕ
   p = move.removal.dir.number
 
@@ -37,7 +40,12 @@ module _ {c : Content} {w : World} (shows : Shows c w) (tree : IsTree w.rows) (c
   -- the row hangs under its old name
   abbrev pub leaves : Leaves c w.rows move (last from)
   leaves = record {
-    hangs = record { hangs = is.removal.hangs; shown_dir = is.removal.shown_dir; shown_file = is.removal.shown_file; directory = is.removal.directory };
+    hangs = record {
+      hangs = is.removal.hangs;
+      shown_dir = is.removal.shown_dir;
+      shown_file = is.removal.shown_file;
+      directory = is.removal.directory;
+    };
     shown = is.arrival.shown;
     directory = is.arrival.directory;
   }
@@ -48,13 +56,16 @@ module _ {c : Content} {w : World} (shows : Shows c w) (tree : IsTree w.rows) (c
   -- ---- a directory that is full
 
   taken_is : taken_from w.rows from to ≡ name_left move (last from)
-  taken_is = ap (λ m. if m == reached w.rows root (front to) then Some (last from) else None) is.removal.object ∙ ap (λ m. if p == m then Some (last from) else None) is.arrival.object
+  taken_is = ap (λ m. if m == reached w.rows root (front to) then Some (last from) else None) is.removal.object
+      ∙ ap (λ m. if p == m then Some (last from) else None) is.arrival.object
 
   -- a call that fills its directory finds no room in it
-  pub filled : FillsDirectory c w (Rename from to) → (child w.rows q (last to) ≡ None) × HasNoRoom c move (last from) (last to)
+  pub filled : FillsDirectory c w (Rename from to) → (child w.rows q (last to) ≡ None)
+      × HasNoRoom c move (last from) (last to)
   filled full = (
     ap (λ m. child w.rows m (last to)) (sym is.arrival.object) ∙ full.0,
-    subst (λ o. FitsNowhere (bytes_of c q) o (last to)) taken_is (subst (λ m. FitsNowhere (bytes_of c m) (taken_from w.rows from to) (last to)) is.arrival.object full.1),
+    subst (λ o. FitsNowhere (bytes_of c q) o (last to)) taken_is
+        (subst (λ m. FitsNowhere (bytes_of c m) (taken_from w.rows from to) (last to)) is.arrival.object full.1),
   )
 
   module _ (free : child w.rows q (last to) ≡ None) where
@@ -71,11 +82,13 @@ module _ {c : Content} {w : World} (shows : Shows c w) (tree : IsTree w.rows) (c
 
     -- a directory where it fits nowhere has at least 140 names
     pub crowds : HasNoRoom c move (last from) (last to) → length (last to) ≤ 255
-        → (child w.rows (reached w.rows root (front to)) (last to) ≡ None) × (FILE_BLOCKS ≤ length (children w.rows (reached w.rows root (front to))))
+        → (child w.rows (reached w.rows root (front to)) (last to) ≡ None)
+        × (FILE_BLOCKS ≤ length (children w.rows (reached w.rows root (front to))))
     crowds full short = (
       free_at,
       subst (λ m. FILE_BLOCKS ≤ length (children w.rows m)) (sym is.arrival.object)
-          (crowded w.rows q (bytes_of c q) (name_left move (last from)) (last to) (bytes_listing shows q move.dir.attrs is.arrival.shown is.arrival.directory) full short),
+          (crowded w.rows q (bytes_of c q) (name_left move (last from)) (last to)
+          (bytes_listing shows q move.dir.attrs is.arrival.shown is.arrival.directory) full short),
     )
 
   -- a name that is there needs no room
@@ -84,9 +97,11 @@ module _ {c : Content} {w : World} (shows : Shows c w) (tree : IsTree w.rows) (c
 
   -- ---- the world after it
 
-  to_places : (numbers : ℕ) → effect numbers w caller (Rename from to) ≡ after_rename w n (child w.rows q (last to)) q (last to)
+  to_places : (numbers : ℕ) → effect numbers w caller (Rename from to)
+      ≡ after_rename w n (child w.rows q (last to)) q (last to)
   to_places numbers =
-      ap (λ m. after_rename w m (child w.rows (reached w.rows root (front to)) (last to)) (reached w.rows root (front to)) (last to)) is.removal.row
+      ap (λ m. after_rename w m (child w.rows (reached w.rows root (front to)) (last to))
+      (reached w.rows root (front to)) (last to)) is.removal.row
       ∙ ap (λ m. after_rename w n (child w.rows m (last to)) m (last to)) is.arrival.object
 
   -- a row that has the place already stays there
@@ -95,7 +110,8 @@ module _ {c : Content} {w : World} (shows : Shows c w) (tree : IsTree w.rows) (c
       to_places numbers ∙ ap (λ o. after_rename w n o q (last to)) there
       ∙ ap (λ b. cond b w (with_place (map.get w.rows n) n q (last to) (without_row n w))) (eq-eqb n n refl)
 
-  world_free : child w.rows q (last to) ≡ None → (numbers : ℕ) → effect numbers w caller (Rename from to) ≡ record w { rows = map.insert w.rows n (record row { parent = q; name = last to }) }
+  world_free : child w.rows q (last to) ≡ None → (numbers : ℕ) → effect numbers w caller (Rename from to)
+      ≡ record w { rows = map.insert w.rows n (record row { parent = q; name = last to }) }
   world_free free numbers =
       to_places numbers ∙ ap (λ o. after_rename w n o q (last to)) free
       ∙ ap (λ o. with_place o n q (last to) w) (hung shows tree leaves).there
@@ -107,10 +123,12 @@ module _ {c : Content} {w : World} (shows : Shows c w) (tree : IsTree w.rows) (c
     pub not_full : HasNoRoom c move (last from) (last to) → ⊥
     not_full full = somewhere shows tree leaves found.taking.1 found.room.1 full
 
-    module _ (free : child w.rows q (last to) ≡ None) (after : Content) (writes : WritesBlocks c after p places.taken q places.room) where
+    module _ (free : child w.rows q (last to) ≡ None) (after : Content)
+        (writes : WritesBlocks c after p places.taken q places.room) where
       -- the store with both blocks shows the world after it
       pub shows_after : (numbers : ℕ) → Shows after (effect numbers w caller (Rename from to))
-      shows_after numbers = subst (Shows after) (sym (world_free free numbers)) (names.shows_free shows tree leaves free found after writes)
+      shows_after numbers = subst (Shows after) (sym (world_free free numbers))
+          (names.shows_free shows tree leaves free found after writes)
 
       -- the new name is listed where there was room first
       pub moves_first : MovesFirst c after w.rows from to
@@ -119,13 +137,20 @@ module _ {c : Content} {w : World} (shows : Shows c w) (tree : IsTree w.rows) (c
           let dir = reached w.rows root (front to) in
           record {
             taken = places.taken;
-            takes = (found.taking.0, subst (λ m. IsTaking (bytes_of c m) (last from) places.taken found.taking.0) (sym is.removal.object) found.taking.1);
+            takes = (
+              found.taking.0,
+              subst (λ m. IsTaking (bytes_of c m) (last from) places.taken found.taking.0)
+                  (sym is.removal.object) found.taking.1,
+            );
             room = places.room;
             lists = (
               found.room.0,
-              subst (λ k. IsRoom (bytes_of (block_put k places.taken c) dir) (reached w.rows root from) (last to) places.room found.room.0) (sym is.removal.object)
-                  (subst (λ k. IsRoom (bytes_of (block_put p places.taken c) k) (reached w.rows root from) (last to) places.room found.room.0) (sym is.arrival.object)
-                  (subst (λ k. IsRoom (bytes_of mid q) k (last to) places.room found.room.0) (sym is.removal.row) found.room.1)),
+              subst (λ k. IsRoom (bytes_of (block_put k places.taken c) dir) (reached w.rows root from)
+                  (last to) places.room found.room.0) (sym is.removal.object)
+                  (subst (λ k. IsRoom (bytes_of (block_put p places.taken c) k) (reached w.rows root from)
+                  (last to) places.room found.room.0) (sym is.arrival.object)
+                  (subst (λ k. IsRoom (bytes_of mid q) k (last to) places.room found.room.0)
+                  (sym is.removal.row) found.room.1)),
             );
             written = subst (λ k. WritesBlocks c after k places.taken dir places.room) (sym is.removal.object)
                 (subst (λ k. WritesBlocks c after p places.taken k places.room) (sym is.arrival.object) writes);
@@ -135,16 +160,21 @@ module _ {c : Content} {w : World} (shows : Shows c w) (tree : IsTree w.rows) (c
 
   module _ (m : ℕ) (there : child w.rows q (last to) ≡ Some m) (apart : m ≢ n) where
     world_over : (numbers : ℕ) → effect numbers w caller (Rename from to)
-        ≡ record w { rows = swapped w.rows tree.unique n m p q (last from) (last to) apart (hung shows tree leaves) (child-is w.rows q (last to) m there) }
+        ≡ record w {
+          rows = swapped w.rows tree.unique n m p q (last from) (last to) apart (hung shows tree leaves)
+              (child-is w.rows q (last to) m there);
+        }
     world_over numbers =
         to_places numbers ∙ ap (λ o. after_rename w n o q (last to)) there
         ∙ ap (λ b. cond b w (with_place (map.get w.rows n) n q (last to) (without_row m w))) (ne_eqb m n apart)
         ∙ ap (λ o. with_place o n q (last to) (without_row m w)) (hung shows tree leaves).there
 
-    module _ {places : Places} (found : AreSwapped c move (last from) (last to) places) (after : Content) (writes : SwapsBlocks c after p places.taken q places.room m) where
+    module _ {places : Places} (found : AreSwapped c move (last from) (last to) places) (after : Content)
+        (writes : SwapsBlocks c after p places.taken q places.room m) where
       -- the store with both blocks, and without the other's file, shows the world after it
       pub shows_over : (numbers : ℕ) → Shows after (effect numbers w caller (Rename from to))
-      shows_over numbers = subst (Shows after) (sym (world_over numbers)) (names.shows_over shows tree leaves m there apart found after writes)
+      shows_over numbers = subst (Shows after) (sym (world_over numbers))
+          (names.shows_over shows tree leaves m there apart found after writes)
 
       -- the new name keeps its place, with the row's number
       pub swaps_place : SwapsInPlace c after w.rows from to m
@@ -153,13 +183,20 @@ module _ {c : Content} {w : World} (shows : Shows c w) (tree : IsTree w.rows) (c
           let dir = reached w.rows root (front to) in
           record {
             taken = places.taken;
-            takes = (found.taking.0, subst (λ k. IsTaking (bytes_of c k) (last from) places.taken found.taking.0) (sym is.removal.object) found.taking.1);
+            takes = (
+              found.taking.0,
+              subst (λ k. IsTaking (bytes_of c k) (last from) places.taken found.taking.0)
+                  (sym is.removal.object) found.taking.1,
+            );
             room = places.room;
             swaps = (
               found.swap.0,
-              subst (λ k. IsSwap (bytes_of (block_put k places.taken c) dir) (last to) (reached w.rows root from) places.room found.swap.0) (sym is.removal.object)
-                  (subst (λ k. IsSwap (bytes_of mid k) (last to) (reached w.rows root from) places.room found.swap.0) (sym is.arrival.object)
-                  (subst (λ k. IsSwap (bytes_of mid q) (last to) k places.room found.swap.0) (sym is.removal.row) found.swap.1)),
+              subst (λ k. IsSwap (bytes_of (block_put k places.taken c) dir) (last to)
+                  (reached w.rows root from) places.room found.swap.0) (sym is.removal.object)
+                  (subst (λ k. IsSwap (bytes_of mid k) (last to) (reached w.rows root from) places.room found.swap.0)
+                  (sym is.arrival.object)
+                  (subst (λ k. IsSwap (bytes_of mid q) (last to) k places.room found.swap.0)
+                  (sym is.removal.row) found.swap.1)),
             );
             written = subst (λ k. SwapsBlocks c after k places.taken dir places.room m) (sym is.removal.object)
                 (subst (λ k. SwapsBlocks c after p places.taken k places.room m) (sym is.arrival.object) writes);

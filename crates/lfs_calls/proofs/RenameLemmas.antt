@@ -10,15 +10,20 @@ use Rattle.lfs_model.proofs.Deciding.{failing-front, failing-behind}
 
 module _ (w : World) (caller : Caller) (from to : List (List ℕ)) where
   -- where the old name may not be taken away, the call is denied
-  pub rename_kept : (denial : Denial) → first_failing (removing w.rows caller from) ≡ Some denial → decide w caller (Rename from to) ≡ Some denial
+  pub rename_kept : (denial : Denial) → first_failing (removing w.rows caller from) ≡ Some denial
+      → decide w caller (Rename from to) ≡ Some denial
   rename_kept denial h = failing-front (removing w.rows caller from) _ denial h
 
   module _ (removes : first_failing (removing w.rows caller from) ≡ None) where
     -- where the new name may not be looked for, it is too
-    pub rename_not_arrived : (denial : Denial) → first_failing (arriving w.rows caller to) ≡ Some denial → decide w caller (Rename from to) ≡ Some denial
-    rename_not_arrived denial h = failing-behind (removing w.rows caller from) _ removes ∙ failing-front (arriving w.rows caller to) _ denial h
+    pub rename_not_arrived : (denial : Denial) → first_failing (arriving w.rows caller to) ≡ Some denial
+        → decide w caller (Rename from to) ≡ Some denial
+    rename_not_arrived denial h = failing-behind (removing w.rows caller from) _ removes
+        ∙ failing-front (arriving w.rows caller to) _ denial h
 
     -- where it may be, the tests of the place decide
     pub to_moving : first_failing (arriving w.rows caller to) ≡ None
-        → decide w caller (Rename from to) ≡ first_failing (moving_tests w.rows caller from to (child w.rows (reached w.rows root (front to)) (last to)))
-    to_moving arrives = failing-behind (removing w.rows caller from) _ removes ∙ failing-behind (arriving w.rows caller to) _ arrives
+        → decide w caller (Rename from to) ≡ first_failing
+        (moving_tests w.rows caller from to (child w.rows (reached w.rows root (front to)) (last to)))
+    to_moving arrives = failing-behind (removing w.rows caller from) _ removes
+        ∙ failing-behind (arriving w.rows caller to) _ arrives

@@ -14,16 +14,21 @@ use Rattle.lfs_calls.specs.Content.{visible, Shows, ListsRows}
 use Rattle.lfs_calls.specs.Removes.{IsTaking}
 use Rattle.lfs_calls.specs.Renames.{IsSwap, block_put}
 use Rattle.lfs_calls.proofs.ListingsSwapped.{ListsRows-swapped, swapped_length}
-use Rattle.lfs_calls.proofs.MovedStore.{AreListed, AreSized, listed_after, seen_same, sized_after, taken_listed, taken_sized}
+use Rattle.lfs_calls.proofs.MovedStore.{AreListed, AreSized, listed_after, seen_same, sized_after, taken_listed}
+use Rattle.lfs_calls.proofs.MovedStore.{taken_sized}
 use Rattle.lfs_calls.proofs.SwappedRows.{child-swapped, child-swapped_other, swapped, swapped_files, swapped_gone}
 use Rattle.lfs_model.proofs.Children.{child-answer}
 use Rattle.lfs_model.proofs.Shrunk.{hangs_still, unique-shrunk}
 use Rattle.lfs_types.proofs.Maps.{get-remove_same, get-remove_other}
 
-module _ (c : Content) (w : World) (shows : Shows c w) (tree : IsTree w.rows) (n p : ℕ) (old : List ℕ) (hangs : IsChild w.rows p old n)
-    (f : File) (stored : map.get c p ≡ Some f) (directory : f.kind ≡ Directory) (taken : Room) (k : ℕ) (taking : IsTaking f.bytes old taken k)
-    (q : ℕ) (name : List ℕ) (m : ℕ) (there : IsChild w.rows q name m) (apart : m ≢ n) (above : 0 < n) (small : n < 2 ^ 32)
-    (g : File) (stored_new : map.get (block_put p taken c) q ≡ Some g) (directory_new : g.kind ≡ Directory) (room : Room) (j : ℕ) (swap : IsSwap g.bytes name n room j) where
+module _ (c : Content) (w : World) (shows : Shows c w) (tree : IsTree w.rows) (n p : ℕ) (old : List ℕ)
+    (hangs : IsChild w.rows p old n)
+    (f : File) (stored : map.get c p ≡ Some f) (directory : f.kind ≡ Directory) (taken : Room) (k : ℕ)
+    (taking : IsTaking f.bytes old taken k)
+    (q : ℕ) (name : List ℕ) (m : ℕ) (there : IsChild w.rows q name m) (apart : m ≢ n) (above : 0 < n)
+    (small : n < 2 ^ 32)
+    (g : File) (stored_new : map.get (block_put p taken c) q ≡ Some g) (directory_new : g.kind ≡ Directory)
+    (room : Room) (j : ℕ) (swap : IsSwap g.bytes name n room j) where
   -- the content after both blocks
   abbrev pub c_after : Content
   c_after = block_put q room (block_put p taken c)
@@ -44,12 +49,14 @@ module _ (c : Content) (w : World) (shows : Shows c w) (tree : IsTree w.rows) (n
   listing_after : ListsRows rows_after q (splice g.bytes room.off room.block)
   listing_after = ListsRows-swapped g.bytes name n room j swap (map.remove w.rows n) rows_after q m
       (listed_before q g stored_new directory_new) long.1
-      (child-answer _ (unique-shrunk w.rows n tree.unique) q name (Some m) (hangs_still w.rows n q name m apart there)) above small
+      (child-answer _ (unique-shrunk w.rows n tree.unique) q name (Some m) (hangs_still w.rows n q name m apart there))
+      above small
       (child-swapped w.rows tree.unique n m p q old name apart hangs there)
       (λ x other. child-swapped_other w.rows tree.unique n m p q old name apart hangs there q x (λ _ same. other same))
 
   listed_now : AreListed c_after rows_after
-  listed_now = listed_after (block_put p taken c) q g stored_new directory_new room (map.remove w.rows n) rows_after listed_before
+  listed_now = listed_after (block_put p taken c) q g stored_new directory_new room
+      (map.remove w.rows n) rows_after listed_before
       (λ d away x. child-swapped_other w.rows tree.unique n m p q old name apart hangs there d x (λ e _. away (sym e)))
       listing_after
 
@@ -65,14 +72,17 @@ module _ (c : Content) (w : World) (shows : Shows c w) (tree : IsTree w.rows) (n
 
     left : (x : ℕ) (h : File) → map.get after x ≡ Some h → Left x h
     left x h e = ⊎_elim
-        (λ gone. let none : map.get after x ≡ None = same x ∙ ap (map.get (map.remove c_after m)) gone ∙ get-remove_same c_after m in absurd (cc))
+        (λ gone. let none : map.get after x ≡ None = same x ∙ ap (map.get (map.remove c_after m)) gone
+        ∙ get-remove_same c_after m in absurd (cc))
         (λ other. record { other = other; is = sym (get-remove_other c_after m x other) ∙ sym (same x) ∙ e })
         (cases_eq x m)
 
-    files_after : (x : ℕ) → option_map visible (map.get after x) ≡ option_map (λ (r : Row). r.file) (map.get rows_after x)
+    files_after : (x : ℕ) → option_map visible (map.get after x)
+        ≡ option_map (λ (r : Row). r.file) (map.get rows_after x)
     files_after x = ⊎_elim
         (λ gone. ap (option_map visible) (same x ∙ ap (map.get (map.remove c_after m)) gone ∙ get-remove_same c_after m)
-        ∙ sym (ap (option_map (λ (r : Row). r.file)) (ap (map.get rows_after) gone ∙ swapped_gone w.rows tree.unique n m p q old name apart hangs there)))
+        ∙ sym (ap (option_map (λ (r : Row). r.file)) (ap (map.get rows_after) gone
+        ∙ swapped_gone w.rows tree.unique n m p q old name apart hangs there)))
         (λ other. ap (option_map visible) (same x ∙ get-remove_other c_after m x other)
         ∙ seen_same (block_put p taken c) q g stored_new directory_new room x ∙ seen_same c p f stored directory taken x
         ∙ shows.files x ∙ sym (swapped_files w.rows tree.unique n m p q old name apart hangs there x other))

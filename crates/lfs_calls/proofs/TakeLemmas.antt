@@ -29,7 +29,8 @@ use Rattle.lfs_types.proofs.Somewhere.{present, is_some_and}
 use Rattle.lfs_calls.proofs.StepLemmas.{ShownFile, shown_file, child_listed}
 use Rattle.lfs_model.proofs.Trees.{not_in_itself}
 
-module _ (c : Content) (w : World) (shows : Shows c w) (tree : IsTree w.rows) (removal : Removal) (name : List ℕ) (is : HangsAs c w.rows removal name) where
+module _ (c : Content) (w : World) (shows : Shows c w) (tree : IsTree w.rows) (removal : Removal) (name : List ℕ)
+    (is : HangsAs c w.rows removal name) where
   abbrev number : ℕ
   number = removal.file.number
 
@@ -57,7 +58,8 @@ module _ (c : Content) (w : World) (shows : Shows c w) (tree : IsTree w.rows) (r
 
   module _ (room : Room) (k : ℕ) (taking : IsTaking (bytes_of c dir) name room k) where
     at_file : IsTaking f.file.bytes name room k
-    at_file = subst (λ bs. IsTaking bs name room k) (file_bytes shows dir removal.dir.attrs is.shown_dir is.directory) taking
+    at_file = subst (λ bs. IsTaking bs name room k)
+        (file_bytes shows dir removal.dir.attrs is.shown_dir is.directory) taking
 
     abbrev put_file : File
     put_file = record f.file { bytes = splice f.file.bytes room.off room.block }
@@ -70,54 +72,74 @@ module _ (c : Content) (w : World) (shows : Shows c w) (tree : IsTree w.rows) (r
     put_over_dir block = changed_at (map.get c dir) dir (λ x. record x { bytes = splice x.bytes room.off block }) c
 
     after_put : (block : List ℕ) → block ≡ room.block → put_over_dir block ≡ map.insert c dir put_file
-    after_put block same = ap (λ o. changed_at o dir (λ x. record x { bytes = splice x.bytes room.off block }) c) f.stored
+    after_put block same = ap (λ o. changed_at o dir (λ x. record x { bytes = splice x.bytes room.off block }) c)
+        f.stored
         ∙ ap (λ bs. map.insert c dir (record f.file { bytes = splice f.file.bytes room.off bs })) same
 
     -- a store may be asked for the block and the removal
-    pub can_take : (numbers : ℕ) (pointed : Bor (List ℕ)) → pointed.now ≡ room.block → CanApply numbers (Put dir room.off pointed ∷ Remove number ∷ []) c
+    pub can_take : (numbers : ℕ) (pointed : Bor (List ℕ)) → pointed.now ≡ room.block
+        → CanApply numbers (Put dir room.off pointed ∷ Remove number ∷ []) c
     can_take numbers pointed same = record {
       few = omega arith;
       few_puts = omega arith;
       few_lengths = omega arith;
       few_bytes = let n = ap (λ (bs : List ℕ). length bs) same in omega (arith, taking.block.size);
       each = (
-        is_some_and _ f.stored (subst (λ bs. IsLength f.file.kind (length (splice f.file.bytes room.off bs))) (sym same) (subst (λ k. IsLength k (length put_file.bytes)) (sym kind) put_length)),
-        (present (ap (λ x. map.get x number) (after_put pointed.now same) ∙ get-insert_other c dir put_file number (λ e. unlike (sym e)) ∙ (shown_file c number removal.file.attrs is.shown_file).stored), tt),
+        is_some_and _ f.stored (subst (λ bs. IsLength f.file.kind (length (splice f.file.bytes room.off bs))) (sym same)
+            (subst (λ k. IsLength k (length put_file.bytes)) (sym kind) put_length)),
+        (
+          present (ap (λ x. map.get x number) (after_put pointed.now same)
+              ∙ get-insert_other c dir put_file number (λ e. unlike (sym e))
+              ∙ (shown_file c number removal.file.attrs is.shown_file).stored),
+          tt,
+        ),
       );
     }
 
     -- it takes the file away and writes the block, and is otherwise what it was
-    pub takes_file : (new : Content) → new ≡ map.remove (put_over_dir room.block) number → TakesFile c new number dir room.off room.block
+    pub takes_file : (new : Content) → new ≡ map.remove (put_over_dir room.block) number
+        → TakesFile c new number dir room.off room.block
     takes_file new made =
-        let made_by : new ≡ map.remove (map.insert c dir put_file) number = made ∙ ap (λ x. map.remove x number) (after_put room.block refl) in
+        let made_by : new ≡ map.remove (map.insert c dir put_file) number = made
+        ∙ ap (λ x. map.remove x number) (after_put room.block refl) in
         record {
           gone = ap (λ x. map.get x number) made_by ∙ get-remove_same (map.insert c dir put_file) number;
           listed = λ g e.
               let one : f.file ≡ g = let there = f.stored in cc in
               subst (λ (x : File). map.get new dir ≡ Some (record x { bytes = splice x.bytes room.off room.block })) one
-              (ap (λ x. map.get x dir) made_by ∙ get-remove_other (map.insert c dir put_file) number dir unlike ∙ get-insert_same c dir put_file);
-          others = λ q a b. ap (λ x. map.get x q) made_by ∙ get-remove_other (map.insert c dir put_file) number q a ∙ get-insert_other c dir put_file q b;
+              (ap (λ x. map.get x dir) made_by ∙ get-remove_other (map.insert c dir put_file) number dir unlike
+              ∙ get-insert_same c dir put_file);
+          others = λ q a b. ap (λ x. map.get x q) made_by ∙ get-remove_other (map.insert c dir put_file) number q a
+              ∙ get-insert_other c dir put_file q b;
         }
 
     -- the store shows the tree without the row
-    pub shows_without : (after : Content) → TakesFile c after number dir room.off room.block → Shows after (without_row number w)
+    pub shows_without : (after : Content) → TakesFile c after number dir room.off room.block
+        → Shows after (without_row number w)
     shows_without after takes =
-        Shows-shrunk c after w shows tree number dir name hung f.file put_file.bytes f.stored kind unlike takes.gone (takes.listed f.file f.stored) takes.others put_length
-        (ListsRows-taken w.rows tree.unique dir number name hung f.file.bytes (shows.listings dir f.file f.stored kind) size.1 room k at_file)
+        Shows-shrunk c after w shows tree number dir name hung f.file put_file.bytes f.stored kind unlike takes.gone
+        (takes.listed f.file f.stored) takes.others put_length
+        (ListsRows-taken w.rows tree.unique dir number name hung f.file.bytes
+        (shows.listings dir f.file f.stored kind) size.1 room k at_file)
 
     -- its directories list what they listed, but for the name, under which none is found
-    pub loses_name : IsChildless w.rows number → (after : Content) → TakesFile c after number dir room.off room.block → FindsNew c after dir name None
+    pub loses_name : IsChildless w.rows number → (after : Content) → TakesFile c after number dir room.off room.block
+        → FindsNew c after dir name None
     loses_name childless after takes =
         let shown = shows_without after takes in
         let left : World = without_row number w in
-        let files : (d : ℕ) → d ≢ number → option_map (λ (r : Row). r.file) (map.get left.rows d) ≡ option_map (λ (r : Row). r.file) (map.get w.rows d) =
+        let files : (d : ℕ) → d ≢ number → option_map (λ (r : Row). r.file) (map.get left.rows d)
+        ≡ option_map (λ (r : Row). r.file) (map.get w.rows d) =
         λ d other. ap (option_map (λ (r : Row). r.file)) (get-remove_other w.rows number d other) in
         record {
           keeps = λ d x found apart was. ⊎_elim
-              (λ e. found_gone c after w shows d (λ q. ap (λ k. child w.rows k q) e ∙ childless q) (ap (map.get after) e ∙ takes.gone) x found was)
-              (λ other. found_still c after w left shows shown d (files d other) x found (child-left_elsewhere w.rows number tree.unique dir name hung d x apart) was)
+              (λ e. found_gone c after w shows d (λ q. ap (λ k. child w.rows k q) e ∙ childless q) (ap (map.get after) e
+              ∙ takes.gone) x found was)
+              (λ other. found_still c after w left shows shown d (files d other) x found
+              (child-left_elsewhere w.rows number tree.unique dir name hung d x apart) was)
               (cases_eq d number);
           finds = found_now c after w left shows shown dir name None
-              (directory_still c after w left shows shown dir (files dir unlike) (directory_at shows dir removal.dir.attrs is.shown_dir is.directory))
+              (directory_still c after w left shows shown dir (files dir unlike)
+              (directory_at shows dir removal.dir.attrs is.shown_dir is.directory))
               (child-removed w.rows number tree.unique dir name hung);
         }

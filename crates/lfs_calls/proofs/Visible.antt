@@ -14,14 +14,16 @@ visible_bytes-none Directory = refl
 
 -- an empty file is seen as it is
 pub visible-none : (f : File) → f.bytes ≡ [] → visible f ≡ f
-visible-none f none = ap (λ bs. record f { bytes = bs }) (ap (visible_bytes f.kind) none ∙ visible_bytes-none f.kind ∙ sym none)
+visible-none f none = ap (λ bs. record f { bytes = bs }) (ap (visible_bytes f.kind) none ∙ visible_bytes-none f.kind
+    ∙ sym none)
 
 -- of a directory's bytes none are seen
 pub visible_bytes-directory : (k : Kind) (a b : List ℕ) → k ≡ Directory → visible_bytes k a ≡ visible_bytes k b
 visible_bytes-directory k a b h = subst (λ d. visible_bytes d a ≡ visible_bytes d b) (sym h) refl
 
 -- a directory with other bytes is seen as before
-pub visible-directory : (f : File) (bytes : List ℕ) → f.kind ≡ Directory → visible (record f { bytes = bytes }) ≡ visible f
+pub visible-directory : (f : File) (bytes : List ℕ) → f.kind ≡ Directory → visible (record f { bytes = bytes })
+    ≡ visible f
 visible-directory f bytes h = ap (λ bs. record f { bytes = bs }) (visible_bytes-directory f.kind bytes f.bytes h)
 
 -- a file is seen as it is stored
@@ -35,28 +37,33 @@ pub record Seen (c : Content) (n : ℕ) (r : Row) : Type 0 where
   pub stored : map.get c n ≡ Some file
   pub same : visible file ≡ r.file
 
-stored_as : (c : Content) (n : ℕ) (r : Row) (o : Option File) → map.get c n ≡ o → option_map visible o ≡ Some r.file → Seen c n r
+stored_as : (c : Content) (n : ℕ) (r : Row) (o : Option File) → map.get c n ≡ o → option_map visible o ≡ Some r.file
+    → Seen c n r
 stored_as c n r None e h = absurd (cc)
 stored_as c n r (Some f) e h = record { file = f; stored = e; same = cc }
 
 -- the stored file of a row
 pub stored_of : (c : Content) (w : World) → Shows c w → (n : ℕ) (r : Row) → map.get w.rows n ≡ Some r → Seen c n r
-stored_of c w shows n r there = stored_as c n r (map.get c n) refl (shows.files n ∙ ap (option_map (λ (x : Row). x.file)) there)
+stored_of c w shows n r there = stored_as c n r (map.get c n) refl (shows.files n
+    ∙ ap (option_map (λ (x : Row). x.file)) there)
 
 pub record Stored (w : World) (n : ℕ) (f : File) : Type 0 where
   pub row : Row
   pub there : map.get w.rows n ≡ Some row
   pub same : visible f ≡ row.file
 
-shown_as : (w : World) (n : ℕ) (f : File) (o : Option Row) → map.get w.rows n ≡ o → Some (visible f) ≡ option_map (λ (r : Row). r.file) o → Stored w n f
+shown_as : (w : World) (n : ℕ) (f : File) (o : Option Row) → map.get w.rows n ≡ o → Some (visible f)
+    ≡ option_map (λ (r : Row). r.file) o → Stored w n f
 shown_as w n f None e h = absurd (cc)
 shown_as w n f (Some r) e h = record { row = r; there = e; same = cc }
 
 -- the row of a stored file
 pub shown_of : (c : Content) (w : World) → Shows c w → (n : ℕ) (f : File) → map.get c n ≡ Some f → Stored w n f
-shown_of c w shows n f stored = shown_as w n f (map.get w.rows n) refl (sym (ap (option_map visible) stored) ∙ shows.files n)
+shown_of c w shows n f stored = shown_as w n f (map.get w.rows n) refl (sym (ap (option_map visible) stored)
+    ∙ shows.files n)
 
-unused_as : (w : World) (n : ℕ) (o : Option Row) → map.get w.rows n ≡ o → None ≡ option_map (λ (r : Row). r.file) o → map.get w.rows n ≡ None
+unused_as : (w : World) (n : ℕ) (o : Option Row) → map.get w.rows n ≡ o → None ≡ option_map (λ (r : Row). r.file) o
+    → map.get w.rows n ≡ None
 unused_as w n None e h = e
 unused_as w n (Some r) e h = absurd (cc)
 

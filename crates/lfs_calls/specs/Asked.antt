@@ -21,15 +21,18 @@ use Rattle.lfs_calls.specs.Calls.{answered}
 use Rattle.lfs_calls.specs.Content.{Shows}
 use Rattle.lfs_calls.specs.Volumes.{InWorld}
 
--- A store was asked for these changes, with this result. Where there are none it is not asked: then the result is good, and
+-- A store was asked for these changes, with this result. Where there are none it is not asked: then the result is good,
+-- and
 -- the state is as it was.
-abbrev pub ComesOf : {F : Type 0} → (F → StoreState) → (F → List Change → Reserve → Result (Unit {0}) StoreRefusal → F → Type 0)
+abbrev pub ComesOf : {F : Type 0} → (F → StoreState)
+    → (F → List Change → Reserve → Result (Unit {0}) StoreRefusal → F → Type 0)
     → F → List Change → Reserve → Result (Unit {0}) StoreRefusal → F → Type 0
 ComesOf state made old [] by result new = (result ≡ Ok tt) × (state new ≡ state old)
 ComesOf state made old (change ∷ changes) by result new = WasAsked state made old (change ∷ changes) by result new
 
 -- on somebody's behalf a store was asked for changes that make a content of which P holds, and it came to this
-pub record Asks {F : Type 0} (state : F → StoreState) (made : F → List Change → Reserve → Result (Unit {0}) StoreRefusal → F → Type 0)
+pub record Asks {F : Type 0} (state : F → StoreState) (made : F → List Change → Reserve → Result (Unit {0}) StoreRefusal
+    → F → Type 0)
     (old : F) (by : Reserve) (P : Content → Type 0) (result : Result (Unit {0}) StoreRefusal) (new : F) : Type 0 where
   pub changes : List Change
   pub came : ComesOf state made old changes by result new
@@ -60,8 +63,10 @@ OnChange Sync P = Unit {0}
 OnChange request P = P
 
 -- A call that changes files was answered so: where it is served, or refused for want of space or memory, the store was
--- asked on the caller's behalf for changes that make the call, as its state stood, said so, and was left as they left it.
-abbrev pub IsAsked : {F : Type 0} → (F → StoreState) → (F → List Change → Reserve → Result (Unit {0}) StoreRefusal → F → Type 0)
+-- asked on the caller's behalf for changes that make the call, as its state stood, said so, and was left as they left
+-- it.
+abbrev pub IsAsked : {F : Type 0} → (F → StoreState)
+    → (F → List Change → Reserve → Result (Unit {0}) StoreRefusal → F → Type 0)
     → F → Caller → Request → Answer → F → Type 0
 IsAsked state made old caller request answer new =
     OnChange request (OnAsked answer (λ result. Asks state made old (reserve_of caller)

@@ -34,7 +34,8 @@ answered (Err (Denied denial)) = answers.Denied denial
 answered (Err (Refused resource)) = answers.Refused resource
 
 -- a store is changed to a content of which P holds, or not at all; a refusal has its cause
-pub record ChangesTo (old : StoreState) (P : Content → Type 0) (result : Result (Unit {0}) StoreRefusal) (new : StoreState) : Type 0 where
+pub record ChangesTo (old : StoreState) (P : Content → Type 0) (result : Result (Unit {0}) StoreRefusal)
+    (new : StoreState) : Type 0 where
   pub ok : OnOk result (P new.content)
   pub err : OnErr result (new.content ≡ old.content)
   pub refused : IfErr result (MayRefuse old.clean old.shape.can_lack_memory)
@@ -64,7 +65,8 @@ OnUnasked (answers.Refused resources.JournalFull) P = P
 -- the world that the answer leaves, a served call leaves the entries of directories in their places, a call that halts
 -- or lists changes no content, one that looks, that a rule denies or that wants a number or room for a name leaves the
 -- whole state as it was, and no more segments are clean.
-pub record IsCallAt (level : Level) (old new : StoreState) (caller : Caller) (request : Request) (result : Result Served NotServed) : Type 0 where
+pub record IsCallAt (level : Level) (old new : StoreState) (caller : Caller) (request : Request)
+    (result : Result Served NotServed) : Type 0 where
   pub outcome : InWorld old (λ w. w.level ≡ level → IsOutcome old w caller request (answered result))
   pub leaves : InWorld old (λ w. IsVolume new (after_answer old.shape.numbers w caller request (answered result)))
   pub entries : OnServed (answered result) (InWorld old (λ w. LeavesEntries request old.content new.content w.rows))

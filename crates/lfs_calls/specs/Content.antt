@@ -1,5 +1,6 @@
 -- What a store's content shows as a world.
-use Rattle.std.specs.Prelude.{◌≡◌, ◌≢◌, ℕ, zero, suc, ◌+◌, ◌*◌, ◌/◌, ◌%◌, ◌<◌, List, [], ◌++◌, length, take, drop, Option, None, Some, IsSome, IsSomeAnd, option_map}
+use Rattle.std.specs.Prelude.{◌≡◌, ◌≢◌, ℕ, zero, suc, ◌+◌, ◌*◌, ◌/◌, ◌%◌, ◌<◌, List, [], ◌++◌, length, take, drop}
+use Rattle.std.specs.Prelude.{Option, None, Some, IsSome, IsSomeAnd, option_map}
 use Rattle.std.specs.FinMap as map
 use Rattle.lfs_types.specs.declared.limits.TheConstants.{FILE_BLOCKS, FILE_BYTES}
 use Rattle.lfs_types.specs.declared.block.TheConstants.{BLOCK_SIZE}
@@ -27,7 +28,8 @@ all_entries bytes = entries_below bytes (length bytes / BLOCK_SIZE)
 
 -- each block of a directory's bytes is a directory block
 abbrev pub AreBlocks : List ℕ → Type 0
-AreBlocks bytes = (k : ℕ) → k < length bytes / BLOCK_SIZE → IsDirectoryBlock (block_at bytes k) (entries_of (block_at bytes k))
+AreBlocks bytes = (k : ℕ) → k < length bytes / BLOCK_SIZE
+    → IsDirectoryBlock (block_at bytes k) (entries_of (block_at bytes k))
 
 -- a number is used by a file of this size, in whole blocks
 pub record HasBlocks (c : Content) (n size : ℕ) : Type 0 where
@@ -78,4 +80,5 @@ left_of (Some name) es = without name es
 -- that it may have
 pub record FitsNowhere (bytes : List ℕ) (taken : Option (List ℕ)) (name : List ℕ) : Type 0 where
   pub whole : length bytes ≡ FILE_BYTES
-  pub full : (k : ℕ) → k < FILE_BLOCKS → BLOCK_SIZE < used_of (left_of taken (entries_of (block_at bytes k))) + 5 + length name
+  pub full : (k : ℕ) → k < FILE_BLOCKS → BLOCK_SIZE < used_of (left_of taken (entries_of (block_at bytes k))) + 5
+      + length name

@@ -1,5 +1,6 @@
 -- What judging and making a new row come to, over a store.
-use Rattle.std.specs.Prelude.{◌≡◌, ◌≢◌, ℕ, ◌+◌, ◌*◌, ◌/◌, ◌%◌, ◌<◌, ◌≤◌, true, List, [], ◌∷◌, ◌++◌, length, Option, None, Some, IsSomeAnd, IfSome}
+use Rattle.std.specs.Prelude.{◌≡◌, ◌≢◌, ℕ, ◌+◌, ◌*◌, ◌/◌, ◌%◌, ◌<◌, ◌≤◌, true, List, [], ◌∷◌, ◌++◌, length, Option}
+use Rattle.std.specs.Prelude.{None, Some, IsSomeAnd, IfSome}
 use Rattle.std.specs.Borrow.{Bor}
 use Rattle.std.specs.FinMap as map
 use Rattle.lfs_types.specs.declared.limits.TheConstants.{FILE_BLOCKS, FILE_BYTES}
@@ -54,7 +55,8 @@ abbrev pub with_block : List ℕ → Option (Bor Room) → List ℕ
 with_block bytes None = bytes
 with_block bytes (Some room) = splice bytes room.now.off room.now.block
 
--- a directory of this size, in one of whose blocks another may be read, may get a name that it doesn't list, for a number
+-- a directory of this size, in one of whose blocks another may be read, may get a name that it doesn't list, for a
+-- number
 pub record CanEnter (c : Content) (dir size : ℕ) (taken : Option (Bor Room)) (name : List ℕ) (number : ℕ) : Type 0 where
   pub stored : HasBlocks c dir size
   pub bounded : size ≤ FILE_BYTES
@@ -65,7 +67,8 @@ pub record CanEnter (c : Content) (dir size : ℕ) (taken : Option (Bor Room)) (
 
 -- a block of a directory's bytes, or one at their end
 pub record IsBlockOf (c : Content) (dir : ℕ) (room : Room) : Type 0 where
-  pub directory : IsSomeAnd (map.get c dir) (λ f. (f.kind ≡ Directory) × (length f.bytes % BLOCK_SIZE ≡ 0) × (length f.bytes ≤ FILE_BYTES) × (room.off ≤ length f.bytes))
+  pub directory : IsSomeAnd (map.get c dir) (λ f. (f.kind ≡ Directory) × (length f.bytes % BLOCK_SIZE ≡ 0)
+      × (length f.bytes ≤ FILE_BYTES) × (room.off ≤ length f.bytes))
   pub aligned : room.off % BLOCK_SIZE ≡ 0
   pub fits : room.off < FILE_BYTES
   pub size : length room.block ≡ BLOCK_SIZE
@@ -80,7 +83,8 @@ pub record CanMake (s : StoreState) (number dir : ℕ) (room : Room) : Type 0 wh
 -- the content after a file was made and a block of its directory was written; all other files stay
 pub record MakesFile (old new : Content) (number : ℕ) (file : File) (dir : ℕ) (off : ℕ) (block : List ℕ) : Type 0 where
   pub made : map.get new number ≡ Some file
-  pub listed : (f : File) → map.get old dir ≡ Some f → map.get new dir ≡ Some (record f { bytes = splice f.bytes off block })
+  pub listed : (f : File) → map.get old dir ≡ Some f → map.get new dir
+      ≡ Some (record f { bytes = splice f.bytes off block })
   pub others : (q : ℕ) → q ≢ number → q ≢ dir → map.get new q ≡ map.get old q
 
 -- A directory's bytes list a new name: its entry stands in the first block where it fits, or else in a new one at the

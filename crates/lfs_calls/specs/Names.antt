@@ -24,7 +24,8 @@ IsFound c dir name (Some number) = Lists c dir name number
 
 -- what a cache says of names is what is found
 abbrev pub AreTrue : NameCache → Content → Type 0
-AreTrue names c = (dir : ℕ) (name : List ℕ) (found : Option ℕ) → says names dir name ≡ Some found → IsFound c dir name found
+AreTrue names c = (dir : ℕ) (name : List ℕ) (found : Option ℕ) → says names dir name ≡ Some found
+    → IsFound c dir name found
 
 -- what is known: what caches say of names and of attributes is what a content has, and what hints say of room is so
 pub record IsTrueOf (names : NameCache) (attributes : Slots Attrs) (hints : Slots Hint) (c : Content) : Type 0 where
@@ -34,7 +35,8 @@ pub record IsTrueOf (names : NameCache) (attributes : Slots Attrs) (hints : Slot
 
 -- what was found is found still
 abbrev pub KeepsNames : Content → Content → Type 0
-KeepsNames old new = (dir : ℕ) (name : List ℕ) (found : Option ℕ) → IsFound old dir name found → IsFound new dir name found
+KeepsNames old new = (dir : ℕ) (name : List ℕ) (found : Option ℕ) → IsFound old dir name found
+    → IsFound new dir name found
 
 -- but for one name
 abbrev pub KeepsBut : ℕ → List ℕ → Content → Content → Type 0
@@ -53,7 +55,8 @@ KeepsButBoth from old to new before after =
     → IsFound before d n found → IsFound after d n found
 
 -- of which the first is none, and the second this number's
-pub record MovesName (before after : Content) (from : ℕ) (old : List ℕ) (to : ℕ) (new : List ℕ) (number : ℕ) : Type 0 where
+pub record MovesName (before after : Content) (from : ℕ) (old : List ℕ) (to : ℕ) (new : List ℕ)
+    (number : ℕ) : Type 0 where
   pub keeps : KeepsButBoth from old to new before after
   pub loses : IsFound after from old None
   pub gives : IsFound after to new (Some number)

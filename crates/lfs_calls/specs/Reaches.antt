@@ -10,5 +10,6 @@ use Rattle.lfs_model.specs.Walks.{walked}
 
 -- a path leads to a row, whose attributes the store shows, or its walk is denied
 abbrev pub Reaches : Content → Rows → Caller → ℕ → List (List ℕ) → Result Reached Denial → Type 0
-Reaches c rows caller path names (Ok r) = (walked rows caller path 0 root names ≡ Ok r.number) × (Some r.attrs ≡ shown_attrs c r.number)
+Reaches c rows caller path names (Ok r) = (walked rows caller path 0 root names ≡ Ok r.number)
+    × (Some r.attrs ≡ shown_attrs c r.number)
 Reaches c rows caller path names (Err denial) = walked rows caller path 0 root names ≡ Err denial

@@ -74,13 +74,15 @@ pub record IsTaking (bytes : List ℕ) (name : List ℕ) (room : Room) (k : ℕ)
 -- the content after a file was removed and a block of its directory was written; all other files stay
 pub record TakesFile (old new : Content) (number dir off : ℕ) (block : List ℕ) : Type 0 where
   pub gone : map.get new number ≡ None
-  pub listed : (f : File) → map.get old dir ≡ Some f → map.get new dir ≡ Some (record f { bytes = splice f.bytes off block })
+  pub listed : (f : File) → map.get old dir ≡ Some f → map.get new dir
+      ≡ Some (record f { bytes = splice f.bytes off block })
   pub others : (q : ℕ) → q ≢ number → q ≢ dir → map.get new q ≡ map.get old q
 
 -- the content after a row was taken away: the block that lists its name was written without it, and its file removed
 abbrev pub TakesRow : Content → Content → Removal → List ℕ → Type 0
 TakesRow old new removal name =
-    (room : Room) × (k : ℕ) × (IsTaking (bytes_of old removal.dir.number) name room k × TakesFile old new removal.file.number removal.dir.number room.off room.block)
+    (room : Room) × (k : ℕ) × (IsTaking (bytes_of old removal.dir.number) name room k
+    × TakesFile old new removal.file.number removal.dir.number room.off room.block)
 
 -- A directory's bytes list a name no more: the block that listed it was written without it, closed up, and all other
 -- blocks, and how many there are, are what they were.

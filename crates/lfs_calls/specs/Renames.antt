@@ -1,5 +1,6 @@
 -- What judging and making a Rename come to, over a store.
-use Rattle.std.specs.Prelude.{◌≡◌, Ok, ◌≢◌, ◌==◌, ◌*◌, ◌/◌, ◌<◌, ℕ, Bool, true, false, List, length, IfErr, IfSome, IsSome, OnErr, OnOk, Option, Result, ◌≤◌, None, Some, if◌then◌else◌}
+use Rattle.std.specs.Prelude.{◌≡◌, Ok, ◌≢◌, ◌==◌, ◌*◌, ◌/◌, ◌<◌, ℕ, Bool, true, false, List, length, IfErr, IfSome}
+use Rattle.std.specs.Prelude.{IsSome, OnErr, OnOk, Option, Result, ◌≤◌, None, Some, if◌then◌else◌}
 use Rattle.std.specs.FinMap as map
 use Rattle.lfs_types.specs.declared.block.TheConstants.{BLOCK_SIZE}
 use Rattle.lfs_types.specs.Changes.{changed_at}
@@ -61,7 +62,8 @@ block_put dir room c = changed_at (map.get c dir) dir (λ f. record f { bytes = 
 
 -- the content after blocks of two directories, or of one, were written, one after the other
 abbrev pub WritesBlocks : Content → Content → ℕ → Room → ℕ → Room → Type 0
-WritesBlocks old new first taken second room = (q : ℕ) → map.get new q ≡ map.get (block_put second room (block_put first taken old)) q
+WritesBlocks old new first taken second room = (q : ℕ) → map.get new q
+    ≡ map.get (block_put second room (block_put first taken old)) q
 
 -- a row hangs in a directory under a name, and may go to a directory, or stay in the same
 pub record Leaves (c : Content) (rows : Rows) (move : Move) (old : List ℕ) : Type 0 where
@@ -78,18 +80,22 @@ pub record GoesTo (c : Content) (rows : Rows) (move : Move) (old new : List ℕ)
 abbrev pub name_left : Move → List ℕ → Option (List ℕ)
 name_left move old = if move.removal.dir.number == move.dir.number then Some old else None
 
--- the block that lists the old name, without it, and after that was written a block, or one at the end, with the new one
+-- the block that lists the old name, without it, and after that was written a block, or one at the end, with the new
+-- one
 pub record ArePlaces (c : Content) (move : Move) (old new : List ℕ) (places : Places) : Type 0 where
   pub taking : (k : ℕ) × IsTaking (bytes_of c move.removal.dir.number) old places.taken k
-  pub room : (k : ℕ) × IsRoom (bytes_of (block_put move.removal.dir.number places.taken c) move.dir.number) move.removal.file.number new places.room k
+  pub room : (k : ℕ) × IsRoom (bytes_of (block_put move.removal.dir.number places.taken c) move.dir.number)
+      move.removal.file.number new places.room k
 
--- A Rename's new name stands in the first block of its directory where it fits, once the old name was taken away from its
+-- A Rename's new name stands in the first block of its directory where it fits, once the old name was taken away from
+-- its
 -- own, or else in a new one at the end; nothing but these two blocks was written.
 pub record MovesFirst (old new : Content) (rows : Rows) (from to : List (List ℕ)) : Type 0 where
   pub taken : Room
   pub takes : (k : ℕ) × IsTaking (bytes_of old (reached rows root (front from))) (last from) taken k
   pub room : Room
-  pub lists : (k : ℕ) × IsRoom (bytes_of (block_put (reached rows root (front from)) taken old) (reached rows root (front to)))
+  pub lists : (k : ℕ) × IsRoom (bytes_of (block_put (reached rows root (front from)) taken old)
+      (reached rows root (front to)))
       (reached rows root from) (last to) room k
   pub written : WritesBlocks old new (reached rows root (front from)) taken (reached rows root (front to)) room
 
@@ -114,20 +120,23 @@ pub record GoesOver (c : Content) (rows : Rows) (move : Move) (old new : List �
 -- moved row's number
 pub record AreSwapped (c : Content) (move : Move) (old new : List ℕ) (places : Places) : Type 0 where
   pub taking : (k : ℕ) × IsTaking (bytes_of c move.removal.dir.number) old places.taken k
-  pub swap : (k : ℕ) × IsSwap (bytes_of (block_put move.removal.dir.number places.taken c) move.dir.number) new move.removal.file.number places.room k
+  pub swap : (k : ℕ) × IsSwap (bytes_of (block_put move.removal.dir.number places.taken c) move.dir.number) new
+      move.removal.file.number places.room k
 
 -- the content after such blocks were written and a file was removed
 abbrev pub SwapsBlocks : Content → Content → ℕ → Room → ℕ → Room → ℕ → Type 0
 SwapsBlocks old new first taken second room gone =
     (q : ℕ) → map.get new q ≡ map.get (map.remove (block_put second room (block_put first taken old)) gone) q
 
--- A Rename over another row: its old name was taken away, and the new one has its number in the entry's place; nothing but
+-- A Rename over another row: its old name was taken away, and the new one has its number in the entry's place; nothing
+-- but
 -- these two blocks was written, and nothing but the other row removed.
 pub record SwapsInPlace (old new : Content) (rows : Rows) (from to : List (List ℕ)) (gone : ℕ) : Type 0 where
   pub taken : Room
   pub takes : (k : ℕ) × IsTaking (bytes_of old (reached rows root (front from))) (last from) taken k
   pub room : Room
-  pub swaps : (k : ℕ) × IsSwap (bytes_of (block_put (reached rows root (front from)) taken old) (reached rows root (front to)))
+  pub swaps : (k : ℕ) × IsSwap (bytes_of (block_put (reached rows root (front from)) taken old)
+      (reached rows root (front to)))
       (last to) (reached rows root from) room k
   pub written : SwapsBlocks old new (reached rows root (front from)) taken (reached rows root (front to)) room gone
 
@@ -154,13 +163,16 @@ pub record CanSwap (c : Content) (dir size : ℕ) (taken : Option (Bor Room)) (n
 abbrev pub IsCauseOf : StoreState → Type 0 → NotServed → Type 0
 IsCauseOf old full (reasons.Denied denial) = ⊥
 IsCauseOf old full (reasons.Refused resources.DirectoryFull) = full
-IsCauseOf old full (reasons.Refused resources.NoSpace) = MayRefuse old.clean old.shape.can_lack_memory NoSpace × (full → ⊥)
-IsCauseOf old full (reasons.Refused resources.NoMemory) = MayRefuse old.clean old.shape.can_lack_memory NoMemory × (full → ⊥)
+IsCauseOf old full (reasons.Refused resources.NoSpace) = MayRefuse old.clean old.shape.can_lack_memory NoSpace
+    × (full → ⊥)
+IsCauseOf old full (reasons.Refused resources.NoMemory) = MayRefuse old.clean old.shape.can_lack_memory NoMemory
+    × (full → ⊥)
 IsCauseOf old full (reasons.Refused resource) = ⊥
 
 -- a row was put in a place, so that P holds of the content, or no content changed, which has its cause; where its name
 -- has no room the state is as it was
-pub record PutsRow (old : StoreState) (full : Type 0) (P : Content → Type 0) (result : Result (Unit {0}) NotServed) (after : StoreState) : Type 0 where
+pub record PutsRow (old : StoreState) (full : Type 0) (P : Content → Type 0) (result : Result (Unit {0}) NotServed)
+    (after : StoreState) : Type 0 where
   pub ok : OnOk result (P after.content)
   pub err : OnErr result (after.content ≡ old.content)
   pub refused : IfErr result (IsCauseOf old full)
@@ -204,7 +216,8 @@ PlacesRow old move name new (targets.Taken there) result after =
     PutsRow old ⊥ (λ c. MovesOver old.content c move name new there.number) result after
 
 -- a Rename to the name that the row has is served where the rules allow it, and leaves all as it was
-abbrev pub StaysInPlace : StoreState → StoreState → World → Caller → List (List ℕ) → List (List ℕ) → Result Served NotServed → Type 0
+abbrev pub StaysInPlace : StoreState → StoreState → World → Caller → List (List ℕ) → List (List ℕ)
+    → Result Served NotServed → Type 0
 StaysInPlace old new w caller from to result =
     child w.rows (reached w.rows root (front to)) (last to) ≡ Some (reached w.rows root from)
     → decide w caller (Rename from to) ≡ None

@@ -25,12 +25,15 @@ use Rattle.lfs_checking.specs.declared.fault.VolumeFault.{VolumeFault}
 use Rattle.lfs_checking.specs.declared.fault.VolumeFault.TheVariants.{Image, Tree, Memory}
 use Rattle.lfs_checking.specs.Volumes.{IsVolume, IsVolumeFaultOf}
 
-pub no_volume : (bytes : List ℕ) (fault : VolumeFault) → IsVolumeFaultOf bytes fault → (fault ≡ Memory → ⊥) → (l : LogParts) (level : Level)
+pub no_volume : (bytes : List ℕ) (fault : VolumeFault) → IsVolumeFaultOf bytes fault → (fault ≡ Memory → ⊥)
+    → (l : LogParts) (level : Level)
     → IsVolume bytes l level → ⊥
-no_volume bytes (Image fault) (not_memory, is) other l level v = no_image bytes fault is not_memory l level v.stored v.labelled v.image.spelled
+no_volume bytes (Image fault) (not_memory, is) other l level v =
+    no_image bytes fault is not_memory l level v.stored v.labelled v.image.spelled
 no_volume bytes (Tree fault) (not_memory, has) other l level v =
     let same : has.log ≡ l = (one_image bytes has.log l has.level level has.image v.image).0 in
-    no_world (state_of (settled has.log)) fault has.is not_memory (subst (λ m. HasWorld (state_of (settled m))) (sym same) v.world)
+    no_world (state_of (settled has.log)) fault has.is not_memory
+    (subst (λ m. HasWorld (state_of (settled m))) (sym same) v.world)
 no_volume bytes Memory is other l level v = other refl
 
 -- each number in use has a row
@@ -39,7 +42,8 @@ below_rows p n used =
     elim (cases_lt n (length p.log.tables.rows)) [
       | inl inside ↦ inside
       | inr past ↦
-          let free : (row_of p.log.tables n).used ≡ false = ap (λ row. row.used) (get_or_past p.log.tables.rows n fresh_row past) in
+          let free : (row_of p.log.tables n).used ≡ false =
+          ap (λ row. row.used) (get_or_past p.log.tables.rows n fresh_row past) in
           absurd (false≢true (subst (λ found. IsSome found) (free_shown p n free) used))
     ]
 
@@ -60,10 +64,15 @@ pub same_world : (l : LogParts) (n : ℕ) → HasWorld (state_of (settled l)) �
 same_world l n world =
     let same : content_of (stored n l) ≡ content_of (settled l) =
     content_of-same (settled l) (stored n l) refl (λ k low. same_file l least_frames n k) in
-    subst (λ c. HasWorld (record { content = c; clean = l.clean; shape = shape_of (length l.tables.rows) l.memory.segments })) (sym same) world
+    subst (λ c. HasWorld (record {
+      content = c;
+      clean = l.clean;
+      shape = shape_of (length l.tables.rows) l.memory.segments;
+    })) (sym same) world
 
 -- what was found of the image of one log is so of what is loaded from it
-pub same_volume : (bytes : List ℕ) (l m : LogParts) (a b : Level) → IsVolume bytes l a → IsImageOf bytes m b → IsVolume bytes m b
+pub same_volume : (bytes : List ℕ) (l m : LogParts) (a b : Level) → IsVolume bytes l a → IsImageOf bytes m b
+    → IsVolume bytes m b
 same_volume bytes l m a b v image =
     let same : l ≡ m = (one_image bytes l m a b v.image image).0 in
     record {

@@ -62,4 +62,5 @@ IsVerdict bytes (suc n) text = (n ≡ 0) × IsFaulty bytes
 
 -- what a reader had, where that is known, has a verdict of this status, whose text was written
 abbrev pub IsChecked : Option (List ℕ) → Option (List ℕ) → Option (List ℕ) → ℕ → Type 0
-IsChecked known before after status = IfSome known (λ bytes. (text : List ℕ) × IsVerdict bytes status text × Appends before after text)
+IsChecked known before after status = IfSome known (λ bytes. (text : List ℕ) × IsVerdict bytes status text
+    × Appends before after text)

@@ -4,7 +4,8 @@ use Rattle.lfs_types.specs.Caller.{Caller}
 use Rattle.lfs_types.specs.Kinds.{is_directory_kind}
 use Rattle.lfs_types.specs.declared.attrs.Attrs.{Attrs}
 use Rattle.lfs_types.specs.declared.attrs.Bit.TheVariants as bits
-use Rattle.lfs_types.specs.declared.rule.Rule.TheVariants.{IsDirectory, IsNoDirectory, IsMutable, IsNotAppendOnly, GrantsWrite, PassesSticky}
+use Rattle.lfs_types.specs.declared.rule.Rule.TheVariants.{IsDirectory, IsNoDirectory, IsMutable, IsNotAppendOnly}
+use Rattle.lfs_types.specs.declared.rule.Rule.TheVariants.{GrantsWrite, PassesSticky}
 use Rattle.lfs_rules.specs.Grants.{grants_of}
 use Rattle.lfs_rules.specs.Locks.{is_immutable, is_append_only}
 use Rattle.lfs_rules.specs.Sticky.{is_barred}

@@ -1,5 +1,6 @@
 -- The infos whose address is unchanged, pair by pair, and how many calls a pass may still make.
-use Rattle.std.proofs.Common.{◌≡◌, ◌==◌, ℕ, ◌≤◌, ◌⊎◌, Bool, true, false, List, [], ◌∷◌, ◌++◌, length, append_assoc, sym, ap, subst, ◌∙◌, inl, inr, if◌then◌else◌, arith}
+use Rattle.std.proofs.Common.{◌≡◌, ◌==◌, ℕ, ◌≤◌, ◌⊎◌, Bool, true, false, List, [], ◌∷◌, ◌++◌, length, append_assoc, sym}
+use Rattle.std.proofs.Common.{ap, subst, ◌∙◌, inl, inr, if◌then◌else◌, arith}
 use Rattle.std.proofs.lemmas.List.{append-nil}
 use Rattle.lfs_types.specs.declared.cleaner.BlockInfo.{BlockInfo}
 use Rattle.lfs_types.specs.declared.cleaner.CleanerCall.{CleanerCall}
@@ -7,23 +8,30 @@ use Rattle.lfs_cleaner.specs.Passing.{MayCall, calls_left, unchanged}
 use Rattle.lfs_cleaner.specs.declared.pass.Pass.{Pass}
 
 -- nothing is left to compare
-pub unchanged_ended : (left asked present all : List BlockInfo) → (asked ≡ []) ⊎ (present ≡ []) → left ++ unchanged asked present ≡ all → left ≡ all
+pub unchanged_ended : (left asked present all : List BlockInfo) → (asked ≡ []) ⊎ (present ≡ []) → left
+    ++ unchanged asked present ≡ all → left ≡ all
 unchanged_ended left [] present all none is = sym (append-nil left) ∙ is
 unchanged_ended left (x ∷ asked) [] all none is = sym (append-nil left) ∙ is
 unchanged_ended left (x ∷ asked) (y ∷ present) all (inl none) is = absurd (cc)
 unchanged_ended left (x ∷ asked) (y ∷ present) all (inr none) is = absurd (cc)
 
 -- one pair more, whose address is unchanged
-pub unchanged_same : (left asked present more others all : List BlockInfo) (x y : BlockInfo) → asked ≡ x ∷ more → present ≡ y ∷ others → (x.addr == y.addr) ≡ true → left ++ unchanged asked present ≡ all → (left ++ x ∷ []) ++ unchanged more others ≡ all
+pub unchanged_same : (left asked present more others all : List BlockInfo) (x y : BlockInfo) → asked ≡ x ∷ more
+    → present ≡ y ∷ others → (x.addr == y.addr) ≡ true → left ++ unchanged asked present ≡ all → (left ++ x ∷ [])
+    ++ unchanged more others ≡ all
 unchanged_same left asked present more others all x y a b same is =
     append_assoc left (x ∷ []) (unchanged more others)
-    ∙ sym (ap (λ (l : List BlockInfo). left ++ l) (ap (λ (l : List BlockInfo). unchanged l present) a ∙ ap (λ (l : List BlockInfo). unchanged (x ∷ more) l) b
+    ∙ sym (ap (λ (l : List BlockInfo). left ++ l) (ap (λ (l : List BlockInfo). unchanged l present) a
+    ∙ ap (λ (l : List BlockInfo). unchanged (x ∷ more) l) b
     ∙ ap (λ (t : Bool). if t then x ∷ unchanged more others else unchanged more others) same)) ∙ is
 
 -- one pair more, whose address is another
-pub unchanged_other : (left asked present more others all : List BlockInfo) (x y : BlockInfo) → asked ≡ x ∷ more → present ≡ y ∷ others → (x.addr == y.addr) ≡ false → left ++ unchanged asked present ≡ all → left ++ unchanged more others ≡ all
+pub unchanged_other : (left asked present more others all : List BlockInfo) (x y : BlockInfo) → asked ≡ x ∷ more
+    → present ≡ y ∷ others → (x.addr == y.addr) ≡ false → left ++ unchanged asked present ≡ all → left
+    ++ unchanged more others ≡ all
 unchanged_other left asked present more others all x y a b other is =
-    sym (ap (λ (l : List BlockInfo). left ++ l) (ap (λ (l : List BlockInfo). unchanged l present) a ∙ ap (λ (l : List BlockInfo). unchanged (x ∷ more) l) b
+    sym (ap (λ (l : List BlockInfo). left ++ l) (ap (λ (l : List BlockInfo). unchanged l present) a
+    ∙ ap (λ (l : List BlockInfo). unchanged (x ∷ more) l) b
     ∙ ap (λ (t : Bool). if t then x ∷ unchanged more others else unchanged more others) other)) ∙ is
 
 -- the calls of a pass are no more than are left to it
@@ -34,5 +42,6 @@ no_more_calls (made ∷ calls) pass may =
     let rest = no_more_calls calls may.1 may.4 in
     omega arith
 
-pub few_calls : (pass : Pass) → calls_left pass ≡ 105 → (calls : List CleanerCall) → MayCall pass calls → length calls ≤ 105
+pub few_calls : (pass : Pass) → calls_left pass ≡ 105 → (calls : List CleanerCall) → MayCall pass calls
+    → length calls ≤ 105
 few_calls pass left calls may = subst (λ (n : ℕ). length calls ≤ n) left (no_more_calls calls pass may)

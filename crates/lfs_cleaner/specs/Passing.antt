@@ -1,5 +1,6 @@
 -- The calls of a cleaner's pass.
-use Rattle.std.specs.Prelude.{◌≡◌, ℕ, zero, suc, ◌+◌, ◌*◌, ◌/◌, ◌<◌, List, [], ◌∷◌, length, take, drop, Option, None, Some, if◌then◌else◌, ◌==◌}
+use Rattle.std.specs.Prelude.{◌≡◌, ℕ, zero, suc, ◌+◌, ◌*◌, ◌/◌, ◌<◌, List, [], ◌∷◌, length, take, drop, Option, None}
+use Rattle.std.specs.Prelude.{Some, if◌then◌else◌, ◌==◌}
 use Rattle.lfs_types.specs.declared.cleaner.BlockInfo.{BlockInfo}
 use Rattle.lfs_types.specs.declared.cleaner.CleanerCall.{CleanerCall}
 use Rattle.lfs_types.specs.declared.cleaner.CleanerCall.TheVariants as call
@@ -8,13 +9,15 @@ use Rattle.lfs_model.specs.declared.journal.CleanerAnswer.TheVariants.{Ifile, In
 use Rattle.lfs_cleaner.specs.Choosing.{HasNoDirty, IsChosen}
 use Rattle.lfs_cleaner.specs.declared.pass.Pass.{Pass}
 use Rattle.lfs_cleaner.specs.declared.pass.Stage.{Stage}
-use Rattle.lfs_cleaner.specs.declared.pass.Stage.TheVariants.{Ready, Reading, Listing, Locating, Moving, Reclaiming, Over}
+use Rattle.lfs_cleaner.specs.declared.pass.Stage.TheVariants.{Ready, Reading, Listing, Locating, Moving, Reclaiming}
+use Rattle.lfs_cleaner.specs.declared.pass.Stage.TheVariants.{Over}
 
 -- of the infos that were asked for those whose address is unchanged, in order
 abbrev pub unchanged : List BlockInfo → List BlockInfo → List BlockInfo
 unchanged [] present = []
 unchanged (info ∷ asked) [] = []
-unchanged (info ∷ asked) (now ∷ present) = if info.addr == now.addr then info ∷ unchanged asked present else unchanged asked present
+unchanged (info ∷ asked) (now ∷ present) = if info.addr == now.addr then info ∷ unchanged asked present
+    else unchanged asked present
 
 -- ---- one call
 
@@ -34,7 +37,8 @@ Begins (suc rounds) made after = MakesCall call.Ifile rounds Reading made after
 -- the infos of the chosen segment are asked for, if one is dirty
 abbrev pub Chooses : ℕ → List ℕ → Option CleanerCall → Pass → Type 0
 Chooses rounds bytes None after = HasNoDirty bytes × (after.stage ≡ Over)
-Chooses rounds bytes made after = (segment : ℕ) × IsChosen bytes segment × MakesCall (call.Infos segment) rounds (Listing segment) made after
+Chooses rounds bytes made after = (segment : ℕ) × IsChosen bytes segment
+    × MakesCall (call.Infos segment) rounds (Listing segment) made after
 
 -- the next eight infos are to be written again; where none is left, the segment is to become clean
 abbrev pub MarksNext : ℕ → ℕ → List BlockInfo → Option CleanerCall → Pass → Type 0
@@ -46,8 +50,10 @@ MarksNext rounds segment infos made after =
 abbrev pub IsNextCall : ℕ → Stage → Option CleanerAnswer → Option CleanerCall → Pass → Type 0
 IsNextCall rounds Ready last made after = Begins rounds made after
 IsNextCall rounds Reading (Some (Ifile bytes)) made after = Chooses rounds bytes made after
-IsNextCall rounds (Listing segment) (Some (Infos infos)) made after = MakesCall (call.Bmapv infos) rounds (Locating segment infos) made after
-IsNextCall rounds (Locating segment infos) (Some (Bmapv present)) made after = MarksNext rounds segment (unchanged infos present) made after
+IsNextCall rounds (Listing segment) (Some (Infos infos)) made after =
+    MakesCall (call.Bmapv infos) rounds (Locating segment infos) made after
+IsNextCall rounds (Locating segment infos) (Some (Bmapv present)) made after =
+    MarksNext rounds segment (unchanged infos present) made after
 IsNextCall rounds (Moving segment left) (Some (Marked count)) made after = MarksNext rounds segment left made after
 IsNextCall rounds Reclaiming (Some Cleaned) made after = Begins rounds made after
 IsNextCall rounds stage last made after = Ends made after
@@ -76,4 +82,5 @@ calls_left pass = 35 * pass.rounds + stage_calls pass.stage
 abbrev pub MayCall : Pass → List CleanerCall → Type 0
 MayCall pass [] = Unit {0}
 MayCall pass (made ∷ calls) =
-    (last : Option CleanerAnswer) × (after : Pass) × Steps pass last (Some made) after × (calls_left after < calls_left pass) × MayCall after calls
+    (last : Option CleanerAnswer) × (after : Pass) × Steps pass last (Some made) after
+    × (calls_left after < calls_left pass) × MayCall after calls

@@ -1,5 +1,6 @@
 -- An entry written behind the entries of a directory block.
-use Rattle.std.proofs.Common.{◌≡◌, ℕ, ◌+◌, ◌-◌, ◌≤◌, List, [], ◌∷◌, ◌++◌, length, take, drop, replicate, None, refl, sym, ap, ◌∙◌, subst, arith, length-append, append_assoc}
+use Rattle.std.proofs.Common.{◌≡◌, ℕ, ◌+◌, ◌-◌, ◌≤◌, List, [], ◌∷◌, ◌++◌, length, take, drop, replicate, None, refl}
+use Rattle.std.proofs.Common.{sym, ap, ◌∙◌, subst, arith, length-append, append_assoc}
 use Rattle.std.specs.Prelude.{All}
 use Rattle.std.proofs.Math.Seq.{drop-append-add}
 use Rattle.std.proofs.lemmas.Grind.{flat_map-append}
@@ -56,7 +57,8 @@ zeros_at_tail block es size h room =
     ap (drop (512 - size)) spelled.1
     ∙ ap (λ k. drop k (bytes_of es ++ replicate n 0)) start
     ∙ drop-append-add (bytes_of es) (replicate n 0) left in
-    All-same (λ b. b ≡ 0) _ _ tail (All-drop (λ b. b ≡ 0) left (replicate n 0) (All-replicate (λ b. b ≡ 0) n 0 (refl {a = 0})))
+    All-same (λ b. b ≡ 0) _ _ tail (All-drop (λ b. b ≡ 0) left (replicate n 0)
+    (All-replicate (λ b. b ≡ 0) n 0 (refl {a = 0})))
 
 -- what `push_entry` leaves is a directory block with the entry last
 pub block_added : (block : List ℕ) (es : List Entry) (e : Entry) (end : ℕ) (out : List ℕ)
@@ -70,11 +72,18 @@ block_added block es e end out h at_end room entry absent is_out =
     let now = put_mid end (512 - end) block out in
     let rest = n - (5 + length e.1) in
     let bytes : now ≡ bytes_of (es ++ e ∷ []) ++ replicate rest 0 =
-    written block (bytes_of es) n end e out spelled.1 (length-bytes_of es ∙ sym at_end) (omega arith) (omega arith) is_out
+    written block (bytes_of es) n end e out spelled.1 (length-bytes_of es ∙ sym at_end) (omega arith)
+    (omega arith) is_out
     ∙ ap (λ front. front ++ replicate rest 0) (bytes_of-added es e) in
     let P : List ℕ → Type 0 = λ xs. Spells xs (es ++ e ∷ []) in
     record {
-      size = ap length bytes ∙ omega (arith, length-append (bytes_of (es ++ e ∷ [])) (replicate rest 0), length-bytes_of (es ++ e ∷ []), used_of-append es (e ∷ []), length-replicate {A = ℕ} rest 0);
+      size = ap length bytes ∙ omega (
+        arith,
+        length-append (bytes_of (es ++ e ∷ [])) (replicate rest 0),
+        length-bytes_of (es ++ e ∷ []),
+        used_of-append es (e ∷ []),
+        length-replicate {A = ℕ} rest 0,
+      );
       entries = AreEntries-added es e h.entries entry absent;
       spelled = subst P (sym bytes) (Spells-from_bytes rest (es ++ e ∷ []));
     }

@@ -1,10 +1,12 @@
 -- What holds of lists of entries when one is added, taken away or gets another number.
-use Rattle.std.proofs.Common.{◌≡◌, ◌≢◌, ℕ, zero, suc, ◌+◌, ◌^◌, ◌<◌, ◌≤◌, Bool, true, false, not, List, [], ◌∷◌, ◌++◌, length, get_or, None, Some, refl, sym, ap, ◌∙◌, subst, ⊎_elim, arith}
+use Rattle.std.proofs.Common.{◌≡◌, ◌≢◌, ℕ, zero, suc, ◌+◌, ◌^◌, ◌<◌, ◌≤◌, Bool, true, false, not, List, [], ◌∷◌, ◌++◌}
+use Rattle.std.proofs.Common.{length, get_or, None, Some, refl, sym, ap, ◌∙◌, subst, ⊎_elim, arith}
 use Rattle.std.specs.Prelude.{All, AllPairs, Contains, IsSome, bytes_eq, filter, option_map}
 use Rattle.std.proofs.lemmas.Bool.{cond-true, cond-false, cases_Bool, false_from_ne_true, both_ways}
 use Rattle.std.proofs.lemmas.List.Elements.{All-nil, All-cons}
 use Rattle.std.proofs.lemmas.Slice.Eq.{bytes_eq-Decides}
-use Rattle.lfs_dirs.specs.Directory.{Entry, used_of, has_name, number_in, renumbered, with_number, without, IsEntry, AreEntries}
+use Rattle.lfs_dirs.specs.Directory.{Entry, used_of, has_name, number_in, renumbered, with_number, without, IsEntry}
+use Rattle.lfs_dirs.specs.Directory.{AreEntries}
 
 -- ---- a look-up
 
@@ -24,11 +26,13 @@ pub number_in-nil : (name : List ℕ) → number_in name [] ≡ None
 unfolding number_in
 number_in-nil name = refl
 
-pub number_in-here : (name : List ℕ) (e : Entry) (es : List Entry) → has_name name e ≡ true → number_in name (e ∷ es) ≡ Some e.0
+pub number_in-here : (name : List ℕ) (e : Entry) (es : List Entry) → has_name name e ≡ true → number_in name (e ∷ es)
+    ≡ Some e.0
 unfolding number_in
 number_in-here name e es h = ap (option_map (λ (f : Entry). f.0)) (cond-true _ _ _ h)
 
-pub number_in-later : (name : List ℕ) (e : Entry) (es : List Entry) → has_name name e ≡ false → number_in name (e ∷ es) ≡ number_in name es
+pub number_in-later : (name : List ℕ) (e : Entry) (es : List Entry) → has_name name e ≡ false → number_in name (e ∷ es)
+    ≡ number_in name es
 unfolding number_in
 number_in-later name e es h = ap (option_map (λ (f : Entry). f.0)) (cond-false _ _ _ h)
 
@@ -41,14 +45,16 @@ number_in-none name e es h =
     (other, sym (number_in-later name e es other) ∙ h)
 
 -- the first entry of a name, where the name isn't in the list before
-pub number_in-append : (name : List ℕ) (es fs : List Entry) → number_in name es ≡ None → number_in name (es ++ fs) ≡ number_in name fs
+pub number_in-append : (name : List ℕ) (es fs : List Entry) → number_in name es ≡ None → number_in name (es ++ fs)
+    ≡ number_in name fs
 number_in-append name [] fs h = refl
 number_in-append name (e ∷ es) fs h =
     let none = number_in-none name e es h in
     number_in-later name e (es ++ fs) none.0 ∙ number_in-append name es fs none.1
 
 -- where an entry stays at the front, what is found behind it is what counts
-pub number_in-after : (name : List ℕ) (e : Entry) (es fs : List Entry) → number_in name es ≡ number_in name fs → number_in name (e ∷ es) ≡ number_in name (e ∷ fs)
+pub number_in-after : (name : List ℕ) (e : Entry) (es fs : List Entry) → number_in name es ≡ number_in name fs
+    → number_in name (e ∷ es) ≡ number_in name (e ∷ fs)
 number_in-after name e es fs same =
     ⊎_elim
     (λ t. number_in-here name e es t ∙ sym (number_in-here name e fs t))
@@ -59,10 +65,12 @@ number_in-after name e es fs same =
 pub number_in-added_other : (other : List ℕ) (e : Entry) (es : List Entry) → e.1 ≢ other
     → number_in other (es ++ e ∷ []) ≡ number_in other es
 number_in-added_other other e [] h = number_in-later other e [] (has_name-other other e h)
-number_in-added_other other e (f ∷ es) h = number_in-after other f (es ++ e ∷ []) es (number_in-added_other other e es h)
+number_in-added_other other e (f ∷ es) h =
+    number_in-after other f (es ++ e ∷ []) es (number_in-added_other other e es h)
 
 -- what isn't in a list isn't in a part of it
-pub number_in-filter : (keeps : Entry → Bool) (name : List ℕ) (es : List Entry) → number_in name es ≡ None → number_in name (filter keeps es) ≡ None
+pub number_in-filter : (keeps : Entry → Bool) (name : List ℕ) (es : List Entry) → number_in name es ≡ None
+    → number_in name (filter keeps es) ≡ None
 number_in-filter keeps name [] h = h
 number_in-filter keeps name (e ∷ es) h =
     let none = number_in-none name e es h in
@@ -73,7 +81,8 @@ number_in-filter keeps name (e ∷ es) h =
     (cases_Bool (keeps e))
 
 -- what isn't in two lists together is in neither
-pub number_in-both : (name : List ℕ) (es fs : List Entry) → number_in name (es ++ fs) ≡ None → (number_in name es ≡ None) × (number_in name fs ≡ None)
+pub number_in-both : (name : List ℕ) (es fs : List Entry) → number_in name (es ++ fs) ≡ None
+    → (number_in name es ≡ None) × (number_in name fs ≡ None)
 number_in-both name [] fs h = (number_in-nil name, h)
 number_in-both name (e ∷ es) fs h =
     let none = number_in-none name e (es ++ fs) h in
@@ -86,11 +95,13 @@ pub without-nil : (name : List ℕ) → without name [] ≡ []
 unfolding without
 without-nil name = refl
 
-pub without-here : (name : List ℕ) (e : Entry) (es : List Entry) → has_name name e ≡ true → without name (e ∷ es) ≡ without name es
+pub without-here : (name : List ℕ) (e : Entry) (es : List Entry) → has_name name e ≡ true → without name (e ∷ es)
+    ≡ without name es
 unfolding without
 without-here name e es h = cond-false _ _ _ (ap not h)
 
-pub without-later : (name : List ℕ) (e : Entry) (es : List Entry) → has_name name e ≡ false → without name (e ∷ es) ≡ e ∷ without name es
+pub without-later : (name : List ℕ) (e : Entry) (es : List Entry) → has_name name e ≡ false → without name (e ∷ es) ≡ e
+    ∷ without name es
 unfolding without
 without-later name e es h = cond-true _ _ _ (ap not h)
 
@@ -107,18 +118,21 @@ number_in-without name [] = ap (number_in name) (without-nil name) ∙ number_in
 number_in-without name (e ∷ es) =
     ⊎_elim
     (λ t. ap (number_in name) (without-here name e es t) ∙ number_in-without name es)
-    (λ t. ap (number_in name) (without-later name e es t) ∙ number_in-later name e (without name es) t ∙ number_in-without name es)
+    (λ t. ap (number_in name) (without-later name e es t) ∙ number_in-later name e (without name es) t
+    ∙ number_in-without name es)
     (cases_Bool (has_name name e))
 
 -- the other names are found as before
-pub number_in-without_other : (name other : List ℕ) (es : List Entry) → name ≢ other → number_in other (without name es) ≡ number_in other es
+pub number_in-without_other : (name other : List ℕ) (es : List Entry) → name ≢ other → number_in other (without name es)
+    ≡ number_in other es
 number_in-without_other name other [] h = ap (number_in other) (without-nil name)
 number_in-without_other name other (e ∷ es) h =
     let rest = number_in-without_other name other es h in
     ⊎_elim
     (λ t.
     let unlike : e.1 ≢ other = λ same. h (sym (has_name-true name e t) ∙ same) in
-    ap (number_in other) (without-here name e es t) ∙ rest ∙ sym (number_in-later other e es (has_name-other other e unlike)))
+    ap (number_in other) (without-here name e es t) ∙ rest
+    ∙ sym (number_in-later other e es (has_name-other other e unlike)))
     (λ t. ap (number_in other) (without-later name e es t) ∙ number_in-after other e (without name es) es rest)
     (cases_Bool (has_name name e))
 
@@ -128,7 +142,8 @@ pub renumbered-nil : (name : List ℕ) (number : ℕ) → renumbered name number
 unfolding renumbered
 renumbered-nil name number = refl
 
-pub renumbered-cons : (name : List ℕ) (number : ℕ) (e : Entry) (es : List Entry) → renumbered name number (e ∷ es) ≡ with_number name number e ∷ renumbered name number es
+pub renumbered-cons : (name : List ℕ) (number : ℕ) (e : Entry) (es : List Entry) → renumbered name number (e ∷ es)
+    ≡ with_number name number e ∷ renumbered name number es
 unfolding renumbered
 renumbered-cons name number e es = refl
 
@@ -139,11 +154,13 @@ with_number-name name number e = ⊎_elim
     (λ t. ap (λ (f : Entry). f.1) (cond-false (has_name name e) (number, e.1) e t))
     (cases_Bool (has_name name e))
 
-pub has_name-renumbered : (name other : List ℕ) (number : ℕ) (e : Entry) → has_name other (with_number name number e) ≡ has_name other e
+pub has_name-renumbered : (name other : List ℕ) (number : ℕ) (e : Entry) → has_name other (with_number name number e)
+    ≡ has_name other e
 has_name-renumbered name other number e = ap (λ bs. bytes_eq bs other) (with_number-name name number e)
 
 -- nothing else is found otherwise
-pub number_in-renumbered_other : (name other : List ℕ) (number : ℕ) (es : List Entry) → name ≢ other → number_in other (renumbered name number es) ≡ number_in other es
+pub number_in-renumbered_other : (name other : List ℕ) (number : ℕ) (es : List Entry) → name ≢ other
+    → number_in other (renumbered name number es) ≡ number_in other es
 number_in-renumbered_other name other number [] h = ap (number_in other) (renumbered-nil name number)
 number_in-renumbered_other name other number (e ∷ es) h =
     let rest = number_in-renumbered_other name other number es h in
@@ -155,36 +172,43 @@ number_in-renumbered_other name other number (e ∷ es) h =
     ap (λ f. number_in other (f ∷ renumbered name number es)) kept
     ∙ number_in-here other e (renumbered name number es) t ∙ sym (number_in-here other e es t))
     (λ t.
-    number_in-later other (with_number name number e) (renumbered name number es) (has_name-renumbered name other number e ∙ t)
+    number_in-later other (with_number name number e) (renumbered name number es)
+    (has_name-renumbered name other number e ∙ t)
     ∙ rest ∙ sym (number_in-later other e es t))
     (cases_Bool (has_name other e))
 
 -- the name is found with its other number, if it was found
-pub number_in-renumbered : (name : List ℕ) (number : ℕ) (es : List Entry) → IsSome (number_in name es) → number_in name (renumbered name number es) ≡ Some number
+pub number_in-renumbered : (name : List ℕ) (number : ℕ) (es : List Entry) → IsSome (number_in name es)
+    → number_in name (renumbered name number es) ≡ Some number
 number_in-renumbered name number [] h = let none = subst IsSome (number_in-nil name) h in absurd (cc)
 number_in-renumbered name number (e ∷ es) h =
     ap (number_in name) (renumbered-cons name number e es) ∙
     ⊎_elim
     (λ t.
     let given : with_number name number e ≡ (number, e.1) = cond-true (has_name name e) (number, e.1) e t in
-    number_in-here name (with_number name number e) (renumbered name number es) (has_name-renumbered name name number e ∙ t)
+    number_in-here name (with_number name number e) (renumbered name number es) (has_name-renumbered name name number e
+    ∙ t)
     ∙ ap (λ (f : Entry). Some f.0) given)
     (λ t.
-    number_in-later name (with_number name number e) (renumbered name number es) (has_name-renumbered name name number e ∙ t)
+    number_in-later name (with_number name number e) (renumbered name number es) (has_name-renumbered name name number e
+    ∙ t)
     ∙ number_in-renumbered name number es (subst IsSome (number_in-later name e es t) h))
     (cases_Bool (has_name name e))
 
 -- and isn't, if it wasn't
-pub number_in-renumbered_none : (name other : List ℕ) (number : ℕ) (es : List Entry) → number_in other es ≡ None → number_in other (renumbered name number es) ≡ None
+pub number_in-renumbered_none : (name other : List ℕ) (number : ℕ) (es : List Entry) → number_in other es ≡ None
+    → number_in other (renumbered name number es) ≡ None
 number_in-renumbered_none name other number [] h = ap (number_in other) (renumbered-nil name number) ∙ h
 number_in-renumbered_none name other number (e ∷ es) h =
     let none = number_in-none other e es h in
     ap (number_in other) (renumbered-cons name number e es)
-    ∙ number_in-later other (with_number name number e) (renumbered name number es) (has_name-renumbered name other number e ∙ none.0)
+    ∙ number_in-later other (with_number name number e) (renumbered name number es)
+    (has_name-renumbered name other number e ∙ none.0)
     ∙ number_in-renumbered_none name other number es none.1
 
 -- entries take the room that they took
-pub used_of-renumbered : (name : List ℕ) (number : ℕ) (es : List Entry) → used_of (renumbered name number es) ≡ used_of es
+pub used_of-renumbered : (name : List ℕ) (number : ℕ) (es : List Entry) → used_of (renumbered name number es)
+    ≡ used_of es
 used_of-renumbered name number [] = ap used_of (renumbered-nil name number)
 used_of-renumbered name number (e ∷ es) =
     let rest = used_of-renumbered name number es in
@@ -192,14 +216,17 @@ used_of-renumbered name number (e ∷ es) =
     let long = ap (λ (bs : List ℕ). length bs) (with_number-name name number e) in
     omega (arith, rest, first, long)
 
-pub renumbered-append : (name : List ℕ) (number : ℕ) (es fs : List Entry) → renumbered name number (es ++ fs) ≡ renumbered name number es ++ renumbered name number fs
+pub renumbered-append : (name : List ℕ) (number : ℕ) (es fs : List Entry) → renumbered name number (es ++ fs)
+    ≡ renumbered name number es ++ renumbered name number fs
 renumbered-append name number [] fs = ap (λ gs. gs ++ renumbered name number fs) (sym (renumbered-nil name number))
 renumbered-append name number (e ∷ es) fs =
-    renumbered-cons name number e (es ++ fs) ∙ ap (λ gs. with_number name number e ∷ gs) (renumbered-append name number es fs)
+    renumbered-cons name number e (es ++ fs)
+    ∙ ap (λ gs. with_number name number e ∷ gs) (renumbered-append name number es fs)
     ∙ ap (λ gs. gs ++ renumbered name number fs) (sym (renumbered-cons name number e es))
 
 -- where the name isn't, nothing changes
-pub renumbered-absent : (name : List ℕ) (number : ℕ) (es : List Entry) → number_in name es ≡ None → renumbered name number es ≡ es
+pub renumbered-absent : (name : List ℕ) (number : ℕ) (es : List Entry) → number_in name es ≡ None
+    → renumbered name number es ≡ es
 renumbered-absent name number [] h = renumbered-nil name number
 renumbered-absent name number (e ∷ es) h =
     let none = number_in-none name e es h in
@@ -209,22 +236,27 @@ renumbered-absent name number (e ∷ es) h =
 
 -- ---- entries stay entries
 
-with_number-entry : (name : List ℕ) (number : ℕ) (e : Entry) → 0 < number → number < 2 ^ 32 → IsEntry e → IsEntry (with_number name number e)
+with_number-entry : (name : List ℕ) (number : ℕ) (e : Entry) → 0 < number → number < 2 ^ 32 → IsEntry e
+    → IsEntry (with_number name number e)
 with_number-entry name number e above fits h = ⊎_elim
-    (λ t. subst IsEntry (sym (cond-true (has_name name e) (number, e.1) e t)) (record { above = above; fits = fits; named = h.named }))
+    (λ t. subst IsEntry (sym (cond-true (has_name name e) (number, e.1) e t))
+    (record { above = above; fits = fits; named = h.named }))
     (λ t. subst IsEntry (sym (cond-false (has_name name e) (number, e.1) e t)) h)
     (cases_Bool (has_name name e))
 
-pub AreEntries-renumbered : (name : List ℕ) (number : ℕ) (es : List Entry) → 0 < number → number < 2 ^ 32 → AreEntries es → AreEntries (renumbered name number es)
+pub AreEntries-renumbered : (name : List ℕ) (number : ℕ) (es : List Entry) → 0 < number → number < 2 ^ 32
+    → AreEntries es → AreEntries (renumbered name number es)
 AreEntries-renumbered name number [] above fits a = subst AreEntries (sym (renumbered-nil name number)) tt
 AreEntries-renumbered name number (e ∷ es) above fits a =
     subst AreEntries (sym (renumbered-cons name number e es)) (
       with_number-entry name number e above fits a.0,
-      subst (λ bs. number_in bs (renumbered name number es) ≡ None) (sym (with_number-name name number e)) (number_in-renumbered_none name e.1 number es a.1),
+      subst (λ bs. number_in bs (renumbered name number es) ≡ None) (sym (with_number-name name number e))
+          (number_in-renumbered_none name e.1 number es a.1),
       AreEntries-renumbered name number es above fits a.2,
     )
 
-pub AreEntries-added : (es : List Entry) (e : Entry) → AreEntries es → IsEntry e → number_in e.1 es ≡ None → AreEntries (es ++ e ∷ [])
+pub AreEntries-added : (es : List Entry) (e : Entry) → AreEntries es → IsEntry e → number_in e.1 es ≡ None
+    → AreEntries (es ++ e ∷ [])
 AreEntries-added [] e a h none = (h, number_in-nil e.1, tt)
 AreEntries-added (f ∷ es) e a h none =
     let apart = number_in-none e.1 f es none in
@@ -245,7 +277,8 @@ unfolding without
 AreEntries-without name es a = AreEntries-filter (λ e. not (has_name name e)) es a
 
 -- an entry of a list, and those before it
-pub AreEntries-middle : (es : List Entry) (e : Entry) (fs : List Entry) → AreEntries (es ++ e ∷ fs) → IsEntry e × (number_in e.1 es ≡ None)
+pub AreEntries-middle : (es : List Entry) (e : Entry) (fs : List Entry) → AreEntries (es ++ e ∷ fs) → IsEntry e
+    × (number_in e.1 es ≡ None)
 AreEntries-middle [] e fs a = (a.0, number_in-nil e.1)
 AreEntries-middle (f ∷ es) e fs a =
     let rest = AreEntries-middle es e fs a.2 in
@@ -261,8 +294,10 @@ used_of-filter keeps [] = omega arith
 used_of-filter keeps (e ∷ es) =
     let rest = used_of-filter keeps es in
     ⊎_elim
-    (λ t. let kept = ap used_of (cond-true (keeps e) (e ∷ filter keeps es) (filter keeps es) t) in omega (arith, kept, rest))
-    (λ t. let gone = ap used_of (cond-false (keeps e) (e ∷ filter keeps es) (filter keeps es) t) in omega (arith, gone, rest))
+    (λ t. let kept = ap used_of (cond-true (keeps e) (e ∷ filter keeps es) (filter keeps es) t) in
+    omega (arith, kept, rest))
+    (λ t. let gone = ap used_of (cond-false (keeps e) (e ∷ filter keeps es) (filter keeps es) t) in
+    omega (arith, gone, rest))
     (cases_Bool (keeps e))
 
 pub used_of-without_le : (name : List ℕ) (es : List Entry) → used_of (without name es) ≤ used_of es
@@ -285,27 +320,31 @@ used_of-without name number (e ∷ es) a h =
     (cases_Bool (has_name name e))
 
 -- where an entry with a name of at most 255 bytes doesn't fit, there is one already
-pub entries-where_full : (es : List Entry) (length_of_name : ℕ) → length_of_name ≤ 255 → 512 < used_of es + 5 + length_of_name → 0 < length es
+pub entries-where_full : (es : List Entry) (length_of_name : ℕ) → length_of_name ≤ 255 → 512 < used_of es + 5
+    + length_of_name → 0 < length es
 entries-where_full [] n h full = absurd (omega arith)
 entries-where_full (e ∷ es) n h full = omega arith
 
 -- ---- membership
 
 -- what is found is an entry
-pub Contains-number_in : (name : List ℕ) (number : ℕ) (es : List Entry) → number_in name es ≡ Some number → Contains es (number, name)
+pub Contains-number_in : (name : List ℕ) (number : ℕ) (es : List Entry) → number_in name es ≡ Some number
+    → Contains es (number, name)
 Contains-number_in name number [] h = let none = number_in-nil name in absurd (cc)
 Contains-number_in name number (e ∷ es) h =
     ⊎_elim
     (λ t.
     let same_number : e.0 ≡ number = (let here = number_in-here name e es t in cc) in
-    let same : e ≡ (number, name) = (ap (λ n. (n, e.1)) same_number ∙ ap (λ bs. (number, bs)) (has_name-true name e t)) in
+    let same : e ≡ (number, name) = (ap (λ n. (n, e.1)) same_number ∙ ap (λ bs. (number, bs)) (has_name-true name e t))
+    in
     (0, omega arith, same))
     (λ t.
     let later = Contains-number_in name number es (sym (number_in-later name e es t) ∙ h) in
     (suc later.0, omega arith, later.2))
     (cases_Bool (has_name name e))
 
-number_in-at : (k : ℕ) (e : Entry) (es : List Entry) → AreEntries es → k < length es → get_or es k e ≡ e → number_in e.1 es ≡ Some e.0
+number_in-at : (k : ℕ) (e : Entry) (es : List Entry) → AreEntries es → k < length es → get_or es k e ≡ e
+    → number_in e.1 es ≡ Some e.0
 number_in-at k e [] a h at = absurd (omega arith)
 number_in-at zero e (f ∷ es) a h at =
     number_in-here e.1 f es (has_name-same e.1 f (ap (λ (g : Entry). g.1) at)) ∙ ap (λ (g : Entry). Some g.0) at
@@ -323,14 +362,16 @@ pub number_in-absent : (name : List ℕ) (es : List Entry) (k : ℕ) (d : Entry)
     → (get_or es k d).1 ≢ name
 number_in-absent name [] k d h lt = absurd (omega arith)
 number_in-absent name (e ∷ es) zero d h lt = has_name-false name e (number_in-none name e es h).0
-number_in-absent name (e ∷ es) (suc k) d h lt = number_in-absent name es k d (number_in-none name e es h).1 (omega arith)
+number_in-absent name (e ∷ es) (suc k) d h lt =
+    number_in-absent name es k d (number_in-none name e es h).1 (omega arith)
 
 -- each entry has a number above 0 and a name
 pub AreEntries-each : (es : List Entry) → AreEntries es → All IsEntry es
 AreEntries-each [] a = All-nil IsEntry
 AreEntries-each (e ∷ es) a = All-cons IsEntry e es a.0 (AreEntries-each es a.2)
 
-apart : (es : List Entry) (i j : ℕ) (d : Entry) → AreEntries es → i < j → j < length es → (get_or es i d).1 ≢ (get_or es j d).1
+apart : (es : List Entry) (i j : ℕ) (d : Entry) → AreEntries es → i < j → j < length es
+    → (get_or es i d).1 ≢ (get_or es j d).1
 apart [] i j d a below lt = absurd (omega arith)
 apart (e ∷ es) i zero d a below lt = absurd (omega arith)
 apart (e ∷ es) zero (suc j) d a below lt = λ same. number_in-absent e.1 es j d a.1 (omega arith) (sym same)

@@ -1,5 +1,6 @@
 -- The entry that bytes begin with, from the five bytes at their front and the bytes behind those.
-use Rattle.std.proofs.Common.{◌≡◌, ℕ, zero, suc, ◌^◌, ◌<◌, ◌≤◌, false, List, [], ◌∷◌, ◌++◌, length, get_or, take, drop, refl, sym, ap, ◌∙◌, subst, arith}
+use Rattle.std.proofs.Common.{◌≡◌, ℕ, zero, suc, ◌^◌, ◌<◌, ◌≤◌, false, List, [], ◌∷◌, ◌++◌, length, get_or, take, drop}
+use Rattle.std.proofs.Common.{refl, sym, ap, ◌∙◌, subst, arith}
 use Rattle.std.specs.Int.{w32, to_be_bytes, from_be_bytes}
 use Rattle.std.proofs.lemmas.List.{take-append-drop, length-take-le}
 use Rattle.std.proofs.lemmas.Nat.{be_bytes_4}
@@ -15,7 +16,8 @@ abbrev pub number_at_front : List ℕ → ℕ
 number_at_front head = from_be_bytes w32 (get_or head 0 0 ∷ get_or head 1 0 ∷ get_or head 2 0 ∷ get_or head 3 0 ∷ [])
 
 stands_first : (a b c d k : ℕ) (bytes : List ℕ) → AreBytes (a ∷ b ∷ c ∷ d ∷ [])
-    → from_be_bytes w32 (a ∷ b ∷ c ∷ d ∷ []) < 2 ^ 32 → 0 < from_be_bytes w32 (a ∷ b ∷ c ∷ d ∷ []) → 0 < k → k ≤ length bytes
+    → from_be_bytes w32 (a ∷ b ∷ c ∷ d ∷ []) < 2 ^ 32 → 0 < from_be_bytes w32 (a ∷ b ∷ c ∷ d ∷ []) → 0 < k
+    → k ≤ length bytes
     → StandsFirst (a ∷ b ∷ c ∷ d ∷ k ∷ bytes) (from_be_bytes w32 (a ∷ b ∷ c ∷ d ∷ []), take k bytes) (drop k bytes)
 stands_first a b c d k bytes fits small above some room =
     let number = from_be_bytes w32 (a ∷ b ∷ c ∷ d ∷ []) in
@@ -45,12 +47,18 @@ pub entry_at_front : (bytes head rest name others : List ℕ) (number k : ℕ) �
     → head ≡ take 5 bytes → rest ≡ drop 5 bytes → number ≡ number_at_front head → k ≡ get_or head 4 0
     → name ≡ take k rest → others ≡ drop k rest → number < 2 ^ 32 → 0 < number → 0 < k → k ≤ length rest
     → StandsFirst bytes (number, name) others
-entry_at_front [] head rest name others number k long fits at_head at_rest is_number is_k is_name is_others small above some room = absurd (omega arith)
-entry_at_front (a ∷ []) head rest name others number k long fits at_head at_rest is_number is_k is_name is_others small above some room = absurd (omega arith)
-entry_at_front (a ∷ b ∷ []) head rest name others number k long fits at_head at_rest is_number is_k is_name is_others small above some room = absurd (omega arith)
-entry_at_front (a ∷ b ∷ c ∷ []) head rest name others number k long fits at_head at_rest is_number is_k is_name is_others small above some room = absurd (omega arith)
-entry_at_front (a ∷ b ∷ c ∷ d ∷ []) head rest name others number k long fits at_head at_rest is_number is_k is_name is_others small above some room = absurd (omega arith)
-entry_at_front (a ∷ b ∷ c ∷ d ∷ e ∷ more) head rest name others number k long fits at_head at_rest is_number is_k is_name is_others small above some room =
+entry_at_front [] head rest name others number k long fits at_head at_rest is_number is_k is_name is_others small above
+    some room = absurd (omega arith)
+entry_at_front (a ∷ []) head rest name others number k long fits at_head at_rest is_number is_k is_name is_others small
+    above some room = absurd (omega arith)
+entry_at_front (a ∷ b ∷ []) head rest name others number k long fits at_head at_rest is_number is_k is_name is_others
+    small above some room = absurd (omega arith)
+entry_at_front (a ∷ b ∷ c ∷ []) head rest name others number k long fits at_head at_rest is_number is_k is_name
+    is_others small above some room = absurd (omega arith)
+entry_at_front (a ∷ b ∷ c ∷ d ∷ []) head rest name others number k long fits at_head at_rest is_number is_k is_name
+    is_others small above some room = absurd (omega arith)
+entry_at_front (a ∷ b ∷ c ∷ d ∷ e ∷ more) head rest name others number k long fits at_head at_rest is_number is_k
+    is_name is_others small above some room =
     let bytes = a ∷ b ∷ c ∷ d ∷ e ∷ more in
     let value = from_be_bytes w32 (a ∷ b ∷ c ∷ d ∷ []) in
     let number_is : number ≡ value = is_number ∙ ap number_at_front at_head in
@@ -58,7 +66,8 @@ entry_at_front (a ∷ b ∷ c ∷ d ∷ e ∷ more) head rest name others number
     let name_is : name ≡ take e more = is_name ∙ ap (λ n. take n rest) k_is ∙ ap (take e) at_rest in
     let others_are : others ≡ drop e more = is_others ∙ ap (λ n. drop n rest) k_is ∙ ap (drop e) at_rest in
     let fit = λ (i : ℕ). front_fits a b c d e more fits i in
-    let first = stands_first a b c d e more fit (subst (λ n. n < 2 ^ 32) number_is small) (subst (λ n. 0 < n) number_is above) (subst (λ n. 0 < n) k_is some)
+    let first = stands_first a b c d e more fit (subst (λ n. n < 2 ^ 32) number_is small)
+    (subst (λ n. 0 < n) number_is above) (subst (λ n. 0 < n) k_is some)
     (omega (arith, k_is, ap length at_rest)) in
     let P : ℕ → Type 0 = λ n. StandsFirst bytes (n, name) others in
     let Q : List ℕ → Type 0 = λ xs. StandsFirst bytes (value, xs) others in
@@ -78,6 +87,7 @@ none_at_front (a ∷ b ∷ c ∷ d ∷ e ∷ more) head rest number k long at_he
     let number_is = is_number ∙ ap number_at_front at_head in
     let k_is = is_k ∙ ap (λ (xs : List ℕ). get_or xs 4 0) at_head in
     let same : is_entry (number_at_front (a ∷ b ∷ c ∷ d ∷ e ∷ [])) e (length more) ≡ is_entry number k (length rest) =
-    sym (ap (λ n. is_entry n k (length rest)) number_is ∙ ap (λ n. is_entry (number_at_front (a ∷ b ∷ c ∷ d ∷ e ∷ [])) n (length rest)) k_is
+    sym (ap (λ n. is_entry n k (length rest)) number_is
+    ∙ ap (λ n. is_entry (number_at_front (a ∷ b ∷ c ∷ d ∷ e ∷ [])) n (length rest)) k_is
     ∙ ap (λ xs. is_entry (number_at_front (a ∷ b ∷ c ∷ d ∷ e ∷ [])) e (length xs)) at_rest) in
     entries_of-none a b c d e more (same ∙ fails)

@@ -1,8 +1,11 @@
 -- What holds of directory blocks and their entries.
-use Rattle.std.proofs.Common.{◌≡◌, ◌≢◌, ℕ, zero, suc, ◌+◌, ◌*◌, min, ⊎_elim, ◌<◌, ◌≤◌, Bool, true, false, cond, List, [], ◌∷◌, ◌++◌, length, take, drop, replicate, Option, None, Some, refl, sym, ap, ◌∙◌, subst, arith, length-append, append_assoc, lt-ltb}
+use Rattle.std.proofs.Common.{◌≡◌, ◌≢◌, ℕ, zero, suc, ◌+◌, ◌*◌, min, ⊎_elim, ◌<◌, ◌≤◌, Bool, true, false, cond, List}
+use Rattle.std.proofs.Common.{[], ◌∷◌, ◌++◌, length, take, drop, replicate, Option, None, Some, refl, sym, ap, ◌∙◌}
+use Rattle.std.proofs.Common.{subst, arith, length-append, append_assoc, lt-ltb}
 use Rattle.std.specs.Prelude.{flat_map}
 use Rattle.std.specs.Int.{w32, from_be_bytes}
-use Rattle.std.proofs.lemmas.Bool.{le-leb, and_from, cond-true, cond-false, eqb-false, ltb-false, ltb-true, leb-true, and_parts, cases_Bool}
+use Rattle.std.proofs.lemmas.Bool.{le-leb, and_from, cond-true, cond-false, eqb-false, ltb-false, ltb-true, leb-true}
+use Rattle.std.proofs.lemmas.Bool.{and_parts, cases_Bool}
 use Rattle.std.proofs.lemmas.Nat.{from_be_bytes-to_be_bytes_4}
 use Rattle.std.proofs.lemmas.List.{take_at, drop_at, length-replicate}
 use Rattle.lfs_types.specs.Naming.{name_fault}
@@ -28,11 +31,15 @@ used_of-append [] fs = omega arith
 used_of-append (e ∷ es) fs = omega (arith, used_of-append es fs)
 
 -- what is spelled is the entries' bytes, and zeros
-pub Spells-bytes : (bytes : List ℕ) (es : List Entry) → Spells bytes es → (n : ℕ) × (bytes ≡ bytes_of es ++ replicate n 0)
+pub Spells-bytes : (bytes : List ℕ) (es : List Entry) → Spells bytes es → (n : ℕ)
+    × (bytes ≡ bytes_of es ++ replicate n 0)
 Spells-bytes bytes [] s = (length bytes, s)
 Spells-bytes bytes (e ∷ es) s =
-    let more = Spells-bytes s.0 es s.2 in
-    (more.0, s.1 ∙ ap (λ rest. entry_bytes e ++ rest) more.1 ∙ sym (append_assoc (entry_bytes e) (bytes_of es) (replicate more.0 0)))
+    let more = Spells-bytes s.0 es s.2 in (
+      more.0,
+      s.1 ∙ ap (λ rest. entry_bytes e ++ rest) more.1
+          ∙ sym (append_assoc (entry_bytes e) (bytes_of es) (replicate more.0 0)),
+    )
 
 pub Spells-from_bytes : (n : ℕ) (es : List Entry) → Spells (bytes_of es ++ replicate n 0) es
 Spells-from_bytes n [] = ap (λ k. replicate k 0) (sym (length-replicate n 0))
@@ -50,7 +57,8 @@ entries_at-skip (suc skip) (a ∷ bytes) = entries_at-skip skip bytes
 -- bytes that begin with an entry: its number, its name and the entries behind it
 pub entries_of-first : (a b c d k : ℕ) (bytes : List ℕ)
     → 0 < from_be_bytes w32 (a ∷ b ∷ c ∷ d ∷ []) → 0 < k → k ≤ length bytes
-    → entries_of (a ∷ b ∷ c ∷ d ∷ k ∷ bytes) ≡ (from_be_bytes w32 (a ∷ b ∷ c ∷ d ∷ []), take k bytes) ∷ entries_of (drop k bytes)
+    → entries_of (a ∷ b ∷ c ∷ d ∷ k ∷ bytes) ≡ (from_be_bytes w32 (a ∷ b ∷ c ∷ d ∷ []), take k bytes)
+    ∷ entries_of (drop k bytes)
 unfolding entries_of entries_at
 entries_of-first a b c d k bytes above some room =
     let number = from_be_bytes w32 (a ∷ b ∷ c ∷ d ∷ []) in
@@ -60,7 +68,8 @@ entries_of-first a b c d k bytes above some room =
 
 -- bytes that begin with no entry
 pub entries_of-none : (a b c d k : ℕ) (bytes : List ℕ)
-    → is_entry (from_be_bytes w32 (a ∷ b ∷ c ∷ d ∷ [])) k (length bytes) ≡ false → entries_of (a ∷ b ∷ c ∷ d ∷ k ∷ bytes) ≡ []
+    → is_entry (from_be_bytes w32 (a ∷ b ∷ c ∷ d ∷ [])) k (length bytes) ≡ false
+    → entries_of (a ∷ b ∷ c ∷ d ∷ k ∷ bytes) ≡ []
 unfolding entries_of entries_at
 entries_of-none a b c d k bytes fails = cond-false _ _ _ fails
 
@@ -85,11 +94,13 @@ length-name name h =
     let ne : length name ≢ 0 = eqb-false (length name) 0 some.0 in
     (omega arith, ltb-false 255 (length name) short.0)
 
-pub entries_of-entry : (e : Entry) (rest : List ℕ) → IsEntry e → entries_of (entry_bytes e ++ rest) ≡ e ∷ entries_of rest
+pub entries_of-entry : (e : Entry) (rest : List ℕ) → IsEntry e → entries_of (entry_bytes e ++ rest) ≡ e
+    ∷ entries_of rest
 entries_of-entry e rest h =
     let number = from_be_bytes-to_be_bytes_4 e.0 h.fits in
     let bytes = e.1 ++ rest in
-    entries_of-first _ _ _ _ (length e.1) bytes (omega (arith, number, h.above)) (length-name e.1 h.named).0 (omega (arith, length-append e.1 rest))
+    entries_of-first _ _ _ _ (length e.1) bytes (omega (arith, number, h.above)) (length-name e.1 h.named).0
+    (omega (arith, length-append e.1 rest))
     ∙ ap (λ n. (n, take (length e.1) bytes) ∷ entries_of (drop (length e.1) bytes)) number
     ∙ ap (λ name. (e.0, name) ∷ entries_of (drop (length e.1) bytes)) (take_at e.1 rest (length e.1) refl)
     ∙ ap (λ more. e ∷ entries_of more) (drop_at e.1 rest (length e.1) refl)
@@ -146,10 +157,18 @@ entries_of-block bytes es h =
     ap entries_of spelled.1 ∙ entries_of-bytes spelled.0 es h.entries
 
 -- how many zeros a block ends with
-pub zeros_left : (bytes : List ℕ) (es : List Entry) (h : IsDirectoryBlock bytes es) → used_of es + (Spells-bytes bytes es h.spelled).0 ≡ 512
+pub zeros_left : (bytes : List ℕ) (es : List Entry) (h : IsDirectoryBlock bytes es) → used_of es
+    + (Spells-bytes bytes es h.spelled).0 ≡ 512
 zeros_left bytes es h =
     let spelled = Spells-bytes bytes es h.spelled in
-    omega (arith, ap length spelled.1, h.size, length-append (bytes_of es) (replicate spelled.0 0), length-bytes_of es, length-replicate {A = ℕ} spelled.0 0)
+    omega (
+      arith,
+      ap length spelled.1,
+      h.size,
+      length-append (bytes_of es) (replicate spelled.0 0),
+      length-bytes_of es,
+      length-replicate {A = ℕ} spelled.0 0,
+    )
 
 -- Entries have one spelling.
 pub one_spelling : (a b : List ℕ) (es : List Entry) → IsDirectoryBlock a es → IsDirectoryBlock b es → a ≡ b

@@ -1,9 +1,12 @@
 -- The entries of a block written again without those of one name.
-use Rattle.std.proofs.Common.{◌≡◌, ℕ, ◌+◌, ◌≤◌, true, false, List, [], ◌∷◌, ◌++◌, length, None, sym, ap, ◌∙◌, subst, arith, append_assoc}
+use Rattle.std.proofs.Common.{◌≡◌, ℕ, ◌+◌, ◌≤◌, true, false, List, [], ◌∷◌, ◌++◌, length, None, sym, ap, ◌∙◌, subst}
+use Rattle.std.proofs.Common.{arith, append_assoc}
 use Rattle.std.proofs.lemmas.List.{append-nil}
-use Rattle.lfs_dirs.specs.Directory.{Entry, used_of, has_name, number_in, without, IsEntry, AreEntries, IsDirectoryBlock}
+use Rattle.lfs_dirs.specs.Directory.{Entry, used_of, has_name, number_in, without, IsEntry, AreEntries}
+use Rattle.lfs_dirs.specs.Directory.{IsDirectoryBlock}
 use Rattle.lfs_dirs.proofs.Laws.{used_of-append, used_of-block}
-use Rattle.lfs_dirs.proofs.Changes.{without-nil, without-here, without-later, AreEntries-without, AreEntries-middle, used_of-without_le}
+use Rattle.lfs_dirs.proofs.Changes.{without-nil, without-here, without-later, AreEntries-without, AreEntries-middle}
+use Rattle.lfs_dirs.proofs.Changes.{used_of-without_le}
 
 -- the next entry, of another name, is the next that is kept
 pub keeps_next : (name : List ℕ) (done left next es : List Entry) (e : Entry)
@@ -26,7 +29,13 @@ may_follow name block es done e rest h kept =
       entry = entries.0;
       absent = entries.1;
       room =
-          omega (arith, used_of-append done (e ∷ rest), ap used_of kept, used_of-block block es h, used_of-without_le name es);
+          omega (
+            arith,
+            used_of-append done (e ∷ rest),
+            ap used_of kept,
+            used_of-block block es h,
+            used_of-without_le name es,
+          );
     }
 
 -- what is written and what is left, once the next entry is written
@@ -46,4 +55,5 @@ skips_next name done left next es e kept is_left same =
 pub all_written : (name other : List ℕ) (done left es : List Entry)
     → done ++ without name left ≡ without name es → left ≡ [] → name ≡ other → done ≡ without other es
 all_written name other done left es kept none same =
-    sym (append-nil done) ∙ ap (λ xs. done ++ xs) (sym (ap (without name) none ∙ without-nil name)) ∙ kept ∙ ap (λ n. without n es) same
+    sym (append-nil done) ∙ ap (λ xs. done ++ xs) (sym (ap (without name) none ∙ without-nil name)) ∙ kept
+    ∙ ap (λ n. without n es) same

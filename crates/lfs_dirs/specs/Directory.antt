@@ -1,5 +1,6 @@
 -- Directory blocks: the grammar, as a relation between bytes and the entries that they spell.
-use Rattle.std.specs.Prelude.{◌≡◌, ℕ, ◌+◌, ◌^◌, ◌<◌, Bool, not, List, [], ◌∷◌, ◌++◌, length, map, replicate, filter, find, Option, None, option_map, bytes_eq, if◌then◌else◌, ⊤}
+use Rattle.std.specs.Prelude.{◌≡◌, ℕ, ◌+◌, ◌^◌, ◌<◌, Bool, not, List, [], ◌∷◌, ◌++◌, length, map, replicate, filter}
+use Rattle.std.specs.Prelude.{find, Option, None, option_map, bytes_eq, if◌then◌else◌, ⊤}
 use Rattle.std.specs.Int.{w32, to_be_bytes}
 use Rattle.lfs_types.specs.Naming.{name_fault}
 

@@ -18,11 +18,13 @@ append_same [] xs ys same = same
 append_same (x ∷ tests) xs ys same = ap (λ l. x ∷ cond x.met l []) (append_same tests xs ys same)
 
 -- one test, and others behind it
-pub test_same : (met : Bool) (denial : Denial) (xs ys : List Check) → (met ≡ true → asked xs ≡ asked ys) → asked (test met denial ∷ xs) ≡ asked (test met denial ∷ ys)
+pub test_same : (met : Bool) (denial : Denial) (xs ys : List Check) → (met ≡ true → asked xs ≡ asked ys)
+    → asked (test met denial ∷ xs) ≡ asked (test met denial ∷ ys)
 test_same met denial xs ys same = ap (λ l. test met denial ∷ l) (behind_same met (asked xs) (asked ys) same)
 
 -- three tests, and others behind them
-pub step_same : (d e s t n m : Bool) (x y z : Denial) (xs ys : List Check) → d ≡ e → s ≡ t → n ≡ m → (m ≡ true → asked xs ≡ asked ys)
+pub step_same : (d e s t n m : Bool) (x y z : Denial) (xs ys : List Check) → d ≡ e → s ≡ t → n ≡ m
+    → (m ≡ true → asked xs ≡ asked ys)
     → asked (test d x ∷ test s y ∷ test n z ∷ xs) ≡ asked (test e x ∷ test t y ∷ test m z ∷ ys)
 step_same d e s t n m x y z xs ys de st nm same =
     ap (λ b. asked (test b x ∷ test s y ∷ test n z ∷ xs)) de

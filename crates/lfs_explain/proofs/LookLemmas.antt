@@ -17,5 +17,8 @@ pub there_stored : (c : Content) (w : World) → Shows c w → (n : ℕ) → The
 there_stored c w shows n there = present (stored_of c w shows n there.value there.is).stored
 
 -- each row of a trail is
-pub trail_stored : (c : Content) (w : World) → Shows c w → IsTree w.rows → (names : List (List ℕ)) (k : ℕ) (row : ShownRow) → slice_get (rows_along w.rows root names) k ≡ Some row → IsSome (fin.get c row.number)
-trail_stored c w shows tree names k row is = there_stored c w shows row.number (each_used w.rows names root k row (root_there w.rows tree) is)
+pub trail_stored : (c : Content) (w : World) → Shows c w → IsTree w.rows
+    → (names : List (List ℕ)) (k : ℕ) (row : ShownRow) → slice_get (rows_along w.rows root names) k ≡ Some row
+    → IsSome (fin.get c row.number)
+trail_stored c w shows tree names k row is =
+    there_stored c w shows row.number (each_used w.rows names root k row (root_there w.rows tree) is)

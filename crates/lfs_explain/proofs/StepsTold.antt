@@ -1,5 +1,7 @@
 -- The tests of a trail, step by step; the rows on a trail, one by one; the tests that are asked, one by one.
-use Rattle.std.proofs.Common.{◌≡◌, ℕ, zero, suc, ◌+◌, ◌-◌, ◌<◌, ◌≤◌, ◌==◌, ◌||◌, Bool, true, false, cond, List, [], ◌∷◌, ◌++◌, length, min, take, drop, get_or, Option, None, Some, refl, sym, ap, ◌∙◌, add-one, append_assoc, append-nil, arith, eq-eqb}
+use Rattle.std.proofs.Common.{◌≡◌, ℕ, zero, suc, ◌+◌, ◌-◌, ◌<◌, ◌≤◌, ◌==◌, ◌||◌, Bool, true, false, cond, List, [], ◌∷◌}
+use Rattle.std.proofs.Common.{◌++◌, length, min, take, drop, get_or, Option, None, Some, refl, sym, ap, ◌∙◌, add-one}
+use Rattle.std.proofs.Common.{append_assoc, append-nil, arith, eq-eqb}
 use Rattle.std.proofs.Math.Seq.{drop-cons}
 use Rattle.std.proofs.lemmas.Bool.{ne_eqb}
 use Rattle.std.proofs.lemmas.List.{drop_all, length-drop}
@@ -14,7 +16,8 @@ use Rattle.lfs_explain.specs.declared.trail.ShownRow.{ShownRow}
 use Rattle.lfs_explain.proofs.TrailLemmas.{numbers}
 
 -- what is left of a list, with the first of it
-pub left_from : {A : Type 0} (xs : List A) (at : ℕ) (x : A) → at < length xs → x ≡ get_or xs at x → drop at xs ≡ x ∷ drop (at + 1) xs
+pub left_from : {A : Type 0} (xs : List A) (at : ℕ) (x : A) → at < length xs → x ≡ get_or xs at x → drop at xs ≡ x
+    ∷ drop (at + 1) xs
 left_from xs at x h is = drop-cons xs at x h ∙ rw (← is, add-one) refl
 
 goes_drop : (rows : List ShownRow) (j : ℕ) → goes_on (drop j rows) ≡ is_some (slice_get rows j)
@@ -30,17 +33,22 @@ module _ (caller : Caller) (path : ℕ) where
   none_told k (suc n) (row ∷ rows) h = absurd (omega (arith, h))
 
   -- a step, and the others
-  step_told : (rows : List ShownRow) (at count : ℕ) (row : ShownRow) → at < length rows → at < count → row ≡ get_or rows at row
+  step_told : (rows : List ShownRow) (at count : ℕ) (row : ShownRow) → at < length rows → at < count → row
+      ≡ get_or rows at row
       → trail_tests caller path at (count - at) (drop at rows)
-      ≡ step_tests caller path at row.attrs (is_some (slice_get rows (at + 1))) ++ trail_tests caller path (at + 1) (count - (at + 1)) (drop (at + 1) rows)
+      ≡ step_tests caller path at row.attrs (is_some (slice_get rows (at + 1)))
+      ++ trail_tests caller path (at + 1) (count - (at + 1)) (drop (at + 1) rows)
   step_told rows at count row long more is =
       let e : count - at ≡ suc (count - (at + 1)) = omega (arith, more) in
       ap (λ k. trail_tests caller path at k (drop at rows)) e
-      ∙ ap (λ (rs : List ShownRow). trail_tests caller path at (suc (count - (at + 1))) rs) (left_from rows at row long is)
-      ∙ ap (λ b. step_tests caller path at row.attrs b ++ trail_tests caller path (at + 1) (count - (at + 1)) (drop (at + 1) rows)) (goes_drop rows (at + 1))
+      ∙ ap (λ (rs : List ShownRow). trail_tests caller path at (suc (count - (at + 1))) rs)
+      (left_from rows at row long is)
+      ∙ ap (λ b. step_tests caller path at row.attrs b
+      ++ trail_tests caller path (at + 1) (count - (at + 1)) (drop (at + 1) rows)) (goes_drop rows (at + 1))
 
   -- the checks so far and those of the other steps are those of all, after a step
-  pub told_more : (old all now more after : List Check) (rows : List ShownRow) (at count : ℕ) (row : ShownRow) → at < min (length rows) count → row ≡ get_or rows at row
+  pub told_more : (old all now more after : List Check) (rows : List ShownRow) (at count : ℕ) (row : ShownRow)
+      → at < min (length rows) count → row ≡ get_or rows at row
       → now ++ trail_tests caller path at (count - at) (drop at rows) ≡ old ++ all
       → after ≡ now ++ more → more ≡ step_tests caller path at row.attrs (is_some (slice_get rows (at + 1)))
       → after ++ trail_tests caller path (at + 1) (count - (at + 1)) (drop (at + 1) rows) ≡ old ++ all
@@ -58,12 +66,14 @@ module _ (caller : Caller) (path : ℕ) where
       → now ++ trail_tests caller path at (count - at) (drop at rows) ≡ old ++ all → now ≡ old ++ all
   told_all old all now rows at count over so =
       let size = length-drop at rows in
-      sym (append-nil now) ∙ ap (λ cs. now ++ cs) (sym (none_told at (count - at) (drop at rows) (omega (arith, over, size)))) ∙ so
+      sym (append-nil now) ∙ ap (λ cs. now ++ cs)
+      (sym (none_told at (count - at) (drop at rows) (omega (arith, over, size)))) ∙ so
 
 -- ---- asked one by one
 
 asked_here : (met : Bool) (denial : Denial) (checks : List Check) (n : ℕ) → met ≡ true → take n checks ≡ asked checks
-    → take (suc n) (record { met = met; denial = denial } ∷ checks) ≡ asked (record { met = met; denial = denial } ∷ checks)
+    → take (suc n) (record { met = met; denial = denial } ∷ checks)
+    ≡ asked (record { met = met; denial = denial } ∷ checks)
 asked_here true denial checks n met so = ap (λ l. record { met = true; denial = denial } ∷ l) so
 asked_here false denial checks n met so = absurd (cc)
 
@@ -79,17 +89,21 @@ AsksOn checks at = (n : ℕ) → take n (drop at checks) ≡ asked (drop at chec
 pub asks_first : (checks : List Check) → AsksOn checks 0
 asks_first checks n so = let same : 0 + n ≡ n = omega arith in ap (λ k. take k checks) same ∙ so
 
-pub asks_next : (checks : List Check) (at : ℕ) (check : Check) → at < length checks → check ≡ get_or checks at check → check.met ≡ true → AsksOn checks at → AsksOn checks (at + 1)
+pub asks_next : (checks : List Check) (at : ℕ) (check : Check) → at < length checks → check ≡ get_or checks at check
+    → check.met ≡ true → AsksOn checks at → AsksOn checks (at + 1)
 asks_next checks at check long is met on n so =
     let left = left_from checks at check long is in
     let same : (at + 1) + n ≡ at + suc n = omega arith in
     ap (λ k. take k checks) same
-    ∙ on (suc n) (ap (λ (l : List Check). take (suc n) l) left ∙ asked_here check.met check.denial (drop (at + 1) checks) n met so ∙ ap asked (sym left))
+    ∙ on (suc n) (ap (λ (l : List Check). take (suc n) l) left
+    ∙ asked_here check.met check.denial (drop (at + 1) checks) n met so ∙ ap asked (sym left))
 
-pub asks_last : (checks : List Check) (at : ℕ) (check : Check) → at < length checks → check ≡ get_or checks at check → check.met ≡ false → AsksOn checks at → take (at + 1) checks ≡ asked checks
+pub asks_last : (checks : List Check) (at : ℕ) (check : Check) → at < length checks → check ≡ get_or checks at check
+    → check.met ≡ false → AsksOn checks at → take (at + 1) checks ≡ asked checks
 asks_last checks at check long is met on =
     let left = left_from checks at check long is in
-    on 1 (ap (λ (l : List Check). take 1 l) left ∙ asked_last check.met check.denial (drop (at + 1) checks) met ∙ ap asked (sym left))
+    on 1 (ap (λ (l : List Check). take 1 l) left ∙ asked_last check.met check.denial (drop (at + 1) checks) met
+    ∙ ap asked (sym left))
 
 pub asks_all : (checks : List Check) (at : ℕ) → at ≡ length checks → AsksOn checks at → take at checks ≡ asked checks
 asks_all checks at whole on =
@@ -100,12 +114,16 @@ asks_all checks at whole on =
 -- ---- numbers one by one
 
 pub any_next : (rows : List ShownRow) (at number : ℕ) (row : ShownRow) → at < length rows → row ≡ get_or rows at row
-    → list_any (λ n. n == number) (numbers (drop at rows)) ≡ ((row.number == number) || list_any (λ n. n == number) (numbers (drop (at + 1) rows)))
-any_next rows at number row long is = ap (λ (l : List ShownRow). list_any (λ n. n == number) (numbers l)) (left_from rows at row long is)
+    → list_any (λ n. n == number) (numbers (drop at rows))
+    ≡ ((row.number == number) || list_any (λ n. n == number) (numbers (drop (at + 1) rows)))
+any_next rows at number row long is = ap (λ (l : List ShownRow). list_any (λ n. n == number) (numbers l))
+    (left_from rows at row long is)
 
 pub place_next : (rows : List ShownRow) (at number : ℕ) (row : ShownRow) → at < length rows → row ≡ get_or rows at row
-    → position number (numbers (drop at rows)) ≡ cond (row.number == number) 0 (1 + position number (numbers (drop (at + 1) rows)))
-place_next rows at number row long is = ap (λ (l : List ShownRow). position number (numbers l)) (left_from rows at row long is)
+    → position number (numbers (drop at rows))
+    ≡ cond (row.number == number) 0 (1 + position number (numbers (drop (at + 1) rows)))
+place_next rows at number row long is = ap (λ (l : List ShownRow). position number (numbers l))
+    (left_from rows at row long is)
 
 -- ---- the first that fails, one by one
 
@@ -113,17 +131,22 @@ fails_met : (met : Bool) (denial : Denial) (rest : Option Denial) → met ≡ tr
 fails_met true denial rest h = refl
 fails_met false denial rest h = absurd (cc)
 
-fails_unmet : (met : Bool) (denial : Denial) (rest : Option Denial) → met ≡ false → cond met rest (Some denial) ≡ Some denial
+fails_unmet : (met : Bool) (denial : Denial) (rest : Option Denial) → met ≡ false → cond met rest (Some denial)
+    ≡ Some denial
 fails_unmet true denial rest h = absurd (cc)
 fails_unmet false denial rest h = refl
 
-pub failing_next : (checks : List Check) (at : ℕ) (check : Check) → at < length checks → check ≡ get_or checks at check → check.met ≡ true
+pub failing_next : (checks : List Check) (at : ℕ) (check : Check) → at < length checks → check ≡ get_or checks at check
+    → check.met ≡ true
     → first_failing (drop at checks) ≡ first_failing (drop (at + 1) checks)
-failing_next checks at check long is met = ap first_failing (left_from checks at check long is) ∙ fails_met check.met check.denial (first_failing (drop (at + 1) checks)) met
+failing_next checks at check long is met = ap first_failing (left_from checks at check long is)
+    ∙ fails_met check.met check.denial (first_failing (drop (at + 1) checks)) met
 
-pub failing_here : (checks : List Check) (at : ℕ) (check : Check) → at < length checks → check ≡ get_or checks at check → check.met ≡ false
+pub failing_here : (checks : List Check) (at : ℕ) (check : Check) → at < length checks → check ≡ get_or checks at check
+    → check.met ≡ false
     → first_failing (drop at checks) ≡ Some check.denial
-failing_here checks at check long is met = ap first_failing (left_from checks at check long is) ∙ fails_unmet check.met check.denial (first_failing (drop (at + 1) checks)) met
+failing_here checks at check long is met = ap first_failing (left_from checks at check long is)
+    ∙ fails_unmet check.met check.denial (first_failing (drop (at + 1) checks)) met
 
 pub failing_none : (checks : List Check) (at : ℕ) → length checks ≤ at → first_failing (drop at checks) ≡ None
 failing_none checks at over = ap first_failing (drop_all at checks over)
@@ -138,22 +161,28 @@ place number rows = position number (numbers rows)
 
 module _ (rows : List ShownRow) (at number : ℕ) where
   module _ (row : ShownRow) (long : at < length rows) (is : row ≡ get_or rows at row) where
-    pub any_past : (all : Bool) → (row.number ≡ number → ⊥) → all ≡ has number (drop at rows) → all ≡ has number (drop (at + 1) rows)
-    any_past all other so = so ∙ any_next rows at number row long is ∙ ap (λ b. b || has number (drop (at + 1) rows)) (ne_eqb row.number number other)
+    pub any_past : (all : Bool) → (row.number ≡ number → ⊥) → all ≡ has number (drop at rows) → all
+        ≡ has number (drop (at + 1) rows)
+    any_past all other so = so ∙ any_next rows at number row long is
+        ∙ ap (λ b. b || has number (drop (at + 1) rows)) (ne_eqb row.number number other)
 
-    pub place_past : (all : ℕ) → (row.number ≡ number → ⊥) → all ≡ at + place number (drop at rows) → all ≡ (at + 1) + place number (drop (at + 1) rows)
+    pub place_past : (all : ℕ) → (row.number ≡ number → ⊥) → all ≡ at + place number (drop at rows) → all ≡ (at + 1)
+        + place number (drop (at + 1) rows)
     place_past all other so =
         let next : place number (drop at rows) ≡ 1 + place number (drop (at + 1) rows) =
-        place_next rows at number row long is ∙ ap (λ b. cond b 0 (1 + place number (drop (at + 1) rows))) (ne_eqb row.number number other) in
+        place_next rows at number row long is ∙ ap (λ b. cond b 0 (1 + place number (drop (at + 1) rows)))
+        (ne_eqb row.number number other) in
         omega (arith, so, next)
 
     pub any_here : (all : Bool) → row.number ≡ number → all ≡ has number (drop at rows) → true ≡ all
-    any_here all same so = sym (so ∙ any_next rows at number row long is ∙ ap (λ b. b || has number (drop (at + 1) rows)) (eq-eqb row.number number same))
+    any_here all same so = sym (so ∙ any_next rows at number row long is
+        ∙ ap (λ b. b || has number (drop (at + 1) rows)) (eq-eqb row.number number same))
 
     pub place_here : (all : ℕ) → row.number ≡ number → all ≡ at + place number (drop at rows) → at ≡ all
     place_here all same so =
         let here : place number (drop at rows) ≡ 0 =
-        place_next rows at number row long is ∙ ap (λ b. cond b 0 (1 + place number (drop (at + 1) rows))) (eq-eqb row.number number same) in
+        place_next rows at number row long is ∙ ap (λ b. cond b 0 (1 + place number (drop (at + 1) rows)))
+        (eq-eqb row.number number same) in
         omega (arith, so, here)
 
   module _ (over : length rows ≤ at) where

@@ -1,5 +1,6 @@
 -- The tests that are told from the rows that paths lead through are asked as those of the rule table.
-use Rattle.std.proofs.Common.{◌≡◌, ℕ, zero, suc, ◌-◌, ◌<◌, ◌==◌, Bool, true, List, [], ◌∷◌, ◌++◌, length, take, Option, None, Some, refl, sym, ap, ◌∙◌, arith, append_assoc}
+use Rattle.std.proofs.Common.{◌≡◌, ℕ, zero, suc, ◌-◌, ◌<◌, ◌==◌, Bool, true, List, [], ◌∷◌, ◌++◌, length, take, Option}
+use Rattle.std.proofs.Common.{None, Some, refl, sym, ap, ◌∙◌, arith, append_assoc}
 use Rattle.std.proofs.lemmas.List.{take_all}
 use Rattle.std.specs.Prelude.{is_none, not, unwrap_or, slice_get}
 use Rattle.std.specs.FinMap as fin
@@ -8,10 +9,12 @@ use Rattle.lfs_types.specs.Tree.{root}
 use Rattle.lfs_types.specs.declared.attrs.Attrs.{Attrs}
 use Rattle.lfs_types.proofs.Somewhere.{There}
 use Rattle.lfs_model.specs.World.{Rows, child, children}
-use Rattle.lfs_model.specs.Rules.{Check, arriving, attrs_at, front, last, making, making_tests, reached, reaching, removing, removing_tests, rmdir_tests, searching_tests, unlink_tests, walk}
+use Rattle.lfs_model.specs.Rules.{Check, arriving, attrs_at, front, last, making, making_tests, reached, reaching}
+use Rattle.lfs_model.specs.Rules.{removing, removing_tests, rmdir_tests, searching_tests, unlink_tests, walk}
 use Rattle.lfs_calls.proofs.LastNames.{front_stands}
 use Rattle.lfs_explain.specs.Asked.{asked}
-use Rattle.lfs_explain.specs.Tables.{Path, arriving_by, last_row, making_by, no_row, reaching_by, removing_by, row_at, trail_tests}
+use Rattle.lfs_explain.specs.Tables.{Path, arriving_by, last_row, making_by, no_row, reaching_by, removing_by, row_at}
+use Rattle.lfs_explain.specs.Tables.{trail_tests}
 use Rattle.lfs_explain.specs.Trails.{shown_row, rows_along}
 use Rattle.lfs_explain.specs.declared.trail.ShownRow.{ShownRow}
 use Rattle.lfs_explain.proofs.Askings.{append_same, test_same}
@@ -38,8 +41,10 @@ none_same None = refl
 none_same (Some row) = refl
 
 -- what has the last name of some
-pub there_is : (rows : Rows) (names : List (List ℕ)) → 0 < length names → length names - 1 < length (rows_along rows root names)
-    → child rows (reached rows root (front names)) (last names) ≡ number_of (slice_get (rows_along rows root names) (length names))
+pub there_is : (rows : Rows) (names : List (List ℕ)) → 0 < length names
+    → length names - 1 < length (rows_along rows root names)
+    → child rows (reached rows root (front names)) (last names)
+    ≡ number_of (slice_get (rows_along rows root names) (length names))
 there_is rows [] some long = absurd (omega (arith, some))
 there_is rows (name ∷ names) some long = end_told rows names name root (omega (arith, long))
 
@@ -60,7 +65,8 @@ module _ (rows : Rows) (names : List (List ℕ)) where
       ∙ ap (λ ns. shown_row rows (reached rows root ns)) all_names
 
   pub end_stands : count < length steps → slice_get steps count ≡ Some (shown_row rows (reached rows root names))
-  end_stands long = seat rows names root count (omega arith) long ∙ ap (λ ns. Some (shown_row rows (reached rows root ns))) all_names
+  end_stands long = seat rows names root count (omega arith) long
+      ∙ ap (λ ns. Some (shown_row rows (reached rows root ns))) all_names
 
   module _ (some : 0 < count) where
     -- the directory of the last name
@@ -70,14 +76,17 @@ module _ (rows : Rows) (names : List (List ℕ)) where
         ∙ ap (λ ns. shown_row rows (reached rows root ns)) (front_stands names some)
 
     -- a walk along the names before the last
-    pub front_walk : (caller : Caller) (path : ℕ) → There (fin.get rows root) → (xs ys : List Check) → (count - 1 < length steps → asked xs ≡ asked ys)
-        → asked (walk rows caller path 0 root (front names) ++ xs) ≡ asked (trail_tests caller path 0 (count - 1) steps ++ ys)
+    pub front_walk : (caller : Caller) (path : ℕ) → There (fin.get rows root) → (xs ys : List Check)
+        → (count - 1 < length steps → asked xs ≡ asked ys)
+        → asked (walk rows caller path 0 root (front names) ++ xs)
+        ≡ asked (trail_tests caller path 0 (count - 1) steps ++ ys)
     front_walk caller path there xs ys same =
         ap (λ ns. asked (walk rows caller path 0 root ns ++ xs)) (sym (front_stands names some))
         ∙ walk_told rows caller path names 0 root (count - 1) there (omega arith) xs ys same
 
   -- a walk along all of them
-  pub whole_walk : (caller : Caller) (path : ℕ) → There (fin.get rows root) → (xs ys : List Check) → (count < length steps → asked xs ≡ asked ys)
+  pub whole_walk : (caller : Caller) (path : ℕ) → There (fin.get rows root) → (xs ys : List Check)
+      → (count < length steps → asked xs ≡ asked ys)
       → asked (walk rows caller path 0 root names ++ xs) ≡ asked (trail_tests caller path 0 count steps ++ ys)
   whole_walk caller path there xs ys same =
       ap (λ ns. asked (walk rows caller path 0 root ns ++ xs)) (sym all_names)
@@ -94,18 +103,24 @@ module _ (rows : Rows) (caller : Caller) (there : There (fin.get rows root)) whe
       (λ long. ap (λ (s : ShownRow). asked (tests s.attrs (length names))) (sym (end_is rows names long))))
 
   -- a call that makes a row
-  pub making_told : (names : List (List ℕ)) (empty : Bool) → asked (making_by caller (path_to rows names empty)) ≡ asked (making rows caller names)
+  pub making_told : (names : List (List ℕ)) (empty : Bool) → asked (making_by caller (path_to rows names empty))
+      ≡ asked (making rows caller names)
   making_told names empty =
       let steps = rows_along rows root names in
       let count = length names in
       sym (test_same (not (count == 0)) _ _ _ (λ met.
       let some = some_names count met in
-      front_walk rows names some caller 0 there _ (making_tests caller (is_none (slice_get steps count)) (row_at steps (count - 1)).attrs (count - 1))
+      front_walk rows names some caller 0 there _
+      (making_tests caller (is_none (slice_get steps count)) (row_at steps (count - 1)).attrs (count - 1))
       (λ long.
-      ap (λ (o : Option ℕ). asked (making_tests caller (is_none o) (attrs_at rows (reached rows root (front names))) (length (front names)))) (there_is rows names some long)
-      ∙ ap (λ b. asked (making_tests caller b (attrs_at rows (reached rows root (front names))) (length (front names)))) (none_same (slice_get steps count))
-      ∙ ap (λ (s : ShownRow). asked (making_tests caller (is_none (slice_get steps count)) s.attrs (length (front names)))) (sym (dir_is rows names some long))
-      ∙ ap (λ k. asked (making_tests caller (is_none (slice_get steps count)) (row_at steps (count - 1)).attrs k)) (length_front names some))))
+      ap (λ (o : Option ℕ). asked (making_tests caller (is_none o) (attrs_at rows (reached rows root (front names)))
+      (length (front names)))) (there_is rows names some long)
+      ∙ ap (λ b. asked (making_tests caller b (attrs_at rows (reached rows root (front names))) (length (front names))))
+      (none_same (slice_get steps count))
+      ∙ ap (λ (s : ShownRow). asked (making_tests caller (is_none (slice_get steps count)) s.attrs
+      (length (front names)))) (sym (dir_is rows names some long))
+      ∙ ap (λ k. asked (making_tests caller (is_none (slice_get steps count)) (row_at steps (count - 1)).attrs k))
+      (length_front names some))))
 
   -- a call that takes away a name, and tests behind
   pub removing_told : (names : List (List ℕ)) (empty : Bool) (xs ys : List Check)
@@ -118,33 +133,45 @@ module _ (rows : Rows) (caller : Caller) (there : There (fin.get rows root)) whe
       let file = attrs_at rows (reached rows root names) in
       test_same (not (count == 0)) _ _ _ (λ met.
       let some = some_names count met in
-      ap asked (append_assoc (walk rows caller 0 0 root names) (removing_tests caller 0 dir file (length (front names))) xs)
+      ap asked (append_assoc (walk rows caller 0 0 root names)
+      (removing_tests caller 0 dir file (length (front names))) xs)
       ∙ whole_walk rows names caller 0 there
       (removing_tests caller 0 dir file (length (front names)) ++ xs)
       (removing_tests caller 0 (row_at steps (count - 1)).attrs (row_at steps count).attrs (count - 1) ++ ys)
       (λ long.
       let near : count - 1 < length steps = omega (arith, long) in
-      ap (λ (s : ShownRow). asked (removing_tests caller 0 s.attrs file (length (front names)) ++ xs)) (sym (dir_is rows names some near))
-      ∙ ap (λ (s : ShownRow). asked (removing_tests caller 0 (row_at steps (count - 1)).attrs s.attrs (length (front names)) ++ xs)) (sym (end_is rows names long))
-      ∙ ap (λ k. asked (removing_tests caller 0 (row_at steps (count - 1)).attrs (row_at steps count).attrs k ++ xs)) (length_front names some)
-      ∙ append_same (removing_tests caller 0 (row_at steps (count - 1)).attrs (row_at steps count).attrs (count - 1)) xs ys (same some long))
-      ∙ ap asked (sym (append_assoc (trail_tests caller 0 0 count steps) (removing_tests caller 0 (row_at steps (count - 1)).attrs (row_at steps count).attrs (count - 1)) ys)))
+      ap (λ (s : ShownRow). asked (removing_tests caller 0 s.attrs file (length (front names)) ++ xs))
+      (sym (dir_is rows names some near))
+      ∙ ap (λ (s : ShownRow). asked (removing_tests caller 0 (row_at steps (count - 1)).attrs s.attrs
+      (length (front names)) ++ xs)) (sym (end_is rows names long))
+      ∙ ap (λ k. asked (removing_tests caller 0 (row_at steps (count - 1)).attrs (row_at steps count).attrs k ++ xs))
+      (length_front names some)
+      ∙ append_same (removing_tests caller 0 (row_at steps (count - 1)).attrs (row_at steps count).attrs (count - 1)) xs
+      ys (same some long))
+      ∙ ap asked (sym (append_assoc (trail_tests caller 0 0 count steps)
+      (removing_tests caller 0 (row_at steps (count - 1)).attrs (row_at steps count).attrs (count - 1)) ys)))
 
   -- a file
   pub unlink_told : (names : List (List ℕ)) (empty : Bool)
-      → asked (removing_by caller (path_to rows names empty) ++ unlink_tests (last_row (path_to rows names empty)).attrs (length names))
+      → asked (removing_by caller (path_to rows names empty)
+      ++ unlink_tests (last_row (path_to rows names empty)).attrs (length names))
       ≡ asked (removing rows caller names ++ unlink_tests (attrs_at rows (reached rows root names)) (length names))
   unlink_told names empty =
-      sym (removing_told names empty _ _ (λ some long. ap (λ (s : ShownRow). asked (unlink_tests s.attrs (length names))) (sym (end_is rows names long))))
+      sym (removing_told names empty _ _ (λ some long. ap
+      (λ (s : ShownRow). asked (unlink_tests s.attrs (length names))) (sym (end_is rows names long))))
 
   -- a directory
   pub rmdir_told : (names : List (List ℕ)) (empty : Bool)
-      → ((row : ShownRow) → slice_get (rows_along rows root names) (length names) ≡ Some row → empty ≡ (length (children rows row.number) == 0))
-      → asked (removing_by caller (path_to rows names empty) ++ rmdir_tests empty (last_row (path_to rows names empty)).attrs (length names))
-      ≡ asked (removing rows caller names ++ rmdir_tests (length (children rows (reached rows root names)) == 0) (attrs_at rows (reached rows root names)) (length names))
+      → ((row : ShownRow) → slice_get (rows_along rows root names) (length names) ≡ Some row → empty
+      ≡ (length (children rows row.number) == 0))
+      → asked (removing_by caller (path_to rows names empty)
+      ++ rmdir_tests empty (last_row (path_to rows names empty)).attrs (length names))
+      ≡ asked (removing rows caller names ++ rmdir_tests (length (children rows (reached rows root names)) == 0)
+      (attrs_at rows (reached rows root names)) (length names))
   rmdir_told names empty childless =
       sym (removing_told names empty _ _ (λ some long.
-      ap (λ b. asked (rmdir_tests b (attrs_at rows (reached rows root names)) (length names))) (sym (childless _ (end_stands rows names long)))
+      ap (λ b. asked (rmdir_tests b (attrs_at rows (reached rows root names)) (length names)))
+      (sym (childless _ (end_stands rows names long)))
       ∙ ap (λ (s : ShownRow). asked (rmdir_tests empty s.attrs (length names))) (sym (end_is rows names long))))
 
   -- the way to a place, and tests behind
@@ -157,12 +184,15 @@ module _ (rows : Rows) (caller : Caller) (there : There (fin.get rows root)) whe
       let dir = attrs_at rows (reached rows root (front names)) in
       test_same (not (count == 0)) _ _ _ (λ met.
       let some = some_names count met in
-      ap asked (append_assoc (walk rows caller 1 0 root (front names)) (searching_tests caller 1 dir (length (front names))) xs)
+      ap asked (append_assoc (walk rows caller 1 0 root (front names))
+      (searching_tests caller 1 dir (length (front names))) xs)
       ∙ front_walk rows names some caller 1 there
       (searching_tests caller 1 dir (length (front names)) ++ xs)
       (searching_tests caller 1 (row_at steps (count - 1)).attrs (count - 1) ++ ys)
       (λ long.
-      ap (λ (s : ShownRow). asked (searching_tests caller 1 s.attrs (length (front names)) ++ xs)) (sym (dir_is rows names some long))
+      ap (λ (s : ShownRow). asked (searching_tests caller 1 s.attrs (length (front names)) ++ xs))
+      (sym (dir_is rows names some long))
       ∙ ap (λ k. asked (searching_tests caller 1 (row_at steps (count - 1)).attrs k ++ xs)) (length_front names some)
       ∙ append_same (searching_tests caller 1 (row_at steps (count - 1)).attrs (count - 1)) xs ys (same some long))
-      ∙ ap asked (sym (append_assoc (trail_tests caller 1 0 (count - 1) steps) (searching_tests caller 1 (row_at steps (count - 1)).attrs (count - 1)) ys)))
+      ∙ ap asked (sym (append_assoc (trail_tests caller 1 0 (count - 1) steps)
+      (searching_tests caller 1 (row_at steps (count - 1)).attrs (count - 1)) ys)))

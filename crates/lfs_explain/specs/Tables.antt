@@ -1,5 +1,6 @@
 -- The tests of a call, told from the rows that its paths lead through.
-use Rattle.std.specs.Prelude.{ℕ, zero, suc, ◌+◌, ◌-◌, ◌==◌, nat_le, not, Bool, true, false, List, [], ◌∷◌, ◌++◌, length, map, take, Option, None, Some, is_none, slice_get, unwrap_or, if◌then◌else◌}
+use Rattle.std.specs.Prelude.{ℕ, zero, suc, ◌+◌, ◌-◌, ◌==◌, nat_le, not, Bool, true, false, List, [], ◌∷◌, ◌++◌, length}
+use Rattle.std.specs.Prelude.{map, take, Option, None, Some, is_none, slice_get, unwrap_or, if◌then◌else◌}
 use Rattle.std.specs.List.{list_any}
 use Rattle.lfs_types.specs.Caller.{Caller}
 use Rattle.lfs_types.specs.Kinds.{is_directory_kind}
@@ -9,10 +10,16 @@ use Rattle.lfs_types.specs.declared.attrs.Bit.TheVariants as bits
 use Rattle.lfs_types.specs.declared.level.Level.{Level}
 use Rattle.lfs_types.specs.declared.request.Place.{Place}
 use Rattle.lfs_types.specs.declared.request.Request.{Request}
-use Rattle.lfs_types.specs.declared.request.Request.TheVariants.{Stat, Read, Write, List as Names, SetLength, Create, Mkdir, Unlink, Rmdir, Rename, Chmod, Chown, Chflags, SetLevel, Sync}
-use Rattle.lfs_types.specs.declared.rule.Rule.TheVariants.{IsDirectory, FitsFile, GrantsSearch, NameThere, NameFree, IsNotRoot, IsNotBeneathItself}
+use Rattle.lfs_types.specs.declared.request.Request.TheVariants.{Stat, Read, Write, List as Names, SetLength, Create}
+use Rattle.lfs_types.specs.declared.request.Request.TheVariants.{Mkdir, Unlink, Rmdir, Rename, Chmod, Chown, Chflags}
+use Rattle.lfs_types.specs.declared.request.Request.TheVariants.{SetLevel, Sync}
+use Rattle.lfs_types.specs.declared.rule.Rule.TheVariants.{IsDirectory, FitsFile, GrantsSearch, NameThere, NameFree}
+use Rattle.lfs_types.specs.declared.rule.Rule.TheVariants.{IsNotRoot, IsNotBeneathItself}
 use Rattle.lfs_rules.specs.Grants.{grants_of}
-use Rattle.lfs_model.specs.Rules.{Check, asks, chflags_tests, chmod_tests, chown_tests, entering_tests, leaves_test, length_tests, level_tests, list_tests, making_tests, position, read_tests, removing_tests, replaced_tests, rmdir_tests, searching_tests, start_in, unlink_tests, write_tests, file_max}
+use Rattle.lfs_model.specs.Rules.{Check, asks, chflags_tests, chmod_tests, chown_tests, entering_tests, leaves_test}
+use Rattle.lfs_model.specs.Rules.{length_tests, level_tests, list_tests, making_tests, position, read_tests}
+use Rattle.lfs_model.specs.Rules.{removing_tests, replaced_tests, rmdir_tests, searching_tests, start_in, unlink_tests}
+use Rattle.lfs_model.specs.Rules.{write_tests, file_max}
 use Rattle.lfs_explain.specs.declared.trail.ShownRow.{ShownRow}
 use Rattle.lfs_explain.specs.declared.trail.Trail.{Trail}
 
@@ -43,7 +50,8 @@ step_tests caller path k dir there =
 abbrev pub trail_tests : Caller → ℕ → ℕ → ℕ → List ShownRow → List Check
 trail_tests caller path k zero rows_along = []
 trail_tests caller path k (suc n) [] = []
-trail_tests caller path k (suc n) (row ∷ rows) = step_tests caller path k row.attrs (goes_on rows) ++ trail_tests caller path (k + 1) n rows
+trail_tests caller path k (suc n) (row ∷ rows) = step_tests caller path k row.attrs (goes_on rows)
+    ++ trail_tests caller path (k + 1) n rows
 
 -- the test of so many bytes in a file from a place on
 abbrev pub fits_test : Place → ℕ → Attrs → ℕ → List Check
@@ -67,7 +75,8 @@ own_tests level caller request attrs k = []
 
 -- ---- a path
 
--- what is known of a path: the rows that it leads through, how many names it has, and whether the row that they all lead
+-- what is known of a path: the rows that it leads through, how many names it has, and whether the row that they all
+-- lead
 -- to has no child
 pub record Path : Type 0 where
   pub rows : List ShownRow
@@ -126,7 +135,8 @@ numbers_to to = map (λ (row : ShownRow). row.number) (take to.names to.rows)
 -- the last tests: of the way to the place, and of what is moved
 abbrev pub last_by : Caller → Path → Path → List Check
 last_by caller from to =
-    asks (not (list_any (λ n. n == (last_row from).number) (numbers_to to))) IsNotBeneathItself 1 (position (last_row from).number (numbers_to to))
+    asks (not (list_any (λ n. n == (last_row from).number) (numbers_to to))) IsNotBeneathItself 1
+    (position (last_row from).number (numbers_to to))
     ∷ leaves_test caller ((dir_of from).number == (dir_of to).number) (last_row from).attrs from.names
     ∷ []
 
@@ -146,19 +156,27 @@ moving_by caller from to there =
 -- the tests of a call, by what its paths lead through
 abbrev pub table_by : Level → Caller → Request → Path → Path → List Check
 table_by level caller (Stat path) first second = reaching_by caller (own_tests level caller (Stat path)) first
-table_by level caller (Read path off len) first second = reaching_by caller (own_tests level caller (Read path off len)) first
+table_by level caller (Read path off len) first second =
+    reaching_by caller (own_tests level caller (Read path off len)) first
 table_by level caller (Names path) first second = reaching_by caller (own_tests level caller (Names path)) first
-table_by level caller (Write path place bytes) first second = reaching_by caller (own_tests level caller (Write path place bytes)) first
-table_by level caller (SetLength path len) first second = reaching_by caller (own_tests level caller (SetLength path len)) first
+table_by level caller (Write path place bytes) first second =
+    reaching_by caller (own_tests level caller (Write path place bytes)) first
+table_by level caller (SetLength path len) first second =
+    reaching_by caller (own_tests level caller (SetLength path len)) first
 table_by level caller (Create path mode) first second = making_by caller first
 table_by level caller (Mkdir path mode) first second = making_by caller first
-table_by level caller (Unlink path) first second = removing_by caller first ++ unlink_tests (last_row first).attrs first.names
+table_by level caller (Unlink path) first second = removing_by caller first
+    ++ unlink_tests (last_row first).attrs first.names
 table_by level caller (Rmdir path) first second =
     removing_by caller first ++ rmdir_tests first.is_childless (last_row first).attrs first.names
 table_by level caller (Rename from to) first second =
-    removing_by caller first ++ (arriving_by caller second ++ moving_by caller first second (slice_get second.rows second.names))
-table_by level caller (Chmod path mode) first second = reaching_by caller (own_tests level caller (Chmod path mode)) first
-table_by level caller (Chown path uid gid) first second = reaching_by caller (own_tests level caller (Chown path uid gid)) first
-table_by level caller (Chflags path flags) first second = reaching_by caller (own_tests level caller (Chflags path flags)) first
+    removing_by caller first ++ (arriving_by caller second
+    ++ moving_by caller first second (slice_get second.rows second.names))
+table_by level caller (Chmod path mode) first second =
+    reaching_by caller (own_tests level caller (Chmod path mode)) first
+table_by level caller (Chown path uid gid) first second =
+    reaching_by caller (own_tests level caller (Chown path uid gid)) first
+table_by level caller (Chflags path flags) first second =
+    reaching_by caller (own_tests level caller (Chflags path flags)) first
 table_by level caller (SetLevel new) first second = level_tests caller level new
 table_by level caller Sync first second = []

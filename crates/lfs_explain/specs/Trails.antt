@@ -2,7 +2,9 @@
 use Rattle.std.specs.Prelude.{◌≡◌, ◌==◌, ℕ, List, [], ◌∷◌, length, Option, None, Some, slice_get}
 use Rattle.lfs_types.specs.Tree.{root}
 use Rattle.lfs_types.specs.declared.request.Request.{Request}
-use Rattle.lfs_types.specs.declared.request.Request.TheVariants.{Stat, Read, Write, List as Names, SetLength, Create, Mkdir, Unlink, Rmdir, Rename, Chmod, Chown, Chflags, SetLevel, Sync}
+use Rattle.lfs_types.specs.declared.request.Request.TheVariants.{Stat, Read, Write, List as Names, SetLength, Create}
+use Rattle.lfs_types.specs.declared.request.Request.TheVariants.{Mkdir, Unlink, Rmdir, Rename, Chmod, Chown, Chflags}
+use Rattle.lfs_types.specs.declared.request.Request.TheVariants.{SetLevel, Sync}
 use Rattle.lfs_model.specs.World.{Rows, child, children}
 use Rattle.lfs_model.specs.Rules.{attrs_at}
 use Rattle.lfs_explain.specs.declared.trail.ShownRow.{ShownRow}
@@ -27,7 +29,8 @@ rows_along rows at (name ∷ names) = shown_row rows at ∷ onward (child rows a
 pub record IsTrail (rows : Rows) (names : List (List ℕ)) (trail : Trail) : Type 0 where
   pub rows_are : trail.rows.items ≡ rows_along rows root names
   pub counted : trail.names ≡ length names
-  pub childless : (row : ShownRow) → slice_get trail.rows.items trail.names ≡ Some row → trail.is_childless ≡ (length (children rows row.number) == 0)
+  pub childless : (row : ShownRow) → slice_get trail.rows.items trail.names ≡ Some row → trail.is_childless
+      ≡ (length (children rows row.number) == 0)
 
 -- the names of a call's first path, none where it has none
 abbrev pub first_names : Request → List (List ℕ)

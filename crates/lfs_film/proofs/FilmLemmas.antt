@@ -1,5 +1,6 @@
 -- Lists of rows grow, row by row, and a page of its parts.
-use Rattle.std.proofs.Common.{◌≡◌, ℕ, suc, ◌+◌, ◌≤◌, Bool, true, false, not, List, [], ◌∷◌, ◌++◌, length, map, bytes_eq, Bor, Option, refl, sym, ◌∙◌, arith, append-nil, length-append, subst}
+use Rattle.std.proofs.Common.{◌≡◌, ℕ, suc, ◌+◌, ◌≤◌, Bool, true, false, not, List, [], ◌∷◌, ◌++◌, length, map, bytes_eq}
+use Rattle.std.proofs.Common.{Bor, Option, refl, sym, ◌∙◌, arith, append-nil, length-append, subst}
 use Rattle.std.specs.Io.KnownBytes.{Appends}
 use Rattle.std.proofs.KnownBytes.{Appends-trans}
 use Rattle.std.proofs.lemmas.Bool.{leb-true}
@@ -22,14 +23,16 @@ unfolding first_changed
 rows_none old new = refl
 
 -- a row that is as before, and one that isn't
-same_row : (old new rows : List (List ℕ)) (n : ℕ) → rows ≡ first_changed old new n → bytes_eq (row_at old n) (row_at new n) ≡ true
+same_row : (old new rows : List (List ℕ)) (n : ℕ) → rows ≡ first_changed old new n
+    → bytes_eq (row_at old n) (row_at new n) ≡ true
     → rows ≡ first_changed old new (n + 1)
 unfolding first_changed
 same_row old new rows n so_far same =
     let one : n + 1 ≡ suc n = omega arith in
     rw (one, same) (so_far ∙ sym (append-nil (first_changed old new n)))
 
-other_row : (old new rows : List (List ℕ)) (n : ℕ) → rows ≡ first_changed old new n → bytes_eq (row_at old n) (row_at new n) ≡ false
+other_row : (old new rows : List (List ℕ)) (n : ℕ) → rows ≡ first_changed old new n
+    → bytes_eq (row_at old n) (row_at new n) ≡ false
     → rows ++ row_at new n ∷ [] ≡ first_changed old new (n + 1)
 unfolding first_changed
 other_row old new rows n so_far other =
@@ -38,26 +41,34 @@ other_row old new rows n so_far other =
 
 -- the same of rows that are lent, by what a test said of them
 pub rows_kept : (old new : List (List ℕ)) (rows : List (Bor (List ℕ))) (n : ℕ) (before now : List ℕ) (test : Bool)
-    → map (λ x. x.now) rows ≡ first_changed old new n → before ≡ row_at old n → now ≡ row_at new n → test ≡ not (bytes_eq before now) → test ≡ false
+    → map (λ x. x.now) rows ≡ first_changed old new n → before ≡ row_at old n → now ≡ row_at new n → test
+    ≡ not (bytes_eq before now) → test ≡ false
     → map (λ x. x.now) rows ≡ first_changed old new (n + 1)
 rows_kept old new rows n before now test so_far one two tells fails =
-    same_row old new (map (λ x. x.now) rows) n so_far (rw (← one, ← two) (is_same (bytes_eq before now) (sym tells ∙ fails)))
+    same_row old new (map (λ x. x.now) rows) n so_far
+    (rw (← one, ← two) (is_same (bytes_eq before now) (sym tells ∙ fails)))
 
-pub rows_more : (old new : List (List ℕ)) (rows more : List (Bor (List ℕ))) (n : ℕ) (before : List ℕ) (row : Bor (List ℕ)) (test : Bool)
-    → map (λ x. x.now) rows ≡ first_changed old new n → before ≡ row_at old n → row.now ≡ row_at new n → test ≡ not (bytes_eq before row.now) → test ≡ true
+pub rows_more : (old new : List (List ℕ)) (rows more : List (Bor (List ℕ))) (n : ℕ) (before : List ℕ)
+    (row : Bor (List ℕ)) (test : Bool)
+    → map (λ x. x.now) rows ≡ first_changed old new n → before ≡ row_at old n → row.now ≡ row_at new n → test
+    ≡ not (bytes_eq before row.now) → test ≡ true
     → more ≡ rows ++ row ∷ [] → map (λ x. x.now) more ≡ first_changed old new (n + 1)
 rows_more old new rows more n before row test so_far one two tells holds grown =
-    let other : bytes_eq (row_at old n) (row_at new n) ≡ false = rw (← one, ← two) (is_other (bytes_eq before row.now) (sym tells ∙ holds)) in
+    let other : bytes_eq (row_at old n) (row_at new n)
+    ≡ false = rw (← one, ← two) (is_other (bytes_eq before row.now) (sym tells ∙ holds)) in
     rw (grown, map-append, two) (other_row old new (map (λ x. x.now) rows) n so_far other)
 
 -- three texts written one after another
-pub parts_written : (start seen more out : Option (List ℕ)) (a told b c : List ℕ) → Appends start seen a → told ≡ b → Appends seen more told → Appends more out c
+pub parts_written : (start seen more out : Option (List ℕ)) (a told b c : List ℕ) → Appends start seen a → told ≡ b
+    → Appends seen more told → Appends more out c
     → Appends start out ((a ++ b) ++ c)
 parts_written start seen more out a told b c one is two three =
-    Appends-trans start more out (a ++ b) c (Appends-trans start seen more a b one (subst (λ (t : List ℕ). Appends seen more t) is two)) three
+    Appends-trans start more out (a ++ b) c (Appends-trans start seen more a b one
+    (subst (λ (t : List ℕ). Appends seen more t) is two)) three
 
 -- the page of a film is that of what stands in it
-pub page_same : (reel inside : Reel) (frames : List ℕ) → inside ≡ reel → frames ≡ inside.frames → page_of frames inside.is_full ≡ page_text reel
+pub page_same : (reel inside : Reel) (frames : List ℕ) → inside ≡ reel → frames ≡ inside.frames
+    → page_of frames inside.is_full ≡ page_text reel
 page_same reel inside frames is same = rw (same, is) refl
 
 -- what stands round the frames is short
@@ -65,15 +76,19 @@ told_short : (is_full : Bool) → length (told_of is_full) ≤ 1000
 told_short true = leb-true (length (told_of true)) 1000 refl
 told_short false = leb-true (length (told_of false)) 1000 refl
 
-five_short : (a b c d e : List ℕ) → length a ≤ 20000 → length b ≤ 1000 → length c ≤ 1000 → length d ≤ 19000000 → length e ≤ 60000
+five_short : (a b c d e : List ℕ) → length a ≤ 20000 → length b ≤ 1000 → length c ≤ 1000 → length d ≤ 19000000
+    → length e ≤ 60000
     → length ((((a ++ b) ++ c) ++ d) ++ e) ≤ 20000000
-five_short a b c d e one two three four five = rw (length-append, length-append, length-append, length-append) (omega arith)
+five_short a b c d e one two three four five =
+    rw (length-append, length-append, length-append, length-append) (omega arith)
 
 -- so a page is bounded where its frames are
-pub page_bounded : (reel inside : Reel) → inside ≡ reel → length inside.frames ≤ 19000000 → length (page_text reel) ≤ 20000000
+pub page_bounded : (reel inside : Reel) → inside ≡ reel → length inside.frames ≤ 19000000
+    → length (page_text reel) ≤ 20000000
 page_bounded reel inside is le =
     let seen : length seen_text ≤ 20000 = leb-true (length seen_text) 20000 refl in
     let before : length FRAMES.now ≤ 1000 = leb-true (length FRAMES.now) 1000 refl in
     let after : length tail_text ≤ 60000 = leb-true (length tail_text) 60000 refl in
     let frames : length reel.frames ≤ 19000000 = rw (← is) le in
-    five_short seen_text (told_of reel.is_full) FRAMES.now reel.frames tail_text seen (told_short reel.is_full) before frames after
+    five_short seen_text (told_of reel.is_full) FRAMES.now reel.frames tail_text seen
+    (told_short reel.is_full) before frames after

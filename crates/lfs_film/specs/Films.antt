@@ -10,7 +10,8 @@ use Rattle.lfs_film.specs.declared.style.TheConstants.{STYLE}
 use Rattle.lfs_film.specs.declared.tree.TheConstants.{TREE}
 use Rattle.lfs_film.specs.declared.words.TheConstants.{WORDS}
 
--- What a film keeps: the rows and what waits as the last line left them, how many lines it was shown, the text of its frames,
+-- What a film keeps: the rows and what waits as the last line left them, how many lines it was shown, the text of its
+-- frames,
 -- and whether a frame found no room.
 pub record Reel : Type 0 where
   pub rows : List (List ℕ)
@@ -34,12 +35,20 @@ has_no_room reel frame = reel.is_full || nat_lt FRAMES_MAX (length reel.frames +
 -- one more frame, where it finds room
 abbrev pub with_frame_text : Reel → List ℕ → Reel
 with_frame_text reel frame =
-    record reel { frames = if has_no_room reel frame then reel.frames else reel.frames ++ frame; is_full = has_no_room reel frame }
+    record reel {
+      frames = if has_no_room reel frame then reel.frames
+          else reel.frames ++ frame;
+      is_full = has_no_room reel frame;
+    }
 
 -- one more line: what was told of it, and the rows and what waits as it left them
 abbrev pub with_line : Reel → List ℕ → List ℕ → List (List ℕ) → List ℕ → Reel
 with_line reel line told rows waiting =
-    record (with_frame_text reel (frame_of reel.lines line told waiting (changed_rows reel.rows rows))) { rows = rows; waiting = waiting; lines = reel.lines + 1 }
+    record (with_frame_text reel (frame_of reel.lines line told waiting (changed_rows reel.rows rows))) {
+      rows = rows;
+      waiting = waiting;
+      lines = reel.lines + 1;
+    }
 
 -- what is told where a frame found no room
 abbrev pub told_of : Bool → List ℕ

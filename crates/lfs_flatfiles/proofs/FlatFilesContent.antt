@@ -1,5 +1,7 @@
 -- The files at places, as a finite map.
-use Rattle.std.proofs.Common.{◌≡◌, ◌≢◌, ℕ, zero, suc, ◌+◌, ◌<◌, ◌≤◌, List, [], ◌∷◌, ◌++◌, length, set, get_or, Option, None, Some, option_map, is_some, IsSome, IsFalse, All, refl, sym, ap, ◌∙◌, inl, inr, arith}
+use Rattle.std.proofs.Common.{◌≡◌, ◌≢◌, ℕ, zero, suc, ◌+◌, ◌<◌, ◌≤◌, List, [], ◌∷◌, ◌++◌, length, set, get_or, Option}
+use Rattle.std.proofs.Common.{None, Some, option_map, is_some, IsSome, IsFalse, All, refl, sym, ap, ◌∙◌, inl, inr}
+use Rattle.std.proofs.Common.{arith}
 use Rattle.std.specs.Ordering.{nat_cmp}
 use Rattle.std.specs.Cmp.{nat_cmp_total}
 use Rattle.std.specs.FinMap as map
@@ -21,16 +23,19 @@ use Rattle.lfs_types.proofs.Contents.{get-content_with, get-content_with_apart}
 get_below : (ps : List Place) (first q : ℕ) → q < first → map.get (content_from first ps) q ≡ None
 get_below [] first q h = get-empty nat_cmp q
 get_below (p ∷ ps) first q h =
-    get-content_with_apart first q (file_at p) (content_from (first + 1) ps) (λ e. omega arith) ∙ get_below ps (first + 1) q (omega arith)
+    get-content_with_apart first q (file_at p) (content_from (first + 1) ps) (λ e. omega arith)
+    ∙ get_below ps (first + 1) q (omega arith)
 
 get_from : (ps : List Place) (first k : ℕ) → map.get (content_from first ps) (first + k) ≡ file_in ps k
 get_from [] first k = get-empty nat_cmp (first + k)
 get_from (p ∷ ps) first zero =
     let here : first + 0 ≡ first = omega arith in
-    rw here (get-content_with first (file_at p) (content_from (first + 1) ps) (get_below ps (first + 1) first (omega arith)))
+    rw here (get-content_with first (file_at p) (content_from (first + 1) ps)
+    (get_below ps (first + 1) first (omega arith)))
 get_from (p ∷ ps) first (suc k) =
     let next : first + suc k ≡ first + 1 + k = omega arith in
-    rw next (get-content_with_apart first (first + 1 + k) (file_at p) (content_from (first + 1) ps) (λ e. omega arith) ∙ get_from ps (first + 1) k)
+    rw next (get-content_with_apart first (first + 1 + k) (file_at p) (content_from (first + 1) ps) (λ e. omega arith)
+    ∙ get_from ps (first + 1) k)
 
 -- what the content has at a number is the file at its place
 pub get-content_of : (ps : List Place) (ino : ℕ) → map.get (content_of ps) ino ≡ file_in ps ino
@@ -70,19 +75,25 @@ file_in_past (p ∷ ps) zero h = absurd (omega arith)
 file_in_past (p ∷ ps) (suc k) h = file_in_past ps k (omega arith)
 
 -- a file at a place of the list is a file of the content
-pub content_of-set : (ps : List Place) (k : ℕ) (p : Place) (f : File) → k < length ps → file_at p ≡ Some f → content_of (set ps k p) ≡ map.insert (content_of ps) k f
+pub content_of-set : (ps : List Place) (k : ℕ) (p : Place) (f : File) → k < length ps → file_at p ≡ Some f
+    → content_of (set ps k p) ≡ map.insert (content_of ps) k f
 content_of-set ps k p f h is = same_map nat_cmp_total nat_cmp-IsAntisymmetric _ _ (λ q.
     elim (cases_eq q k) [
-      | inl e ↦ rw e (get-content_of (set ps k p) k ∙ file_in-set_same ps k p h ∙ is ∙ sym (get-insert_same (content_of ps) k f))
-      | inr apart ↦ get-content_of (set ps k p) q ∙ file_in-set_other ps k q p apart ∙ sym (get-content_of ps q) ∙ sym (get-insert_other (content_of ps) k f q apart)
+      | inl e ↦ rw e (get-content_of (set ps k p) k ∙ file_in-set_same ps k p h ∙ is
+          ∙ sym (get-insert_same (content_of ps) k f))
+      | inr apart ↦ get-content_of (set ps k p) q ∙ file_in-set_other ps k q p apart ∙ sym (get-content_of ps q)
+          ∙ sym (get-insert_other (content_of ps) k f q apart)
     ])
 
 -- a place with no file takes its file from the content
-pub content_of-gone : (ps : List Place) (k : ℕ) (p : Place) → k < length ps → file_at p ≡ None → content_of (set ps k p) ≡ map.remove (content_of ps) k
+pub content_of-gone : (ps : List Place) (k : ℕ) (p : Place) → k < length ps → file_at p ≡ None → content_of (set ps k p)
+    ≡ map.remove (content_of ps) k
 content_of-gone ps k p h is = same_map nat_cmp_total nat_cmp-IsAntisymmetric _ _ (λ q.
     elim (cases_eq q k) [
-      | inl e ↦ rw e (get-content_of (set ps k p) k ∙ file_in-set_same ps k p h ∙ is ∙ sym (get-remove_same (content_of ps) k))
-      | inr apart ↦ get-content_of (set ps k p) q ∙ file_in-set_other ps k q p apart ∙ sym (get-content_of ps q) ∙ sym (get-remove_other (content_of ps) k q apart)
+      | inl e ↦ rw e (get-content_of (set ps k p) k ∙ file_in-set_same ps k p h ∙ is
+          ∙ sym (get-remove_same (content_of ps) k))
+      | inr apart ↦ get-content_of (set ps k p) q ∙ file_in-set_other ps k q p apart ∙ sym (get-content_of ps q)
+          ∙ sym (get-remove_other (content_of ps) k q apart)
     ])
 
 -- ---- a place that was read, and another put there
@@ -90,7 +101,8 @@ pub file_in_read : (ps : List Place) (k : ℕ) (p : Place) → k < length ps →
 file_in_read ps k p h is = file_in-get_or ps k p h ∙ ap file_at (sym is)
 
 -- a place with the same file in its stead
-pub same_files : (ps : List Place) (k : ℕ) (p q : Place) → k < length ps → p ≡ get_or ps k p → file_at q ≡ file_at p → (j : ℕ) → file_in (set ps k q) j ≡ file_in ps j
+pub same_files : (ps : List Place) (k : ℕ) (p q : Place) → k < length ps → p ≡ get_or ps k p → file_at q ≡ file_at p
+    → (j : ℕ) → file_in (set ps k q) j ≡ file_in ps j
 same_files ps k p q h is same j =
     elim (cases_eq j k) [
       | inl e ↦ rw e (file_in-set_same ps k q h ∙ same ∙ sym (file_in_read ps k p h is))
@@ -102,24 +114,32 @@ some_mapped change None = refl
 some_mapped change (Some f) = refl
 
 -- the file at a place changed
-pub same_use : (change : File → File) (ps : List Place) (k : ℕ) (p q : Place) → k < length ps → p ≡ get_or ps k p → file_at q ≡ option_map change (file_at p) → (j : ℕ) → is_some (file_in (set ps k q) j) ≡ is_some (file_in ps j)
+pub same_use : (change : File → File) (ps : List Place) (k : ℕ) (p q : Place) → k < length ps → p ≡ get_or ps k p
+    → file_at q ≡ option_map change (file_at p) → (j : ℕ) → is_some (file_in (set ps k q) j) ≡ is_some (file_in ps j)
 same_use change ps k p q h is new j =
     elim (cases_eq j k) [
-      | inl e ↦ rw e (ap is_some (file_in-set_same ps k q h ∙ new) ∙ some_mapped change (file_at p) ∙ ap is_some (sym (file_in_read ps k p h is)))
+      | inl e ↦ rw e (ap is_some (file_in-set_same ps k q h ∙ new) ∙ some_mapped change (file_at p)
+          ∙ ap is_some (sym (file_in_read ps k p h is)))
       | inr apart ↦ ap is_some (file_in-set_other ps k j q apart)
     ]
 
-changed_by : (change : File → File) (ps : List Place) (k : ℕ) (q : Place) (o : Option File) → k < length ps → file_in ps k ≡ o → IsSome o → file_at q ≡ option_map change o → content_of (set ps k q) ≡ changed_at o k change (content_of ps)
+changed_by : (change : File → File) (ps : List Place) (k : ℕ) (q : Place) (o : Option File) → k < length ps
+    → file_in ps k ≡ o → IsSome o → file_at q ≡ option_map change o → content_of (set ps k q)
+    ≡ changed_at o k change (content_of ps)
 changed_by change ps k q None h is some new = absurd (cc)
 changed_by change ps k q (Some f) h is some new = content_of-set ps k q (change f) h new
 
 -- a place whose file is changed changes the content so
-pub content_of-changed : (change : File → File) (ps : List Place) (k : ℕ) (p q : Place) → k < length ps → p ≡ get_or ps k p → IsSome (file_in ps k) → file_at q ≡ option_map change (file_at p) → content_of (set ps k q) ≡ changed_at (map.get (content_of ps) k) k change (content_of ps)
+pub content_of-changed : (change : File → File) (ps : List Place) (k : ℕ) (p q : Place) → k < length ps → p
+    ≡ get_or ps k p → IsSome (file_in ps k) → file_at q ≡ option_map change (file_at p) → content_of (set ps k q)
+    ≡ changed_at (map.get (content_of ps) k) k change (content_of ps)
 content_of-changed change ps k p q h is some new =
-    rw (get-content_of ps k) (changed_by change ps k q (file_in ps k) h refl some (new ∙ ap (option_map change) (sym (file_in_read ps k p h is))))
+    rw (get-content_of ps k) (changed_by change ps k q (file_in ps k) h refl some (new
+    ∙ ap (option_map change) (sym (file_in_read ps k p h is))))
 
 -- ---- room
-pub room_in-set_same : (ps : List Place) (k : ℕ) (p : Place) → k < length ps → room_in (set ps k p) k ≡ vec_capacity p.bytes
+pub room_in-set_same : (ps : List Place) (k : ℕ) (p : Place) → k < length ps → room_in (set ps k p) k
+    ≡ vec_capacity p.bytes
 room_in-set_same [] k p h = absurd (omega arith)
 room_in-set_same (q ∷ ps) zero p h = refl
 room_in-set_same (q ∷ ps) (suc k) p h = room_in-set_same ps k p (omega arith)
@@ -132,17 +152,20 @@ room_in-set_other (x ∷ ps) zero (suc q) p apart = refl
 room_in-set_other (x ∷ ps) (suc k) zero p apart = refl
 room_in-set_other (x ∷ ps) (suc k) (suc q) p apart = room_in-set_other ps k q p (λ e. apart (ap suc e))
 
-room_in-get_or : (ps : List Place) (k : ℕ) (d : Place) → k < length ps → room_in ps k ≡ vec_capacity (get_or ps k d).bytes
+room_in-get_or : (ps : List Place) (k : ℕ) (d : Place) → k < length ps → room_in ps k
+    ≡ vec_capacity (get_or ps k d).bytes
 room_in-get_or [] k d h = absurd (omega arith)
 room_in-get_or (p ∷ ps) zero d h = refl
 room_in-get_or (p ∷ ps) (suc k) d h = room_in-get_or ps k d (omega arith)
 
 -- the room at a place of the list
-pub room_in_read : (ps : List Place) (k : ℕ) (p : Place) → k < length ps → p ≡ get_or ps k p → room_in ps k ≡ vec_capacity p.bytes
+pub room_in_read : (ps : List Place) (k : ℕ) (p : Place) → k < length ps → p ≡ get_or ps k p → room_in ps k
+    ≡ vec_capacity p.bytes
 room_in_read ps k p h is = room_in-get_or ps k p h ∙ ap (λ (x : Place). vec_capacity x.bytes) (sym is)
 
 -- a place with as much room in its stead
-pub grows_at : (ps : List Place) (k : ℕ) (p q : Place) → k < length ps → p ≡ get_or ps k p → vec_capacity p.bytes ≤ vec_capacity q.bytes → KeepsRoom ps (set ps k q)
+pub grows_at : (ps : List Place) (k : ℕ) (p q : Place) → k < length ps → p ≡ get_or ps k p
+    → vec_capacity p.bytes ≤ vec_capacity q.bytes → KeepsRoom ps (set ps k q)
 grows_at ps k p q h is more j =
     elim (cases_eq j k) [
       | inl e ↦ rw e (rw (room_in-set_same ps k q h, room_in_read ps k p h is) more)
@@ -158,10 +181,12 @@ room_kept old new (Put ino off bytes) grows room = omega (arith, grows ino, room
 room_kept old new (SetLength ino len) grows room = omega (arith, grows ino, room)
 
 -- and for each of some changes
-pub rooms_kept : (old new : List Place) (changes : List Change) → KeepsRoom old new → All (HasRoom old) changes → All (HasRoom new) changes
+pub rooms_kept : (old new : List Place) (changes : List Change) → KeepsRoom old new → All (HasRoom old) changes
+    → All (HasRoom new) changes
 rooms_kept old new changes grows rooms k d h = room_kept old new (get_or changes k d) grows (rooms k d h)
 
-bytes_of_used : (attrs : Option Attrs) (bytes : List ℕ) → IsSome (option_map (λ a. file_of a bytes) attrs) → bytes_of_file (option_map (λ a. file_of a bytes) attrs) ≡ bytes
+bytes_of_used : (attrs : Option Attrs) (bytes : List ℕ) → IsSome (option_map (λ a. file_of a bytes) attrs)
+    → bytes_of_file (option_map (λ a. file_of a bytes) attrs) ≡ bytes
 bytes_of_used None bytes used = absurd (cc)
 bytes_of_used (Some a) bytes used = refl
 
@@ -170,7 +195,8 @@ pub bytes_of_place : (p : Place) → IsSome (file_at p) → bytes_of_file (file_
 bytes_of_place p used = bytes_of_used p.attrs p.bytes.items used
 
 -- ---- a file at a free place
-pub used_still : (ps : List Place) (ino : ℕ) (p : Place) (f : File) (k : ℕ) → ino < length ps → file_at p ≡ Some f → (k ≢ ino → IsSome (file_in ps k)) → IsSome (file_in (set ps ino p) k)
+pub used_still : (ps : List Place) (ino : ℕ) (p : Place) (f : File) (k : ℕ) → ino < length ps → file_at p ≡ Some f
+    → (k ≢ ino → IsSome (file_in ps k)) → IsSome (file_in (set ps ino p) k)
 used_still ps ino p f k h is others =
     elim (cases_eq k ino) [
       | inl e ↦ rw e (ap is_some (file_in-set_same ps ino p h ∙ is))
@@ -178,7 +204,10 @@ used_still ps ino p f k h is others =
     ]
 
 -- where a place and all before it are used, those below the next are
-pub used_further : (ps : List Place) (ino : ℕ) (p : Place) (f : File) (next : ℕ) → ino < length ps → file_at p ≡ Some f → ((k : ℕ) → 4 ≤ k → k < ino → IsSome (file_in ps k)) → ((k : ℕ) → ino + 1 ≤ k → k < next → IsSome (file_in (set ps ino p) k)) → (k : ℕ) → 4 ≤ k → k < next → IsSome (file_in (set ps ino p) k)
+pub used_further : (ps : List Place) (ino : ℕ) (p : Place) (f : File) (next : ℕ) → ino < length ps → file_at p ≡ Some f
+    → ((k : ℕ) → 4 ≤ k → k < ino → IsSome (file_in ps k))
+    → ((k : ℕ) → ino + 1 ≤ k → k < next → IsSome (file_in (set ps ino p) k)) → (k : ℕ) → 4 ≤ k → k < next
+    → IsSome (file_in (set ps ino p) k)
 used_further ps ino p f next h is before after k low high =
     elim (cases_lt ino k) [
       | inl lt ↦ after k (omega arith) high
@@ -186,11 +215,13 @@ used_further ps ino p f next h is before after k low high =
     ]
 
 -- ---- a place whose file was taken away
-pub used_besides : (ps : List Place) (ino : ℕ) (p : Place) (k : ℕ) → k ≢ ino → IsSome (file_in ps k) → IsSome (file_in (set ps ino p) k)
+pub used_besides : (ps : List Place) (ino : ℕ) (p : Place) (k : ℕ) → k ≢ ino → IsSome (file_in ps k)
+    → IsSome (file_in (set ps ino p) k)
 used_besides ps ino p k apart h = ap is_some (file_in-set_other ps ino k p apart) ∙ h
 
 -- a place without a file leaves the free ones free
-pub free_still : (ps : List Place) (ino : ℕ) (p : Place) (k : ℕ) → ino < length ps → file_at p ≡ None → (k ≢ ino → IsFalse (is_some (file_in ps k))) → IsFalse (is_some (file_in (set ps ino p) k))
+pub free_still : (ps : List Place) (ino : ℕ) (p : Place) (k : ℕ) → ino < length ps → file_at p ≡ None
+    → (k ≢ ino → IsFalse (is_some (file_in ps k))) → IsFalse (is_some (file_in (set ps ino p) k))
 free_still ps ino p k h is others =
     elim (cases_eq k ino) [
       | inl e ↦ rw e (ap is_some (file_in-set_same ps ino p h ∙ is))
@@ -198,7 +229,8 @@ free_still ps ino p k h is others =
     ]
 
 -- ---- places with no file
-pub none_pushed : (ps : List Place) (p : Place) → file_at p ≡ None → ((k : ℕ) → file_in ps k ≡ None) → (k : ℕ) → file_in (ps ++ p ∷ []) k ≡ None
+pub none_pushed : (ps : List Place) (p : Place) → file_at p ≡ None → ((k : ℕ) → file_in ps k ≡ None) → (k : ℕ)
+    → file_in (ps ++ p ∷ []) k ≡ None
 none_pushed [] p is none zero = is
 none_pushed [] p is none (suc k) = refl
 none_pushed (q ∷ ps) p is none zero = none 0

@@ -1,5 +1,6 @@
 -- Changes that may be asked for name places, and end within the limit of a file.
-use Rattle.std.proofs.Common.{◌≡◌, ℕ, zero, suc, ◌<◌, ◌≤◌, List, [], ◌∷◌, length, Option, None, Some, is_some, IsSome, IsSomeAnd, All, refl, sym, ap, ◌∙◌, inl, inr, arith}
+use Rattle.std.proofs.Common.{◌≡◌, ℕ, zero, suc, ◌<◌, ◌≤◌, List, [], ◌∷◌, length, Option, None, Some, is_some, IsSome}
+use Rattle.std.proofs.Common.{IsSomeAnd, All, refl, sym, ap, ◌∙◌, inl, inr, arith}
 use Rattle.std.specs.FinMap as map
 use Rattle.std.specs.FinMap.{get-empty}
 use Rattle.std.specs.Ordering.{nat_cmp}
@@ -32,24 +33,28 @@ pub content_below : (ps : List Place) → IsBelow (length ps) (content_of ps)
 content_below ps ino some =
     elim (cases_lt ino (length ps)) [ inl below ↦ below | inr past ↦ some_past ps ino past some ]
 
-end_within : (old : List ℕ) (off : ℕ) (bytes : List ℕ) → length (splice old off bytes) ≤ FILE_BYTES → end_of off bytes ≤ FILE_BYTES
+end_within : (old : List ℕ) (off : ℕ) (bytes : List ℕ) → length (splice old off bytes) ≤ FILE_BYTES
+    → end_of off bytes ≤ FILE_BYTES
 end_within old off [] h = omega arith
 end_within old off (b ∷ bs) h =
     let all = simp (length-append, length-take, length-replicate) at h in
     omega arith
 
-pub end_of_file : (o : Option File) (off : ℕ) (bytes : List ℕ) → IsSomeAnd o (λ f. IsLength f.kind (length (splice f.bytes off bytes))) → end_of off bytes ≤ FILE_BYTES
+pub end_of_file : (o : Option File) (off : ℕ) (bytes : List ℕ)
+    → IsSomeAnd o (λ f. IsLength f.kind (length (splice f.bytes off bytes))) → end_of off bytes ≤ FILE_BYTES
 end_of_file None off bytes h = absurd h
 end_of_file (Some f) off bytes h = end_within f.bytes off bytes (length_limit f.kind _ h)
 
-in_reach : (numbers : ℕ) (change : Change) (c : Content) → IsBelow numbers c → CanChange numbers change c → IsInReach numbers change
+in_reach : (numbers : ℕ) (change : Change) (c : Content) → IsBelow numbers c → CanChange numbers change c
+    → IsInReach numbers change
 in_reach numbers (Make ino attrs) c below can = can.1
 in_reach numbers (Remove ino) c below can = below ino can
 in_reach numbers (SetAttrs ino attrs) c below can = below ino (some_from _ _ can)
 in_reach numbers (Put ino off bytes) c below can = (below ino (some_from _ _ can), end_of_file _ off bytes.now can)
 in_reach numbers (SetLength ino len) c below can = (below ino (some_from _ _ can), length_of_file _ len can)
 
-below_inserted : (numbers : ℕ) (c : Content) (k : ℕ) (f : File) → IsBelow numbers c → k < numbers → IsBelow numbers (map.insert c k f)
+below_inserted : (numbers : ℕ) (c : Content) (k : ℕ) (f : File) → IsBelow numbers c → k < numbers
+    → IsBelow numbers (map.insert c k f)
 below_inserted numbers c k f below h ino some =
     elim (cases_eq ino k) [
       | inl e ↦ omega arith
@@ -63,11 +68,13 @@ below_removed numbers c k below ino some =
       | inr apart ↦ below ino (ap is_some (sym (get-remove_other c k ino apart)) ∙ some)
     ]
 
-below_changed_at : (numbers : ℕ) (c : Content) (k : ℕ) (o : Option File) (change : File → File) → IsBelow numbers c → (IsSome o → k < numbers) → IsBelow numbers (changed_at o k change c)
+below_changed_at : (numbers : ℕ) (c : Content) (k : ℕ) (o : Option File) (change : File → File) → IsBelow numbers c
+    → (IsSome o → k < numbers) → IsBelow numbers (changed_at o k change c)
 below_changed_at numbers c k None change below h = below
 below_changed_at numbers c k (Some f) change below h = below_inserted numbers c k (change f) below (h refl)
 
-below_changed : (numbers : ℕ) (change : Change) (c : Content) → IsBelow numbers c → CanChange numbers change c → IsBelow numbers (changed change c)
+below_changed : (numbers : ℕ) (change : Change) (c : Content) → IsBelow numbers c → CanChange numbers change c
+    → IsBelow numbers (changed change c)
 below_changed numbers (Make ino attrs) c below can = below_inserted numbers c ino _ below can.1
 below_changed numbers (Remove ino) c below can = below_removed numbers c ino below
 below_changed numbers (SetAttrs ino attrs) c below can = below_changed_at numbers c ino _ _ below (below ino)
@@ -75,18 +82,21 @@ below_changed numbers (Put ino off bytes) c below can = below_changed_at numbers
 below_changed numbers (SetLength ino len) c below can = below_changed_at numbers c ino _ _ below (below ino)
 
 -- changes that may be made are of numbers in reach
-pub all_in_reach : (numbers : ℕ) (changes : List Change) (c : Content) → IsBelow numbers c → CanChangeAll numbers changes c → All (IsInReach numbers) changes
+pub all_in_reach : (numbers : ℕ) (changes : List Change) (c : Content) → IsBelow numbers c
+    → CanChangeAll numbers changes c → All (IsInReach numbers) changes
 all_in_reach numbers [] c below can k d h = absurd (omega arith)
 all_in_reach numbers (change ∷ changes) c below can zero d h = in_reach numbers change c below can.0
 all_in_reach numbers (change ∷ changes) c below can (suc k) d h =
     all_in_reach numbers changes (changed change c) (below_changed numbers change c below can.0) can.1 k d (omega arith)
 
 -- ---- a number that a change names has a file
-pub file_used : (ps : List Place) (ino : ℕ) (P : File → Type 0) → IsSomeAnd (map.get (content_of ps) ino) P → IsSome (file_in ps ino)
+pub file_used : (ps : List Place) (ino : ℕ) (P : File → Type 0) → IsSomeAnd (map.get (content_of ps) ino) P
+    → IsSome (file_in ps ino)
 file_used ps ino P can = ap is_some (sym (get-content_of ps ino)) ∙ some_from _ P can
 
 -- a number with a file is a place of the list
-pub used_within : (ps : List Place) (ino : ℕ) (P : File → Type 0) → IsSomeAnd (map.get (content_of ps) ino) P → ino < length ps
+pub used_within : (ps : List Place) (ino : ℕ) (P : File → Type 0) → IsSomeAnd (map.get (content_of ps) ino) P
+    → ino < length ps
 used_within ps ino P can = content_below ps ino (some_from _ P can)
 
 -- a fresh volume has no file but the root

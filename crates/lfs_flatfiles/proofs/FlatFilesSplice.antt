@@ -1,5 +1,6 @@
 -- Bytes that are filled up with zeros and then written over are spliced.
-use Rattle.std.proofs.Common.{◌≡◌, ℕ, zero, suc, ◌+◌, ◌-◌, ◌<◌, ◌≤◌, List, [], ◌∷◌, ◌++◌, length, take, drop, replicate, refl, sym, ap, ◌∙◌, arith}
+use Rattle.std.proofs.Common.{◌≡◌, ℕ, zero, suc, ◌+◌, ◌-◌, ◌<◌, ◌≤◌, List, [], ◌∷◌, ◌++◌, length, take, drop, replicate}
+use Rattle.std.proofs.Common.{refl, sym, ap, ◌∙◌, arith}
 use Rattle.std.proofs.lemmas.List.{append-nil, take-replicate, drop-replicate}
 use Rattle.lfs_types.specs.Splicing.{splice}
 
@@ -14,7 +15,8 @@ drop_nil (suc n) = refl
 none_left : (n : ℕ) → n ≡ 0 → replicate n (let z : ℕ = 0 in z) ≡ []
 none_left n h = rw h refl
 
-take_filled : (old : List ℕ) (off n : ℕ) → off ≤ length old + n → take off (old ++ replicate n 0) ≡ take off old ++ replicate (off - length old) 0
+take_filled : (old : List ℕ) (off n : ℕ) → off ≤ length old + n → take off (old ++ replicate n 0) ≡ take off old
+    ++ replicate (off - length old) 0
 take_filled [] off n h =
     let whole : off ≡ off - 0 = omega arith in
     rw (take_nil off) (take-replicate off n 0 (omega arith) ∙ ap (λ k. replicate k 0) whole)
@@ -29,7 +31,12 @@ drop_filled (x ∷ xs) zero n h = rw (none_left n (omega arith)) (append-nil (x 
 drop_filled (x ∷ xs) (suc end) n h = drop_filled xs end n (omega arith)
 
 -- bytes put into a file that was filled up to their end with zeros are spliced into it
-pub splice_filled : (old : List ℕ) (off : ℕ) (bytes : List ℕ) → 0 < length bytes → take off (old ++ replicate (off + length bytes - length old) 0) ++ bytes ++ drop (off + length bytes) (old ++ replicate (off + length bytes - length old) 0) ≡ splice old off bytes
+pub splice_filled : (old : List ℕ) (off : ℕ) (bytes : List ℕ) → 0 < length bytes
+    → take off (old ++ replicate (off + length bytes - length old) 0) ++ bytes
+    ++ drop (off + length bytes) (old ++ replicate (off + length bytes - length old) 0) ≡ splice old off bytes
 splice_filled old off [] h = absurd (omega arith)
 splice_filled old off (b ∷ bs) h =
-    rw (take_filled old off (off + length (b ∷ bs) - length old) (omega arith), drop_filled old (off + length (b ∷ bs)) (off + length (b ∷ bs) - length old) refl) refl
+    rw (
+      take_filled old off (off + length (b ∷ bs) - length old) (omega arith),
+      drop_filled old (off + length (b ∷ bs)) (off + length (b ∷ bs) - length old) refl,
+    ) refl

@@ -1,5 +1,6 @@
 -- The plain store: a list of places, one for each inode number, seen as a finite map.
-use Rattle.std.specs.Prelude.{ℕ, true, zero, suc, ◌+◌, ◌<◌, ◌≤◌, List, [], ◌∷◌, length, Option, None, IsSome, option_map}
+use Rattle.std.specs.Prelude.{ℕ, true, zero, suc, ◌+◌, ◌<◌, ◌≤◌, List, [], ◌∷◌, length, Option, None, IsSome}
+use Rattle.std.specs.Prelude.{option_map}
 use Rattle.std.specs.FinMap as map
 use Rattle.lfs_types.specs.Tree.{File, Content, content_with, file_of, opening_content}
 use Rattle.lfs_types.specs.StoreStates.{Shape, StoreState}

@@ -5,7 +5,9 @@ use Rattle.lfs_types.specs.Ranges.{least_frames}
 use Rattle.lfs_log.specs.Parts.{LogParts}
 use Rattle.lfs_staging.specs.Store.{IsStore}
 use Rattle.lfs_fsck.specs.declared.fault.LogFault.{LogFault}
-use Rattle.lfs_fsck.specs.declared.fault.LogFault.TheVariants.{Unfinished, NotZeros, Reserved, NoRecord, OtherRecord, Outside, Misnamed, InClean, Unwritten, PastSize, Tail, Live, Crowded, Memory}
+use Rattle.lfs_fsck.specs.declared.fault.LogFault.TheVariants.{Unfinished, NotZeros, Reserved, NoRecord, OtherRecord}
+use Rattle.lfs_fsck.specs.declared.fault.LogFault.TheVariants.{Outside, Misnamed, InClean, Unwritten, PastSize, Tail}
+use Rattle.lfs_fsck.specs.declared.fault.LogFault.TheVariants.{Live, Crowded, Memory}
 use Rattle.lfs_fsck.specs.Faults.{IsLogFaultOf}
 use Rattle.lfs_fsck.specs.Stored.{settled, stored}
 use Rattle.lfs_fsck.proofs.StoreLemmas.{other_frames}
@@ -15,16 +17,21 @@ not_settled l (Unfinished segment) h other s = h.1 s.ready.pending
 not_settled l (NotZeros address) h other s = h.2 (s.ready.zeros address h.0 h.1)
 not_settled l (Reserved number) h other s = false≢true (sym (s.whole.reserved number h.1 h.2) ∙ h.0)
 not_settled l (NoRecord number) h other s = false≢true (sym (ap is_some h.1) ∙ s.whole.recorded number h.0)
-not_settled l (OtherRecord number) h other s = let file = s.whole.files number h.fields h.is in h.other file.own_number file.own_version
-not_settled l (Outside number code) h other s = let key = s.log.keys number code h.0 in absurd (omega (arith, key.in_volume, h.1))
+not_settled l (OtherRecord number) h other s = let file = s.whole.files number h.fields h.is in
+    h.other file.own_number file.own_version
+not_settled l (Outside number code) h other s = let key = s.log.keys number code h.0 in
+    absurd (omega (arith, key.in_volume, h.1))
 not_settled l (Misnamed number code) h other s = h.1 (s.log.keys number code h.0).owned
 not_settled l (InClean number code) h other s = (s.log.keys number code h.0).not_clean h.1
-not_settled l (Unwritten number code) h other s = let below = (s.log.keys number code h.0).written h.1 in absurd (omega (arith, below, h.2))
-not_settled l (PastSize number code) h other s = h.somewhere ((s.whole.files number h.fields h.is).none_past h.block h.can h.past)
+not_settled l (Unwritten number code) h other s = let below = (s.log.keys number code h.0).written h.1 in
+    absurd (omega (arith, below, h.2))
+not_settled l (PastSize number code) h other s =
+    h.somewhere ((s.whole.files number h.fields h.is).none_past h.block h.can h.past)
 not_settled l (Tail number) h other s = h.not_padded (s.whole.files number h.fields h.is).padded
 not_settled l (Live segment) h other s = h.1 (s.log.counted segment h.0)
 not_settled l (Crowded segment) h other s = let room = s.log.spared in absurd (omega (arith, room, h.1))
 not_settled l Memory h other s = other refl
 
-pub not_stored : (l : LogParts) (fault : LogFault) → IsLogFaultOf l fault → (fault ≡ Memory → ⊥) → (frames : ℕ) → IsStore (stored frames l) → ⊥
+pub not_stored : (l : LogParts) (fault : LogFault) → IsLogFaultOf l fault → (fault ≡ Memory → ⊥) → (frames : ℕ)
+    → IsStore (stored frames l) → ⊥
 not_stored l fault h other frames s = not_settled l fault h other (other_frames l frames least_frames s)

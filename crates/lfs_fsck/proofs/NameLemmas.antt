@@ -1,5 +1,6 @@
 -- What the log names at the place of a key, by the entry of its address.
-use Rattle.std.proofs.Common.{◌≡◌, ◌≢◌, ℕ, ◌+◌, ◌*◌, ◌/◌, ◌<◌, Option, None, Some, refl, sym, ap, ◌∙◌, subst, inl, inr, arith}
+use Rattle.std.proofs.Common.{◌≡◌, ◌≢◌, ℕ, ◌+◌, ◌*◌, ◌/◌, ◌<◌, Option, None, Some, refl, sym, ap, ◌∙◌, subst, inl, inr}
+use Rattle.std.proofs.Common.{arith}
 use Rattle.lfs_segments.specs.declared.entry.LogicalBlock.{LogicalBlock}
 use Rattle.lfs_segments.specs.declared.entry.LogicalBlock.TheVariants.{Data, Single, Double, Child, Inodes}
 use Rattle.lfs_segments.specs.declared.entry.SummaryEntry.{SummaryEntry}
@@ -14,8 +15,10 @@ use Rattle.lfs_log.proofs.NameLemmas.{named_at-entry, named_at-record}
 use Rattle.lfs_fsck.specs.Names.{IsNameOf, IsOfRecords, NamesCode}
 
 -- an entry that isn't of records names the first unit of its block
-owner_in-first : (block : LogicalBlock) (number version : ℕ) (found : Option (ℕ × ℕ)) → code_of (file_block_of block) ≢ 0
-    → owner_in block number version 0 found ≡ Some (record { number = number; version = version; code = code_of (file_block_of block) })
+owner_in-first : (block : LogicalBlock) (number version : ℕ) (found : Option (ℕ × ℕ))
+    → code_of (file_block_of block) ≢ 0
+    → owner_in block number version 0 found ≡ Some
+    (record { number = number; version = version; code = code_of (file_block_of block) })
 unfolding owner_in
 owner_in-first (Data index) number version found some = refl
 owner_in-first Single number version found some = refl
@@ -27,7 +30,8 @@ abbrev pub owner : ℕ → ℕ → ℕ → Owner
 owner number version code = record { number = number; version = version; code = code }
 
 -- an entry for an address
-name_some : (m : SegmentMemory) (a number version code : ℕ) (e : SummaryEntry) → entry_at m a ≡ Some e → code ≢ 0 → NamesCode e number version code
+name_some : (m : SegmentMemory) (a number version code : ℕ) (e : SummaryEntry) → entry_at m a ≡ Some e → code ≢ 0
+    → NamesCode e number version code
     → named_at m (4 * a) ≡ Some (owner number version code)
 name_some m a number version code e is some h =
     let first : 4 * a ≡ 4 * a + 0 = omega arith in
@@ -38,13 +42,15 @@ name_some m a number version code e is some h =
     ∙ ap (λ v. Some (owner number v (code_of (file_block_of e.block)))) h.version_is
     ∙ ap (λ c. Some (owner number version c)) h.code_is
 
-pub name_block : (m : SegmentMemory) (a number version code : ℕ) (name : Option SummaryEntry) → name ≡ entry_at m a → code ≢ 0 → IsNameOf name number version code
+pub name_block : (m : SegmentMemory) (a number version code : ℕ) (name : Option SummaryEntry) → name ≡ entry_at m a
+    → code ≢ 0 → IsNameOf name number version code
     → named_at m (4 * a) ≡ Some (owner number version code)
 name_block m a number version code None is some h = absurd h
 name_block m a number version code (Some e) is some h = name_some m a number version code e (sym is) some h
 
 -- and what it names
-named_some : (m : SegmentMemory) (a number version code : ℕ) → code ≢ 0 → named_at m (4 * a) ≡ Some (owner number version code) → IsNameOf (entry_at m a) number version code
+named_some : (m : SegmentMemory) (a number version code : ℕ) → code ≢ 0 → named_at m (4 * a)
+    ≡ Some (owner number version code) → IsNameOf (entry_at m a) number version code
 unfolding named_at
 named_some m a number version code some h =
     let found = owner_at-named (entry_at m) (record_at m) (4 * a) (owner number version code) h in
@@ -56,15 +62,19 @@ named_some m a number version code some h =
       | inr of_record ↦ absurd (some of_record.code)
     ])
 
-pub named_block : (m : SegmentMemory) (a number version code : ℕ) (name : Option SummaryEntry) → name ≡ entry_at m a → code ≢ 0
+pub named_block : (m : SegmentMemory) (a number version code : ℕ) (name : Option SummaryEntry) → name ≡ entry_at m a
+    → code ≢ 0
     → named_at m (4 * a) ≡ Some (owner number version code) → IsNameOf name number version code
-named_block m a number version code name is some h = subst (λ n. IsNameOf n number version code) (sym is) (named_some m a number version code some h)
+named_block m a number version code name is some h =
+    subst (λ n. IsNameOf n number version code) (sym is) (named_some m a number version code some h)
 
 -- a block of records
-pub name_record : (m : SegmentMemory) (a slot number version : ℕ) (name : Option SummaryEntry) → name ≡ entry_at m a → slot < 4 → IsOfRecords name
+pub name_record : (m : SegmentMemory) (a slot number version : ℕ) (name : Option SummaryEntry) → name ≡ entry_at m a
+    → slot < 4 → IsOfRecords name
     → record_in (block_at m a) slot ≡ Some (number, version) → named_at m (4 * a + slot) ≡ Some (owner number version 0)
 name_record m a slot number version None is low h found = absurd h
-name_record m a slot number version (Some e) is low h found = named_at-record m a slot number version e low (sym is) h found
+name_record m a slot number version (Some e) is low h found =
+    named_at-record m a slot number version e low (sym is) h found
 
 records_only : (block : LogicalBlock) → code_of (file_block_of block) ≡ 0 → block ≡ Inodes
 records_only (Data index) h = absurd (omega arith)
@@ -73,7 +83,8 @@ records_only Double h = absurd (omega arith)
 records_only (Child index) h = absurd (omega arith)
 records_only Inodes h = refl
 
-named_records : (m : SegmentMemory) (a slot number version : ℕ) → slot < 4 → named_at m (4 * a + slot) ≡ Some (owner number version 0) → IsOfRecords (entry_at m a)
+named_records : (m : SegmentMemory) (a slot number version : ℕ) → slot < 4 → named_at m (4 * a + slot)
+    ≡ Some (owner number version 0) → IsOfRecords (entry_at m a)
 unfolding named_at
 named_records m a slot number version low h =
     let found = owner_at-named (entry_at m) (record_at m) (4 * a + slot) (owner number version 0) h in
@@ -85,6 +96,8 @@ named_records m a slot number version low h =
       | inr of_record ↦ of_record.inodes
     ])
 
-pub named_record : (m : SegmentMemory) (a slot number version : ℕ) (name : Option SummaryEntry) → name ≡ entry_at m a → slot < 4
+pub named_record : (m : SegmentMemory) (a slot number version : ℕ) (name : Option SummaryEntry) → name ≡ entry_at m a
+    → slot < 4
     → named_at m (4 * a + slot) ≡ Some (owner number version 0) → IsOfRecords name
-named_record m a slot number version name is low h = subst IsOfRecords (sym is) (named_records m a slot number version low h)
+named_record m a slot number version name is low h =
+    subst IsOfRecords (sym is) (named_records m a slot number version low h)

@@ -1,5 +1,7 @@
 -- A segment's log, read block by block.
-use Rattle.std.proofs.Common.{◌≡◌, ℕ, zero, suc, ◌+◌, ◌-◌, ◌*◌, ◌/◌, ◌<◌, ◌≤◌, Bool, true, false, List, [], ◌∷◌, ◌++◌, Option, Some, None, if◌then◌else◌, length, get_or, take, drop, refl, sym, ap, ◌∙◌, inl, inr, arith}
+use Rattle.std.proofs.Common.{◌≡◌, ℕ, zero, suc, ◌+◌, ◌-◌, ◌*◌, ◌/◌, ◌<◌, ◌≤◌, Bool, true, false, List, [], ◌∷◌, ◌++◌}
+use Rattle.std.proofs.Common.{Option, Some, None, if◌then◌else◌, length, get_or, take, drop, refl, sym, ap, ◌∙◌, inl}
+use Rattle.std.proofs.Common.{inr, arith}
 use Rattle.std.specs.Prelude.{option_and_then}
 use Rattle.std.proofs.lemmas.Bool.{cases_eq}
 use Rattle.std.proofs.lemmas.List.{get_or_append_left, get_or-append-add, length-append}
@@ -18,11 +20,13 @@ abbrev pub held : List SummaryEntry → ℕ → ℕ → Bool → Option (List Su
 held entries next count ended = if ended then None else Some (drop next (take count entries))
 
 -- it goes on, or has ended
-going : (entries : List SummaryEntry) (next count : ℕ) (ended : Bool) → ended ≡ false → held entries next count ended ≡ Some (drop next (take count entries))
+going : (entries : List SummaryEntry) (next count : ℕ) (ended : Bool) → ended ≡ false → held entries next count ended
+    ≡ Some (drop next (take count entries))
 going entries next count true off = absurd (let bad : true ≡ false = off in cc)
 going entries next count false off = refl
 
-pub is_over : (entries : List SummaryEntry) (next count : ℕ) (ended : Bool) (now : Option (List SummaryEntry)) → held entries next count ended ≡ now → ended ≡ true → None ≡ now
+pub is_over : (entries : List SummaryEntry) (next count : ℕ) (ended : Bool) (now : Option (List SummaryEntry))
+    → held entries next count ended ≡ now → ended ≡ true → None ≡ now
 is_over entries next count true now is on = is
 is_over entries next count false now is on = absurd (let bad : false ≡ true = on in cc)
 
@@ -31,42 +35,54 @@ pub named_next : (entries : List SummaryEntry) (next count : ℕ) (ended : Bool)
     → held entries next count ended ≡ now → ended ≡ false → next < count → count ≤ length entries
     → Some (get_or entries next unused ∷ drop (next + 1) (take count entries)) ≡ now
 named_next entries next count ended now is off below fits =
-    ap (λ (es : List SummaryEntry). Some es) (sym (expected_more entries next count below fits)) ∙ sym (going entries next count ended off) ∙ is
+    ap (λ (es : List SummaryEntry). Some es) (sym (expected_more entries next count below fits))
+    ∙ sym (going entries next count ended off) ∙ is
 
-pub passed_named : (entries : List SummaryEntry) (next count : ℕ) (ended : Bool) (block : List ℕ) (now : Option (List SummaryEntry))
+pub passed_named : (entries : List SummaryEntry) (next count : ℕ) (ended : Bool) (block : List ℕ)
+    (now : Option (List SummaryEntry))
     → held entries next count ended ≡ now → ended ≡ false → next < count → count ≤ length entries
     → held entries (next + 1) count ended ≡ option_and_then (λ es. after_block es block) now
 passed_named entries next count ended block now is off below fits =
     going entries (next + 1) count ended off
-    ∙ ap (λ (o : Option (List SummaryEntry)). option_and_then (λ es. after_block es block) o) (named_next entries next count ended now is off below fits)
+    ∙ ap (λ (o : Option (List SummaryEntry)). option_and_then (λ es. after_block es block) o)
+    (named_next entries next count ended now is off below fits)
 
-pub first_named : (entries : List SummaryEntry) (next count : ℕ) (ended : Bool) (now : Option (List SummaryEntry)) (entry : SummaryEntry)
-    → held entries next count ended ≡ now → ended ≡ false → next < count → count ≤ length entries → entry ≡ get_or entries next unused
+pub first_named : (entries : List SummaryEntry) (next count : ℕ) (ended : Bool) (now : Option (List SummaryEntry))
+    (entry : SummaryEntry)
+    → held entries next count ended ≡ now → ended ≡ false → next < count → count ≤ length entries → entry
+    ≡ get_or entries next unused
     → Some entry ≡ first_name now
 first_named entries next count ended now entry is off below fits here =
-    ap (λ (e : SummaryEntry). Some e) here ∙ ap (λ (o : Option (List SummaryEntry)). first_name o) (named_next entries next count ended now is off below fits)
+    ap (λ (e : SummaryEntry). Some e) here ∙ ap (λ (o : Option (List SummaryEntry)). first_name o)
+    (named_next entries next count ended now is off below fits)
 
 -- behind the last one a summary is read
-pub nothing : (entries : List SummaryEntry) (next count : ℕ) (ended : Bool) (now : Option (List SummaryEntry)) → held entries next count ended ≡ now → ended ≡ false → count ≤ next
+pub nothing : (entries : List SummaryEntry) (next count : ℕ) (ended : Bool) (now : Option (List SummaryEntry))
+    → held entries next count ended ≡ now → ended ≡ false → count ≤ next
     → Some [] ≡ now
 nothing entries next count ended now is off past =
-    ap (λ (es : List SummaryEntry). Some es) (sym (expected_none entries next count past)) ∙ sym (going entries next count ended off) ∙ is
+    ap (λ (es : List SummaryEntry). Some es) (sym (expected_none entries next count past))
+    ∙ sym (going entries next count ended off) ∙ is
 
-pub something : (entries : List SummaryEntry) (next count : ℕ) (ended : Bool) (now : Option (List SummaryEntry)) → held entries next count ended ≡ now → ended ≡ false
+pub something : (entries : List SummaryEntry) (next count : ℕ) (ended : Bool) (now : Option (List SummaryEntry))
+    → held entries next count ended ≡ now → ended ≡ false
     → next < count → count ≤ length entries → now ≡ Some [] → ⊥
 something entries next count ended now is off below fits none =
     let e = named_next entries next count ended now is off below fits ∙ none in cc
 
-pub passed_summary : (entries : List SummaryEntry) (next count : ℕ) (ended : Bool) (block : List ℕ) (now : Option (List SummaryEntry)) (s : Summary)
+pub passed_summary : (entries : List SummaryEntry) (next count : ℕ) (ended : Bool) (block : List ℕ)
+    (now : Option (List SummaryEntry)) (s : Summary)
     → held entries next count ended ≡ now → ended ≡ false → count ≤ next → Some (named_by s) ≡ summary_entries block
     → held s.entries 0 s.count ended ≡ option_and_then (λ es. after_block es block) now
 passed_summary entries next count ended block now s is off past read =
     going s.entries 0 s.count ended off ∙ read
-    ∙ ap (λ (o : Option (List SummaryEntry)). option_and_then (λ es. after_block es block) o) (nothing entries next count ended now is off past)
+    ∙ ap (λ (o : Option (List SummaryEntry)). option_and_then (λ es. after_block es block) o)
+    (nothing entries next count ended now is off past)
 
 pub passed_end : (block : List ℕ) (now : Option (List SummaryEntry)) → Some [] ≡ now → None ≡ summary_entries block
     → None ≡ option_and_then (λ es. after_block es block) now
-passed_end block now is none = none ∙ ap (λ (o : Option (List SummaryEntry)). option_and_then (λ es. after_block es block) o) is
+passed_end block now is none = none ∙ ap
+    (λ (o : Option (List SummaryEntry)). option_and_then (λ es. after_block es block) o) is
 
 -- at a summary, and behind the end, nothing is named
 pub first_none : (now : Option (List SummaryEntry)) → Some [] ≡ now → None ≡ first_name now
@@ -76,8 +92,10 @@ pub first_over : (now : Option (List SummaryEntry)) → None ≡ now → None �
 first_over now is = ap (λ (o : Option (List SummaryEntry)). first_name o) is
 
 -- the reader of a segment expects what the log expects at the next address
-pub read_on : (m : SegmentMemory) (segment address : ℕ) (old new : Option (List SummaryEntry)) (block : List ℕ) → first_of segment ≤ address
-    → old ≡ expected (log_block m segment) (address - first_of segment) → block ≡ block_at m address → new ≡ option_and_then (λ es. after_block es block) old
+pub read_on : (m : SegmentMemory) (segment address : ℕ) (old new : Option (List SummaryEntry)) (block : List ℕ)
+    → first_of segment ≤ address
+    → old ≡ expected (log_block m segment) (address - first_of segment) → block ≡ block_at m address → new
+    ≡ option_and_then (λ es. after_block es block) old
     → new ≡ expected (log_block m segment) (address + 1 - first_of segment)
 unfolding expected
 read_on m segment address old new block from was at passed =
@@ -95,23 +113,28 @@ first_below zero address from some = omega arith
 first_below (suc segment) address from some = omega arith
 
 -- where a segment begins, a summary is expected
-pub read_begins : (m : SegmentMemory) (segment : ℕ) → Some [] ≡ expected (log_block m segment) (segment * 64 - first_of segment)
+pub read_begins : (m : SegmentMemory) (segment : ℕ) → Some []
+    ≡ expected (log_block m segment) (segment * 64 - first_of segment)
 unfolding expected
 read_begins m segment = let none : segment * 64 - first_of segment ≡ 0 = omega arith in rw none refl
 
-pub read_first : (m : SegmentMemory) (segment address : ℕ) → address ≡ first_of segment → Some [] ≡ expected (log_block m segment) (address - first_of segment)
+pub read_first : (m : SegmentMemory) (segment address : ℕ) → address ≡ first_of segment → Some []
+    ≡ expected (log_block m segment) (address - first_of segment)
 unfolding expected
 read_first m segment address first = let none : address - first_of segment ≡ 0 = omega arith in rw none refl
 
 -- what is named at an address of a segment
-pub named_here : (m : SegmentMemory) (segment address : ℕ) (now : Option (List SummaryEntry)) (name : Option SummaryEntry) → segment * 64 ≤ address → address < segment * 64 + 64
-    → now ≡ expected (log_block m segment) (address - first_of segment) → name ≡ first_name now → name ≡ entry_at m address
+pub named_here : (m : SegmentMemory) (segment address : ℕ) (now : Option (List SummaryEntry))
+    (name : Option SummaryEntry) → segment * 64 ≤ address → address < segment * 64 + 64
+    → now ≡ expected (log_block m segment) (address - first_of segment) → name ≡ first_name now → name
+    ≡ entry_at m address
 named_here m segment address now name from below read is =
     let here : address / 64 ≡ segment = omega arith in
     is ∙ ap (λ (o : Option (List SummaryEntry)). first_name o) read ∙ sym (entry_at-in m segment address here)
 
 -- at the label nothing is, and it is no block of the log
-pub label_named : (m : SegmentMemory) (segment address : ℕ) (now : Option (List SummaryEntry)) → segment * 64 ≤ address → address ≡ 0
+pub label_named : (m : SegmentMemory) (segment address : ℕ) (now : Option (List SummaryEntry)) → segment * 64 ≤ address
+    → address ≡ 0
     → now ≡ expected (log_block m segment) (address - first_of segment) → None ≡ entry_at m address
 unfolding expected
 label_named m segment address now from zero_ read =
@@ -120,8 +143,10 @@ label_named m segment address now from zero_ read =
     let begins : Some [] ≡ expected (log_block m segment) (address - first_of segment) = rw none refl in
     ap (λ (o : Option (List SummaryEntry)). first_name o) begins ∙ sym (entry_at-in m segment address here)
 
-pub label_read : (m : SegmentMemory) (segment address : ℕ) (now : Option (List SummaryEntry)) → segment * 64 ≤ address → address ≡ 0
-    → now ≡ expected (log_block m segment) (address - first_of segment) → now ≡ expected (log_block m segment) (address + 1 - first_of segment)
+pub label_read : (m : SegmentMemory) (segment address : ℕ) (now : Option (List SummaryEntry)) → segment * 64 ≤ address
+    → address ≡ 0
+    → now ≡ expected (log_block m segment) (address - first_of segment) → now
+    ≡ expected (log_block m segment) (address + 1 - first_of segment)
 label_read m segment address now from zero_ read =
     let is_zero : segment ≡ 0 = omega arith in
     let first : first_of segment ≡ 1 = ap first_of is_zero in
@@ -132,14 +157,16 @@ label_read m segment address now from zero_ read =
 pub no_names : (m : SegmentMemory) (names : List (Option SummaryEntry)) → names ≡ [] → AreNames m 0 names
 no_names m names empty = record { long = ap length empty; each = λ a low. absurd (omega arith) }
 
-pub more_names : (m : SegmentMemory) (many : ℕ) (names new : List (Option SummaryEntry)) (name : Option SummaryEntry) → AreNames m many names → name ≡ entry_at m many
+pub more_names : (m : SegmentMemory) (many : ℕ) (names new : List (Option SummaryEntry)) (name : Option SummaryEntry)
+    → AreNames m many names → name ≡ entry_at m many
     → new ≡ names ++ name ∷ [] → AreNames m (many + 1) new
 more_names m many names new name were is grown = record {
   long = ap length grown ∙ length-append names (name ∷ []) ∙ omega (arith, were.long);
   each = λ a low. ap (λ xs. name_in xs a) grown ∙ elim (cases_eq a many) [
     | inl here ↦
         let at : a ≡ length names + 0 = omega (arith, were.long) in
-        ap (λ k. name_in (names ++ name ∷ []) k) at ∙ get_or-append-add names (name ∷ []) 0 None ∙ is ∙ ap (entry_at m) (sym here)
+        ap (λ k. name_in (names ++ name ∷ []) k) at ∙ get_or-append-add names (name ∷ []) 0 None ∙ is
+        ∙ ap (entry_at m) (sym here)
     | inr other ↦ get_or_append_left names (name ∷ []) None a (omega (arith, were.long)) ∙ were.each a (omega arith)
   ];
 }

@@ -20,14 +20,18 @@ use Rattle.lfs_fsck.specs.Checks.{IsRecordOf}
 use Rattle.lfs_fsck.specs.Stored.{settled}
 
 -- a block that has an address is the one there
-pub via_block : (l : LogParts) (number : ℕ) (way : List ℕ) (a : ℕ) → a ≢ 0 → bytes_via (tree_of (settled l) number) way a ≡ block_at l.memory a
+pub via_block : (l : LogParts) (number : ℕ) (way : List ℕ) (a : ℕ) → a ≢ 0
+    → bytes_via (tree_of (settled l) number) way a ≡ block_at l.memory a
 via_block l number way a some = via-log (tree_of (settled l) number) way a refl some
 
-pub via_zeros : (l : LogParts) (number : ℕ) (way : List ℕ) (a : ℕ) → a ≡ 0 → bytes_via (tree_of (settled l) number) way a ≡ zero_block
-via_zeros l number way a none = ap (bytes_via (tree_of (settled l) number) way) none ∙ via-none (tree_of (settled l) number) way refl
+pub via_zeros : (l : LogParts) (number : ℕ) (way : List ℕ) (a : ℕ) → a ≡ 0
+    → bytes_via (tree_of (settled l) number) way a ≡ zero_block
+via_zeros l number way a none = ap (bytes_via (tree_of (settled l) number) way) none
+    ∙ via-none (tree_of (settled l) number) way refl
 
 -- an address that stands in the record
-pub root_at : (l : LogParts) (v : Inode) (i : ℕ) → IsRecordOf l v → address (tree_of (settled l) v.number) (i ∷ []) ≡ slice_index (addresses v) i
+pub root_at : (l : LogParts) (v : Inode) (i : ℕ) → IsRecordOf l v → address (tree_of (settled l) v.number) (i ∷ [])
+    ≡ slice_index (addresses v) i
 root_at l v i own =
     let t = tree_of (settled l) v.number in
     address-cell t i [] ∙ ap (λ ys. slice_index ys i) (table-root t ∙ ap root_in own.is)
@@ -38,11 +42,17 @@ pub used_row : (row : InodeRow) (place : InodePlace) → place_in row ≡ Some p
 used_row row place h =
     elim (cases_Bool row.used) [
       | inl used ↦
-          let same : record { addr = row.address; slot = row.slot; version = row.version } ≡ place = same_Some _ place (sym (cond-true _ _ _ used) ∙ h) in
-          (used, sym (ap (λ (q : InodePlace). q.addr) same), sym (ap (λ (q : InodePlace). q.slot) same), sym (ap (λ (q : InodePlace). q.version) same))
+          let same : record { addr = row.address; slot = row.slot; version = row.version }
+          ≡ place = same_Some _ place (sym (cond-true _ _ _ used) ∙ h) in (
+            used,
+            sym (ap (λ (q : InodePlace). q.addr) same),
+            sym (ap (λ (q : InodePlace). q.slot) same),
+            sym (ap (λ (q : InodePlace). q.version) same),
+          )
       | inr free ↦ absurd (none-some place (sym (cond-false _ _ _ free) ∙ h))
     ]
 
 -- the record of a number in use is what stands at its place
-pub settled_record : (l : LogParts) (number : ℕ) (place : InodePlace) → place_of l.tables number ≡ Some place → record_of (settled l) number ≡ fields_at l.memory place
+pub settled_record : (l : LogParts) (number : ℕ) (place : InodePlace) → place_of l.tables number ≡ Some place
+    → record_of (settled l) number ≡ fields_at l.memory place
 settled_record l number place here = record_of-logged (settled l) number place here refl

@@ -1,5 +1,6 @@
 -- A log that was checked is one that a store may stand on.
-use Rattle.std.proofs.Common.{◌≡◌, ◌≢◌, ℕ, ◌-◌, ◌*◌, ◌<◌, ◌≤◌, List, [], length, Some, true, false, is_some, refl, sym, ap, ◌∙◌, subst, inl, inr, arith}
+use Rattle.std.proofs.Common.{◌≡◌, ◌≢◌, ℕ, ◌-◌, ◌*◌, ◌<◌, ◌≤◌, List, [], length, Some, true, false, is_some, refl, sym}
+use Rattle.std.proofs.Common.{ap, ◌∙◌, subst, inl, inr, arith}
 use Rattle.std.specs.Prelude.{IsSome}
 use Rattle.std.proofs.lemmas.Bool.{cases_Bool, cases_eq, cases_lt, false≢true}
 use Rattle.std.proofs.lemmas.List.{get_or_past}
@@ -73,7 +74,8 @@ module _ (l : LogParts) (m n : ℕ) where
     formed = h.formed;
     own_number = h.own_number;
     own_version = h.own_version;
-    none_past = λ block can past. ap (λ (t : Tree). address t (way_to block)) (same_tree k) ∙ h.none_past block can past;
+    none_past = λ block can past. ap (λ (t : Tree). address t (way_to block)) (same_tree k)
+        ∙ h.none_past block can past;
     padded = subst (λ (t : Tree). IsPadded (data_block t) f.attributes.size) (sym (same_tree k)) h.padded;
   }
 
@@ -92,7 +94,10 @@ module _ (l : LogParts) (m n : ℕ) where
     };
     log = subst (λ (s : LogState). IsLog s 0) (sym same_state) h.log;
     ready = h.ready;
-    parents = record { records = λ key locked. absurd (false≢true locked); holders = λ key locked i up way. absurd (false≢true locked) };
+    parents = record {
+      records = λ key locked. absurd (false≢true locked);
+      holders = λ key locked i up way. absurd (false≢true locked);
+    };
     once = none_once q.waiting refl;
     few = omega arith;
     within = λ k block f is can locked. absurd (false≢true locked);
@@ -103,12 +108,15 @@ module _ (l : LogParts) (m n : ℕ) where
 pub used_low : (l : LogParts) (number : ℕ) → (row_of l.tables number).used ≡ true → number < length l.tables.rows
 used_low l number used = elim (cases_lt number (length l.tables.rows)) [
   | inl low ↦ low
-  | inr past ↦ absurd (false≢true (sym (ap (λ (r : InodeRow). r.used) (get_or_past l.tables.rows number fresh_row past)) ∙ used))
+  | inr past ↦ absurd (false≢true (sym (ap (λ (r : InodeRow). r.used) (get_or_past l.tables.rows number fresh_row past))
+      ∙ used))
 ]
 
 -- blocks past the size have no address
-pub none_past : (l : LogParts) (number : ℕ) (f : Fields) → record_of (settled l) number ≡ Some f → ((code : ℕ) → code < BLOCK_CODES → IsKept l number code)
-    → (block : FileBlock) → IsFileBlock block → block_count f.attributes.size ≤ first_under block → address (tree_of (settled l) number) (way_to block) ≡ 0
+pub none_past : (l : LogParts) (number : ℕ) (f : Fields) → record_of (settled l) number ≡ Some f
+    → ((code : ℕ) → code < BLOCK_CODES → IsKept l number code)
+    → (block : FileBlock) → IsFileBlock block → block_count f.attributes.size ≤ first_under block
+    → address (tree_of (settled l) number) (way_to block) ≡ 0
 none_past l number f is kept block can past =
     let t = tree_of (settled l) number in
     elim (cases_eq (code_of block) 0) [
@@ -124,7 +132,8 @@ none_past l number f is kept block can past =
       ]
     ]
 
-pub checked_file : (l : LogParts) (v : Inode) → IsRecordOf l v → AreFields (fields_of v) → ((code : ℕ) → code < BLOCK_CODES → IsKept l v.number code)
+pub checked_file : (l : LogParts) (v : Inode) → IsRecordOf l v → AreFields (fields_of v)
+    → ((code : ℕ) → code < BLOCK_CODES → IsKept l v.number code)
     → IsPadded (data_block (tree_of (settled l) v.number)) v.size → IsChecked l v.number
 checked_file l v own formed kept padded = record {
   fields = fields_of v;
@@ -138,9 +147,11 @@ checked_file l v own formed kept padded = record {
   };
 }
 
-module _ (l : LogParts) (counts : List ℕ) (parts : IsParts l) (ready : Expects l.memory []) (counted : IsCounted l (length l.tables.rows) 0 counts)
+module _ (l : LogParts) (counts : List ℕ) (parts : IsParts l) (ready : Expects l.memory [])
+    (counted : IsCounted l (length l.tables.rows) 0 counts)
     (files : AreChecked l (length l.tables.rows))
-    (live : (s : ℕ) → s < l.memory.segments → live_of l.tables s ≡ live_bytes (keys_of l).numbers BLOCK_CODES (keys_of l).at s)
+    (live : (s : ℕ) → s < l.memory.segments → live_of l.tables s
+    ≡ live_bytes (keys_of l).numbers BLOCK_CODES (keys_of l).at s)
     (room : live_of l.tables l.memory.active ≤ 512 * (next_address l.memory - SEGMENT_BLOCKS * l.memory.active)) where
   checked : (number : ℕ) → (row_of l.tables number).used ≡ true → IsChecked l number
   checked number used = (files.each number (used_low l number used) used).checked
@@ -169,7 +180,8 @@ module _ (l : LogParts) (counts : List ℕ) (parts : IsParts l) (ready : Expects
   settled_log : IsLog (keys_of l) 0
   settled_log = record {
     segments = AreSegments-kept l (keys_of l).at parts;
-    keys = λ number code placed. (counted.earlier number code placed.number_below placed.code_below placed.somewhere).place;
+    keys = λ number code placed. (counted.earlier number code placed.number_below placed.code_below
+        placed.somewhere).place;
     counted = live;
     spared = omega arith;
   }
@@ -179,7 +191,10 @@ module _ (l : LogParts) (counts : List ℕ) (parts : IsParts l) (ready : Expects
     whole = settled_files;
     log = settled_log;
     ready = ready;
-    parents = record { records = λ key locked. absurd (false≢true locked); holders = λ key locked i up way. absurd (false≢true locked) };
+    parents = record {
+      records = λ key locked. absurd (false≢true locked);
+      holders = λ key locked i up way. absurd (false≢true locked);
+    };
     once = none_once (settled l).waiting refl;
     few = omega arith;
     within = λ number block f is can locked. absurd (false≢true locked);

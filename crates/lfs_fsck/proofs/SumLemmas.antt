@@ -35,7 +35,8 @@ weight-most place segment code =
     ]
 
 pub live-more : (numbers codes : ℕ) (at : ℕ → ℕ → ℕ) (segment : ℕ)
-    → live_bytes (numbers + 1) codes at segment ≡ total (λ c. weight_of (at numbers c) segment c) codes + live_bytes numbers codes at segment
+    → live_bytes (numbers + 1) codes at segment ≡ total (λ c. weight_of (at numbers c) segment c) codes
+    + live_bytes numbers codes at segment
 unfolding live_bytes
 live-more numbers codes at segment = total-more (λ n. total (λ c. weight_of (at n c) segment c) codes) numbers
 
@@ -47,7 +48,8 @@ pub total-first : (f : ℕ → ℕ) → total f 0 ≡ 0
 unfolding total
 total-first f = refl
 
-pub live-most : (numbers codes : ℕ) (at : ℕ → ℕ → ℕ) (segment : ℕ) → live_bytes numbers codes at segment ≤ 512 * codes * numbers
+pub live-most : (numbers codes : ℕ) (at : ℕ → ℕ → ℕ) (segment : ℕ)
+    → live_bytes numbers codes at segment ≤ 512 * codes * numbers
 unfolding live_bytes
 live-most numbers codes at segment =
     total-most (λ n. total (λ c. weight_of (at n c) segment c) codes) (512 * codes) numbers

@@ -1,5 +1,6 @@
 -- The bytes past a file's size.
-use Rattle.std.proofs.Common.{◌≡◌, ◌≢◌, ℕ, ◌+◌, ◌*◌, ◌/◌, ◌%◌, ◌<◌, ◌≤◌, List, [], length, sym, ap, ◌∙◌, subst, inl, inr, arith}
+use Rattle.std.proofs.Common.{◌≡◌, ◌≢◌, ℕ, ◌+◌, ◌*◌, ◌/◌, ◌%◌, ◌<◌, ◌≤◌, List, [], length, sym, ap, ◌∙◌, subst, inl}
+use Rattle.std.proofs.Common.{inr, arith}
 use Rattle.std.specs.Prelude.{slice_index}
 use Rattle.std.proofs.lemmas.Bool.{cases_eq, cases_lt}
 use Rattle.lfs_types.specs.Blocks.{zero_block}
@@ -31,15 +32,18 @@ use Rattle.lfs_fsck.proofs.SettledLemmas.{via_block, via_zeros}
 zeros_length : (bytes : List ℕ) → bytes ≡ zero_block → length bytes ≡ 512
 zeros_length bytes is = ap length is ∙ length-zero_block
 
-module _ (l : LogParts) (v : Inode) (parts : IsParts l) (own : IsRecordOf l v) (kept : (code : ℕ) → code < BLOCK_CODES → IsKept l v.number code) where
+module _ (l : LogParts) (v : Inode) (parts : IsParts l) (own : IsRecordOf l v) (kept : (code : ℕ) → code < BLOCK_CODES
+    → IsKept l v.number code) where
   abbrev t : Tree
   t = tree_of (settled l) v.number
 
   -- a data block is the one at its address, or zeros where it has none
   data_zeros : (n : ℕ) → n < FILE_BLOCKS → address t (way_to (Data n)) ≡ 0 → data_block t n ≡ zero_block
-  data_zeros n low none = data_block-read t n low ∙ read-via t (data_way n) ∙ via_zeros l v.number (data_way n) (address t (data_way n)) none
+  data_zeros n low none = data_block-read t n low ∙ read-via t (data_way n)
+      ∙ via_zeros l v.number (data_way n) (address t (data_way n)) none
 
-  pub data_logged : (n : ℕ) → n < FILE_BLOCKS → data_block t n ≡ bytes_via t (way_to (Data n)) (address t (way_to (Data n)))
+  pub data_logged : (n : ℕ) → n < FILE_BLOCKS → data_block t n
+      ≡ bytes_via t (way_to (Data n)) (address t (way_to (Data n)))
   data_logged n low = data_block-read t n low ∙ read-via t (data_way n)
 
   -- each block has 512 bytes
@@ -49,7 +53,8 @@ module _ (l : LogParts) (v : Inode) (parts : IsParts l) (own : IsRecordOf l v) (
     | inr some ↦
         let at = at_block l v.number (Data n) low (λ e. absurd (omega arith)) in
         let key = kept (131 + n) (omega arith) (λ e. some (omega (arith, at, e))) in
-        let inside : address t (way_to (Data n)) < length l.memory.blocks = omega (arith, at, key.place.in_volume, parts.laid_out.whole) in
+        let inside : address t (way_to (Data n)) < length l.memory.blocks =
+        omega (arith, at, key.place.in_volume, parts.laid_out.whole) in
         ap length (data_logged n low ∙ via_block l v.number (way_to (Data n)) (address t (way_to (Data n))) some)
         ∙ parts.laid_out.each (address t (way_to (Data n))) [] inside
   ]
@@ -61,8 +66,10 @@ module _ (l : LogParts) (v : Inode) (parts : IsParts l) (own : IsRecordOf l v) (
     | inr some ↦
         let at = at_block l v.number (Data n) low (λ e. absurd (omega arith)) in
         let key = kept (131 + n) (omega arith) (λ e. some (omega (arith, at, e))) in
-        let within : IsWithin (block_with (131 + n)) v.size = key.within (fields_of v) own.is (λ e. absurd (omega arith)) in
-        let below : IsWithin (Data n) v.size = subst (λ b. IsWithin b v.size) (block_with-code_of (Data n) low) within in
+        let within : IsWithin (block_with (131 + n)) v.size =
+        key.within (fields_of v) own.is (λ e. absurd (omega arith)) in
+        let below : IsWithin (Data n) v.size = subst (λ b. IsWithin b v.size) (block_with-code_of (Data n) low) within
+        in
         absurd (omega arith)
   ]
 
@@ -70,7 +77,8 @@ module _ (l : LogParts) (v : Inode) (parts : IsParts l) (own : IsRecordOf l v) (
   zero_at i bytes is = ap (λ b. slice_index b (i % 512)) is ∙ zero_block-at (i % 512)
 
   -- a byte past the size: of a block past it, or of the last block
-  zeros_past : ((k : ℕ) → v.size % 512 ≢ 0 → v.size % 512 ≤ k → k < 512 → slice_index (data_block t (v.size / 512)) k ≡ 0)
+  zeros_past : ((k : ℕ) → v.size % 512 ≢ 0 → v.size % 512 ≤ k → k < 512 → slice_index (data_block t (v.size / 512)) k
+      ≡ 0)
       → (i : ℕ) → v.size ≤ i → slice_index (data_block t (i / 512)) (i % 512) ≡ 0
   zeros_past last i past =
       let n : ℕ = i / 512 in
@@ -80,11 +88,13 @@ module _ (l : LogParts) (v : Inode) (parts : IsParts l) (own : IsRecordOf l v) (
           | inr over ↦ zero_at i (data_block t n) (past_zeros n low over)
           | inl below ↦
               let same : n ≡ v.size / 512 = omega arith in
-              ap (λ k. slice_index (data_block t k) (i % 512)) same ∙ last (i % 512) (λ e. absurd (omega arith)) (omega arith) (omega arith)
+              ap (λ k. slice_index (data_block t k) (i % 512)) same
+              ∙ last (i % 512) (λ e. absurd (omega arith)) (omega arith) (omega arith)
         ]
       ]
 
-  pub is_padded : ((k : ℕ) → v.size % 512 ≢ 0 → v.size % 512 ≤ k → k < 512 → slice_index (data_block t (v.size / 512)) k ≡ 0)
+  pub is_padded : ((k : ℕ) → v.size % 512 ≢ 0 → v.size % 512 ≤ k → k < 512 → slice_index (data_block t (v.size / 512)) k
+      ≡ 0)
       → IsPadded (data_block t) v.size
   is_padded last = record {
     whole = λ n. elim (cases_lt n FILE_BLOCKS) [
@@ -95,9 +105,11 @@ module _ (l : LogParts) (v : Inode) (parts : IsParts l) (own : IsRecordOf l v) (
   }
 
 -- and where they are zeros, so are those of the last block
-pub last_zeros : (blocks : ℕ → List ℕ) (size k : ℕ) → IsPadded blocks size → size % 512 ≤ k → k < 512 → slice_index (blocks (size / 512)) k ≡ 0
+pub last_zeros : (blocks : ℕ → List ℕ) (size k : ℕ) → IsPadded blocks size → size % 512 ≤ k → k < 512
+    → slice_index (blocks (size / 512)) k ≡ 0
 last_zeros blocks size k h from below =
     let i : ℕ = 512 * (size / 512) + k in
     let block : i / 512 ≡ size / 512 = omega arith in
     let place : i % 512 ≡ k = omega arith in
-    ap (λ n. slice_index (blocks n) k) (sym block) ∙ ap (slice_index (blocks (i / 512))) (sym place) ∙ h.zeros i (omega arith)
+    ap (λ n. slice_index (blocks n) k) (sym block) ∙ ap (slice_index (blocks (i / 512))) (sym place)
+    ∙ h.zeros i (omega arith)

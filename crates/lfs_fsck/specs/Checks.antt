@@ -26,12 +26,14 @@ pub record IsRecordOf (l : LogParts) (v : Inode) : Type 0 where
 
 -- the blocks of a number with codes below one lie in the volume
 pub record LieBelow (l : LogParts) (number code : ℕ) : Type 0 where
-  pub each : (t : FileBlock) → IsFileBlock t → code_of t < code → address (tree_of (settled l) number) (way_to t) < blocks_of (settled l)
+  pub each : (t : FileBlock) → IsFileBlock t → code_of t < code
+      → address (tree_of (settled l) number) (way_to t) < blocks_of (settled l)
 
 -- what holds of a key that has a place: of the place, and that the block lies below the size
 pub record IsKey (l : LogParts) (number code : ℕ) : Type 0 where
   pub place : IsPlace (keys_of l) number code ((keys_of l).at number code)
-  pub within : (f : Fields) → record_of (settled l) number ≡ Some f → code ≢ 0 → IsWithin (block_with code) f.attributes.size
+  pub within : (f : Fields) → record_of (settled l) number ≡ Some f → code ≢ 0
+      → IsWithin (block_with code) f.attributes.size
 
 -- a key has no place, or a good one
 abbrev pub IsKept : LogParts → ℕ → ℕ → Type 0
@@ -40,7 +42,8 @@ IsKept l number code = (keys_of l).at number code ≢ 0 → IsKey l number code
 -- the live bytes of a segment that are those of the numbers before one, and of this number's codes before one
 abbrev pub live_before : LogParts → ℕ → ℕ → ℕ → ℕ
 live_before l number code segment =
-    live_bytes number BLOCK_CODES (keys_of l).at segment + total (λ c. weight_of ((keys_of l).at number c) segment c) code
+    live_bytes number BLOCK_CODES (keys_of l).at segment
+    + total (λ c. weight_of ((keys_of l).at number c) segment c) code
 
 -- The keys of the numbers before one, and this number's before a code, are good; for each segment their live bytes are
 -- counted.

@@ -18,7 +18,9 @@ use Rattle.lfs_bmap.specs.Reading.{address, data_block}
 use Rattle.lfs_log.specs.Parts.{LogParts, live_of}
 use Rattle.lfs_staging.specs.View.{record_of, tree_of, version_of}
 use Rattle.lfs_fsck.specs.declared.fault.LogFault.{LogFault}
-use Rattle.lfs_fsck.specs.declared.fault.LogFault.TheVariants.{Unfinished, NotZeros, Reserved, NoRecord, OtherRecord, Outside, Misnamed, InClean, Unwritten, PastSize, Tail, Live, Crowded, Memory}
+use Rattle.lfs_fsck.specs.declared.fault.LogFault.TheVariants.{Unfinished, NotZeros, Reserved, NoRecord, OtherRecord}
+use Rattle.lfs_fsck.specs.declared.fault.LogFault.TheVariants.{Outside, Misnamed, InClean, Unwritten, PastSize, Tail}
+use Rattle.lfs_fsck.specs.declared.fault.LogFault.TheVariants.{Live, Crowded, Memory}
 use Rattle.lfs_fsck.specs.Stored.{keys_of, settled}
 
 -- the log has a record at the place of a number, of another number or version
@@ -50,13 +52,15 @@ IsLogFaultOf l (Unfinished segment) =
 IsLogFaultOf l (NotZeros address) =
     (next_address l.memory ≤ address) × (address < l.memory.active * SEGMENT_BLOCKS + SEGMENT_BLOCKS)
     × (block_at l.memory address ≢ zero_block)
-IsLogFaultOf l (Reserved number) = ((row_of l.tables number).used ≡ true) × (number < FIRST_INODE) × (number ≢ ROOT_INODE)
+IsLogFaultOf l (Reserved number) = ((row_of l.tables number).used ≡ true) × (number < FIRST_INODE)
+    × (number ≢ ROOT_INODE)
 IsLogFaultOf l (NoRecord number) = ((row_of l.tables number).used ≡ true) × (record_of (settled l) number ≡ None)
 IsLogFaultOf l (OtherRecord number) = HasOtherRecord l number
 IsLogFaultOf l (Outside number code) =
     IsPlaced (keys_of l) number code × (4 * SEGMENT_BLOCKS * l.memory.segments ≤ (keys_of l).at number code)
 IsLogFaultOf l (Misnamed number code) =
-    IsPlaced (keys_of l) number code × ((keys_of l).owner ((keys_of l).at number code) ≢ Some (owner_of (keys_of l) number code))
+    IsPlaced (keys_of l) number code × ((keys_of l).owner ((keys_of l).at number code) ≢ Some
+    (owner_of (keys_of l) number code))
 IsLogFaultOf l (InClean number code) =
     IsPlaced (keys_of l) number code × ((keys_of l).state (seg_of ((keys_of l).at number code)) ≡ Clean)
 IsLogFaultOf l (Unwritten number code) =
@@ -68,5 +72,6 @@ IsLogFaultOf l (Live segment) =
     (segment < l.memory.segments)
     × (live_of l.tables segment ≢ live_bytes (keys_of l).numbers BLOCK_CODES (keys_of l).at segment)
 IsLogFaultOf l (Crowded segment) =
-    (segment ≡ l.memory.active) × (512 * (next_address l.memory - SEGMENT_BLOCKS * l.memory.active) < live_of l.tables l.memory.active)
+    (segment ≡ l.memory.active)
+    × (512 * (next_address l.memory - SEGMENT_BLOCKS * l.memory.active) < live_of l.tables l.memory.active)
 IsLogFaultOf l Memory = Unit {0}

@@ -1,13 +1,16 @@
 -- The calls that a message asks for, of a path, in order.
-use Rattle.std.specs.Prelude.{ℕ, ◌+◌, ◌/◌, ◌%◌, ◌==◌, if◌then◌else◌, Bool, true, false, List, [], ◌∷◌, ◌++◌, length, Option, None, Some}
+use Rattle.std.specs.Prelude.{ℕ, ◌+◌, ◌/◌, ◌%◌, ◌==◌, if◌then◌else◌, Bool, true, false, List, [], ◌∷◌, ◌++◌, length}
+use Rattle.std.specs.Prelude.{Option, None, Some}
 use Rattle.lfs_types.specs.declared.attrs.Attrs.{Attrs}
 use Rattle.lfs_types.specs.declared.request.Request.{Request}
-use Rattle.lfs_types.specs.declared.request.Request.TheVariants.{Stat, Read, Write, List as Names, SetLength, Create, Mkdir, Unlink, Rmdir, Chmod, Chown}
+use Rattle.lfs_types.specs.declared.request.Request.TheVariants.{Stat, Read, Write, List as Names, SetLength, Create}
+use Rattle.lfs_types.specs.declared.request.Request.TheVariants.{Mkdir, Unlink, Rmdir, Chmod, Chown}
 use Rattle.lfs_fuse_wire.specs.declared.attributes.SetAttr.{SetAttr}
 use Rattle.lfs_fuse_wire.specs.declared.flags.AccessMode.{AccessMode}
 use Rattle.lfs_fuse_wire.specs.declared.flags.AccessMode.TheVariants.{ReadOnly, WriteOnly, ReadWrite, Neither}
 use Rattle.lfs_fuse_wire.specs.declared.flags.OpenFlags.{OpenFlags}
-use Rattle.lfs_fuse_wire.specs.Said.{Said, lookup, getattr, setattr, access, mknod, mkdir, create, unlink, rmdir, opening, read, write, opendir, ioctl}
+use Rattle.lfs_fuse_wire.specs.Said.{Said, lookup, getattr, setattr, access, mknod, mkdir, create, unlink, rmdir}
+use Rattle.lfs_fuse_wire.specs.Said.{opening, read, write, opendir, ioctl}
 use Rattle.lfs_fuse_calls.specs.Pieces.{piece_count, put_at, read_pieces, write_pieces}
 
 -- a call that is asked for under a condition
@@ -48,7 +51,8 @@ mode_of permissions = permissions % 4096
 abbrev pub lacking : ℕ → ℕ
 lacking mode = (if mode / 256 % 2 == 0 then 256 else 0) + (if mode / 128 % 2 == 0 then 128 else 0)
 
--- The mode with which a file is made that is opened too: as its message tells, and with its owner's right to read and write,
+-- The mode with which a file is made that is opened too: as its message tells, and with its owner's right to read and
+-- write,
 -- by which the one who makes it fills it.
 abbrev pub lent_mode : ℕ → ℕ
 lent_mode permissions = mode_of permissions + lacking (mode_of permissions)
@@ -90,6 +94,7 @@ is_told None (Some gid) = true
 abbrev pub asked_to_set : SetAttr → Attrs → List (List ℕ) → List Request
 asked_to_set fields present path =
     asked_with (SetLength path) fields.size
-    ++ asked_if (is_told fields.uid fields.gid) (Chown path (told_or present.uid fields.uid) (told_or present.gid fields.gid))
+    ++ asked_if (is_told fields.uid fields.gid)
+    (Chown path (told_or present.uid fields.uid) (told_or present.gid fields.gid))
     ++ asked_with (λ permissions. Chmod path (mode_of permissions)) fields.permissions
     ++ Stat path ∷ []

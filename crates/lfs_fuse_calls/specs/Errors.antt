@@ -4,7 +4,8 @@ use Rattle.lfs_types.specs.RuleCodes.{rule_error}
 use Rattle.lfs_types.specs.declared.answer.Answer.{Answer}
 use Rattle.lfs_types.specs.declared.answer.Answer.TheVariants.{Served, Denied, Refused}
 use Rattle.lfs_types.specs.declared.answer.Resource.{Resource}
-use Rattle.lfs_types.specs.declared.answer.Resource.TheVariants.{NoMemory, NoSpace, NoInodes, DirectoryFull, JournalFull}
+use Rattle.lfs_types.specs.declared.answer.Resource.TheVariants.{NoMemory, NoSpace, NoInodes, DirectoryFull}
+use Rattle.lfs_types.specs.declared.answer.Resource.TheVariants.{JournalFull}
 use Rattle.lfs_types.specs.declared.rule.Errno.{Errno as RuleErrno}
 use Rattle.lfs_types.specs.declared.rule.Errno.TheVariants as rule
 use Rattle.lfs_fuse_reply.specs.declared.errno.Errno.{Errno}

@@ -1,5 +1,6 @@
 -- What a kernel is told of the answers to the calls of a message.
-use Rattle.std.specs.Prelude.{◌≡◌, ℕ, ◌+◌, ◌*◌, min, Bool, true, false, ◌&&◌, ◌||◌, not, List, [], ◌∷◌, length, Option, None, Some, if◌then◌else◌, ⊤}
+use Rattle.std.specs.Prelude.{◌≡◌, ℕ, ◌+◌, ◌*◌, min, Bool, true, false, ◌&&◌, ◌||◌, not, List, [], ◌∷◌, length, Option}
+use Rattle.std.specs.Prelude.{None, Some, if◌then◌else◌, ⊤}
 use Rattle.lfs_types.specs.Caller.{Caller}
 use Rattle.lfs_types.specs.declared.answer.Answer.{Answer}
 use Rattle.lfs_types.specs.declared.answer.Answer.TheVariants as answers
@@ -8,7 +9,8 @@ use Rattle.lfs_types.specs.declared.attrs.Attrs.{Attrs}
 use Rattle.lfs_types.specs.declared.attrs.Bit.TheVariants as bit
 use Rattle.lfs_rules.specs.Grants.{grants_of}
 use Rattle.lfs_fuse_wire.specs.declared.attributes.Access.{Access}
-use Rattle.lfs_fuse_wire.specs.Said.{Said, lookup, getattr, access, mknod, mkdir, create, unlink, rmdir, opening, read, write, opendir}
+use Rattle.lfs_fuse_wire.specs.Said.{Said, lookup, getattr, access, mknod, mkdir, create, unlink, rmdir, opening, read}
+use Rattle.lfs_fuse_wire.specs.Said.{write, opendir}
 use Rattle.lfs_fuse_reply.specs.declared.errno.Errno.{Errno}
 use Rattle.lfs_fuse_reply.specs.declared.errno.Errno.TheVariants as errno
 use Rattle.lfs_fuse_reply.specs.declared.reply.Opened.{Opened}
@@ -79,7 +81,8 @@ TellsEntry seen reply = ⊥
 
 -- the same of a file that is opened too
 abbrev pub TellsCreated : Option Seen → Told → Type 0
-TellsCreated (Some seen) (told.Create entry opened) = (entry.attr ≡ attr_of seen.number seen.attrs) × (opened ≡ opened_file)
+TellsCreated (Some seen) (told.Create entry opened) = (entry.attr ≡ attr_of seen.number seen.attrs)
+    × (opened ≡ opened_file)
 TellsCreated (Some seen) (told.Error errno.ESTALE) = ⊤
 TellsCreated (Some seen) (told.Error errno.EOVERFLOW) = ⊤
 TellsCreated (Some seen) (told.Error errno.ENOMEM) = ⊤
@@ -118,7 +121,8 @@ named_in (unlink name) = Some name
 named_in (rmdir name) = Some name
 named_in message = None
 
--- The error that is told of answers: the first refusal; of reads and writes in pieces the first piece's alone, since pieces
+-- The error that is told of answers: the first refusal; of reads and writes in pieces the first piece's alone, since
+-- pieces
 -- before a refused one are told.
 abbrev pub refusal_told : Said → List Answer → Option Errno
 refusal_told (read fields) given = refusal_at_once given

@@ -9,7 +9,8 @@ use Rattle.lfs_fuse_calls.specs.declared.told.Told.TheVariants as told
 -- bytes, where their length can be told
 abbrev pub bytes_told : ℕ → List ℕ → List ℕ
 bytes_told unique bytes =
-    if nat_lt (length bytes) 0x8000_0000 then head_bytes (16 + length bytes) 0 unique ++ bytes else reply_bytes unique (reply.Error EIO)
+    if nat_lt (length bytes) 0x8000_0000 then head_bytes (16 + length bytes) 0 unique ++ bytes
+    else reply_bytes unique (reply.Error EIO)
 
 -- the reply to the message of this number
 abbrev pub told_bytes : ℕ → Told → List ℕ

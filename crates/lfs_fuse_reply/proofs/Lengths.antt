@@ -1,5 +1,6 @@
 -- How many bytes replies have.
-use Rattle.std.proofs.Common.{◌≡◌, ℕ, ◌+◌, [], ◌∷◌, length, replicate, Option, Some, None, arith, length-append, sym, ap, ◌∙◌}
+use Rattle.std.proofs.Common.{◌≡◌, ℕ, ◌+◌, [], ◌∷◌, length, replicate, Option, Some, None, arith, length-append, sym}
+use Rattle.std.proofs.Common.{ap, ◌∙◌}
 use Rattle.std.proofs.lemmas.List.{length-replicate}
 use Rattle.byteorder.specs.Numbers.{length-bytes_low_first}
 use Rattle.lfs_fuse_reply.specs.declared.attr.Attr.{Attr}
@@ -12,7 +13,8 @@ use Rattle.lfs_fuse_reply.specs.declared.reply.Statfs.{Statfs}
 use Rattle.lfs_fuse_reply.specs.Attrs.{attr_bytes, entry_bytes}
 use Rattle.lfs_fuse_reply.specs.Listings.{dirent_bytes, looked_up_bytes, missing}
 use Rattle.lfs_fuse_reply.specs.Numbers.{half, long, word, words}
-use Rattle.lfs_fuse_reply.specs.Replies.{attr_body, body_of, create_body, init_body, open_body, reply_bytes, statfs_body, told_length}
+use Rattle.lfs_fuse_reply.specs.Replies.{attr_body, body_of, create_body, init_body, open_body, reply_bytes}
+use Rattle.lfs_fuse_reply.specs.Replies.{statfs_body, told_length}
 
 length-half : (n : ℕ) → length (half n) ≡ 2
 unfolding half
@@ -63,7 +65,8 @@ length-extended n = simp (length-append, length-word)
 pub size_is : (r s : Reply) (n : ℕ) → r ≡ s → length (body_of s) ≡ n → n ≡ length (body_of r)
 size_is r s n same size = sym (ap (λ (x : Reply). length (body_of x)) same ∙ size)
 
-pub length-dirent : (e : DirEntry) (p : ℕ) → p ≡ missing (length e.name.now) → 24 + length e.name.now + p ≡ length (dirent_bytes e)
+pub length-dirent : (e : DirEntry) (p : ℕ) → p ≡ missing (length e.name.now) → 24 + length e.name.now + p
+    ≡ length (dirent_bytes e)
 length-dirent e p padded = simp (length-append, length-long, length-word, length-replicate) (omega arith)
 
 pub length-looked_up : (o : Option Entry) → length (looked_up_bytes o) ≡ 128

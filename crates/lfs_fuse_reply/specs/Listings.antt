@@ -1,5 +1,6 @@
 -- The bytes of a listing's entries (the FUSE protocol's fuse.h).
-use Rattle.std.specs.Prelude.{ℕ, ◌+◌, ◌-◌, ◌%◌, List, [], ◌∷◌, ◌++◌, Bool, length, nat_le, replicate, if◌then◌else◌, Option, Some, None}
+use Rattle.std.specs.Prelude.{ℕ, ◌+◌, ◌-◌, ◌%◌, List, [], ◌∷◌, ◌++◌, Bool, length, nat_le, replicate, if◌then◌else◌}
+use Rattle.std.specs.Prelude.{Option, Some, None}
 use Rattle.lfs_fuse_wire.specs.declared.kind.FileKind.{FileKind}
 use Rattle.lfs_fuse_wire.specs.declared.kind.FileKind.TheVariants.{Regular, Directory}
 use Rattle.lfs_fuse_reply.specs.declared.attr.Entry.{Entry}

@@ -12,7 +12,10 @@ use Rattle.lfs_fuse_wire.specs.Numbers.{at_least, has, number_at}
 
 -- seconds and nanoseconds at two places
 abbrev pub time_at : List ℕ → ℕ → ℕ → Time
-time_at body seconds nanoseconds = record { seconds = number_at body seconds 8; nanoseconds = number_at body nanoseconds 4 }
+time_at body seconds nanoseconds = record {
+  seconds = number_at body seconds 8;
+  nanoseconds = number_at body nanoseconds 4;
+}
 
 -- the time that is to be set, by whether one is and whether it is the server's own
 abbrev pub new_time : Bool → Bool → Time → Option NewTime

@@ -16,4 +16,5 @@ node_forgotten bytes at = record { node = number_at bytes at 8; lookups = number
 
 -- the node at a place of a batch
 abbrev pub node_forgotten_at : ℕ → List ℕ → Option NodeForget
-node_forgotten_at index bytes = if nat_lt index (length bytes / 16) then Some (node_forgotten bytes (16 * index)) else None
+node_forgotten_at index bytes = if nat_lt index (length bytes / 16) then Some (node_forgotten bytes (16 * index))
+    else None

@@ -5,7 +5,8 @@ use Rattle.lfs_fuse_wire.specs.Numbers.{at_least, has, number_at}
 
 -- the second word of flags, which is there where bit 30 of the first says so
 abbrev pub more_flags : List ℕ → ℕ
-more_flags body = if nat_lt (length body) 20 then 0 else (if has (number_at body 12 4) 0x40000000 then number_at body 16 4 else 0)
+more_flags body = if nat_lt (length body) 20 then 0
+    else (if has (number_at body 12 4) 0x40000000 then number_at body 16 4 else 0)
 
 abbrev pub init_of : List ℕ → Init
 init_of body = record {

@@ -21,6 +21,7 @@ fields_in = at_least 32 fields_of
 abbrev pub command_in : ℕ → List ℕ → Command
 command_in number carried =
     if number == 0x80086601 then GetFlags else
-    (if number == 0x40086602 then (if nat_lt (length carried) 4 then Other number else SetFlags (number_at carried 0 4)) else
+    (if number == 0x40086602 then (if nat_lt (length carried) 4 then Other number else SetFlags (number_at carried 0 4))
+    else
     (if number == 0x801c581f then GetExtended else
     Other number))

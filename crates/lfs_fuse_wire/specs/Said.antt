@@ -93,7 +93,8 @@ called fields bytes = option_map (λ carried. ioctl (call_of fields carried)) (f
 
 -- how many nodes are forgotten, and then 16 bytes for each
 abbrev pub batch_in : List ℕ → Option Said
-batch_in bytes = option_and_then (λ count. option_map batch_forget (first_in (16 * count) (drop 8 bytes))) (at_least 8 (λ b. number_at b 0 4) bytes)
+batch_in bytes = option_and_then (λ count. option_map batch_forget (first_in (16 * count) (drop 8 bytes)))
+    (at_least 8 (λ b. number_at b 0 4) bytes)
 
 -- what the bytes behind a header say
 unfoldable pub said_in : Opcode → List ℕ → Option Said

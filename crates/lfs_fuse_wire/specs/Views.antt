@@ -1,7 +1,15 @@
 -- What a message says, as bytes.
 use Rattle.lfs_fuse_wire.specs.declared.message.Message.{Message}
-use Rattle.lfs_fuse_wire.specs.declared.message.Message.TheVariants.{Init, Destroy, Lookup, Forget, BatchForget, Interrupt, GetAttr, SetAttr, Access, Mknod, Mkdir, Create, Unlink, Rmdir, Rename, Open, Read, Write, Flush, Release, Fsync, Opendir, Readdir, Readdirplus, Releasedir, Fsyncdir, Statfs, Ioctl, Unserved, Unknown}
-use Rattle.lfs_fuse_wire.specs.Said.{Said, init, destroy, lookup, forget, batch_forget, interrupt, getattr, setattr, access, mknod, mkdir, create, unlink, rmdir, rename, opening, read, write, flush, release, fsync, opendir, readdir, readdirplus, releasedir, fsyncdir, statfs, ioctl, unserved, unknown}
+use Rattle.lfs_fuse_wire.specs.declared.message.Message.TheVariants.{Init, Destroy, Lookup, Forget, BatchForget}
+use Rattle.lfs_fuse_wire.specs.declared.message.Message.TheVariants.{Interrupt, GetAttr, SetAttr, Access, Mknod, Mkdir}
+use Rattle.lfs_fuse_wire.specs.declared.message.Message.TheVariants.{Create, Unlink, Rmdir, Rename, Open, Read, Write}
+use Rattle.lfs_fuse_wire.specs.declared.message.Message.TheVariants.{Flush, Release, Fsync, Opendir, Readdir}
+use Rattle.lfs_fuse_wire.specs.declared.message.Message.TheVariants.{Readdirplus, Releasedir, Fsyncdir, Statfs, Ioctl}
+use Rattle.lfs_fuse_wire.specs.declared.message.Message.TheVariants.{Unserved, Unknown}
+use Rattle.lfs_fuse_wire.specs.Said.{Said, init, destroy, lookup, forget, batch_forget, interrupt, getattr, setattr}
+use Rattle.lfs_fuse_wire.specs.Said.{access, mknod, mkdir, create, unlink, rmdir, rename, opening, read, write, flush}
+use Rattle.lfs_fuse_wire.specs.Said.{release, fsync, opendir, readdir, readdirplus, releasedir, fsyncdir, statfs, ioctl}
+use Rattle.lfs_fuse_wire.specs.Said.{unserved, unknown}
 
 abbrev pub view : Message → Said
 view (Init fields) = init fields

@@ -32,17 +32,20 @@ segment_bytes segment = u32_bytes segment.0 ++ u32_bytes (state_number segment.1
 
 -- an inode number's address, slot, whether it is used, and its version
 abbrev pub row_bytes : InodeRow → List ℕ
-row_bytes row = u32_bytes row.address ++ u16_bytes row.slot ++ u16_bytes (if row.used then 1 else 0) ++ u32_bytes row.version
+row_bytes row = u32_bytes row.address ++ u16_bytes row.slot ++ u16_bytes (if row.used then 1 else 0)
+    ++ u32_bytes row.version
 
 -- the bytes of an ifile: the header, each segment from 0, each inode number from 0
 abbrev pub ifile_bytes : Tables → List ℕ
 ifile_bytes tables =
-    header_bytes (length tables.live) (length tables.rows) ++ flat_map segment_bytes (zip tables.live tables.states) ++ flat_map row_bytes tables.rows
+    header_bytes (length tables.live) (length tables.rows) ++ flat_map segment_bytes (zip tables.live tables.states)
+    ++ flat_map row_bytes tables.rows
 
 -- the number in the four bytes from a place on, the highest first
 unfoldable pub number_at : List ℕ → ℕ → ℕ
 number_at bytes place =
-    from_be_bytes w32 (slice_index bytes place ∷ slice_index bytes (place + 1) ∷ slice_index bytes (place + 2) ∷ slice_index bytes (place + 3) ∷ [])
+    from_be_bytes w32 (slice_index bytes place ∷ slice_index bytes (place + 1) ∷ slice_index bytes (place + 2)
+    ∷ slice_index bytes (place + 3) ∷ [])
 
 -- the first four bytes are `LFIF`, and the length is that of the header's two numbers
 pub record IsLaidOut (bytes : List ℕ) : Type 0 where
@@ -56,7 +59,8 @@ pub record ReadsUse (bytes : List ℕ) (seg : ℕ) (use_read : SegUse) : Type 0 
   pub live : use_read.live ≡ number_at bytes (12 + 8 * seg)
   pub state : state_number use_read.state ≡ number_at bytes (16 + 8 * seg)
 
--- the first four bytes, the numbers of segments and of inode numbers in their ranges, and the length are those of an ifile
+-- the first four bytes, the numbers of segments and of inode numbers in their ranges, and the length are those of an
+-- ifile
 pub record IsHead (bytes : List ℕ) : Type 0 where
   pub laid_out : IsLaidOut bytes
   pub segments_least : least_segments ≤ number_at bytes 4
@@ -89,7 +93,8 @@ pub record ReadsTables (bytes : List ℕ) (tables : Tables) : Type 0 where
   pub segments : length tables.live ≡ number_at bytes 4
   pub inodes : length tables.rows ≡ number_at bytes 8
   pub uses : (seg : ℕ) → seg < length tables.live → ReadsSegment bytes seg (usage_of tables seg)
-  pub each_row : (number : ℕ) → number < length tables.rows → ReadsRow bytes (row_place (length tables.live) number) (row_of tables number)
+  pub each_row : (number : ℕ) → number < length tables.rows
+      → ReadsRow bytes (row_place (length tables.live) number) (row_of tables number)
 
 -- what a fault says of bytes; want of memory says nothing of them
 abbrev pub IsIfileFaultOf : List ℕ → IfileFault → Type 0
@@ -98,5 +103,6 @@ IsIfileFaultOf bytes (Segment segment) =
     (segment < number_at bytes 4) × ((any : SegUse) → ReadsSegment bytes segment any → any.live ≤ SEGMENT_BYTES → ⊥)
 IsIfileFaultOf bytes (Row number) =
     (number < number_at bytes 8)
-    × ((any : InodeRow) → ReadsRow bytes (row_place (number_at bytes 4) number) any → IsRow (SEGMENT_BLOCKS * number_at bytes 4) any → ⊥)
+    × ((any : InodeRow) → ReadsRow bytes (row_place (number_at bytes 4) number) any
+    → IsRow (SEGMENT_BLOCKS * number_at bytes 4) any → ⊥)
 IsIfileFaultOf bytes Memory = Unit {0}

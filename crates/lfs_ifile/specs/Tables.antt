@@ -1,5 +1,6 @@
 -- what an ifile holds, and its changes at one place
-use Rattle.std.specs.Prelude.{◌≡◌, ◌≢◌, ℕ, ◌*◌, ◌<◌, ◌≤◌, ◌⊎◌, List, length, replicate, slice_index, slice_index_or, slice_set, true, false, Option, All}
+use Rattle.std.specs.Prelude.{◌≡◌, ◌≢◌, ℕ, ◌*◌, ◌<◌, ◌≤◌, ◌⊎◌, List, length, replicate, slice_index, slice_index_or}
+use Rattle.std.specs.Prelude.{slice_set, true, false, Option, All}
 use Rattle.lfs_types.specs.declared.limits.TheConstants.{SEGMENT_BLOCKS, FIRST_INODE}
 use Rattle.lfs_types.specs.Ranges.{least_segments, most_segments, least_inodes, most_inodes}
 use Rattle.lfs_ifile.specs.declared.segment.TheConstants.{SEGMENT_BYTES}

@@ -54,7 +54,8 @@ head_told h rest is =
 -- so do bytes that begin with them
 pub head_read : (bytes : List ℕ) (h : Head) → MayHead h → take 512 bytes ≡ head_bytes h → ReadsHead bytes h
 head_read bytes h is begins =
-    let whole : head_bytes h ++ drop 512 bytes ≡ bytes = ap (λ front. front ++ drop 512 bytes) (sym begins) ∙ take-append-drop 512 bytes in
+    let whole : head_bytes h ++ drop 512 bytes ≡ bytes = ap (λ front. front ++ drop 512 bytes) (sym begins)
+    ∙ take-append-drop 512 bytes in
     subst (λ bs. ReadsHead bs h) whole (head_told h (drop 512 bytes) is)
 
 -- bytes say the numbers of one head
@@ -70,7 +71,8 @@ one_head bytes a b p q =
 -- a head that isn't the one whose numbers the bytes say isn't theirs
 pub no_head : (bytes : List ℕ) (a : Head) → ReadsHead bytes a → (take 512 bytes ≡ head_bytes a → ⊥)
     → (h : Head) → MayHead h → take 512 bytes ≡ head_bytes h → ⊥
-no_head bytes a reads other h is begins = other (begins ∙ ap head_bytes (one_head bytes h a (head_read bytes h is begins) reads))
+no_head bytes a reads other h is begins =
+    other (begins ∙ ap head_bytes (one_head bytes h a (head_read bytes h is begins) reads))
 
 -- the range of the numbers that bytes say is that of their head
 pub in_range : (bytes : List ℕ) (h : Head) → ReadsHead bytes h

@@ -1,5 +1,6 @@
 -- Bytes are the image of one log at most, and of none that a store may stand on where they have a fault.
-use Rattle.std.proofs.Common.{◌≡◌, ℕ, suc, ◌*◌, ◌<◌, ◌≤◌, List, [], ◌∷◌, ◌++◌, length, take, drop, refl, sym, ap, subst, ◌∙◌, inl, inr, arith, append_assoc, length-append}
+use Rattle.std.proofs.Common.{◌≡◌, ℕ, suc, ◌*◌, ◌<◌, ◌≤◌, List, [], ◌∷◌, ◌++◌, length, take, drop, refl, sym, ap, subst}
+use Rattle.std.proofs.Common.{◌∙◌, inl, inr, arith, append_assoc, length-append}
 use Rattle.std.specs.Prelude.{All}
 use Rattle.std.specs.List.{flat_map}
 use Rattle.std.proofs.lemmas.List.{length-replicate, drop-drop}
@@ -17,7 +18,9 @@ use Rattle.lfs_log.specs.Parts.{IsActiveAlone, IsParts, LogParts, clean_count}
 use Rattle.lfs_fsck.specs.Stored.{IsStored}
 use Rattle.lfs_fsck.proofs.FaultLemmas.{not_stored}
 use Rattle.lfs_image.specs.declared.fault.ImageFault.{ImageFault}
-use Rattle.lfs_image.specs.declared.fault.ImageFault.TheVariants.{Short, Long, Mark, Form, Segments, Inodes, Active, Used, Securelevel, Gap, IfileHead, IfileSegment, IfileRow, Apart, Label, Log, Memory}
+use Rattle.lfs_image.specs.declared.fault.ImageFault.TheVariants.{Short, Long, Mark, Form, Segments, Inodes, Active}
+use Rattle.lfs_image.specs.declared.fault.ImageFault.TheVariants.{Used, Securelevel, Gap, IfileHead, IfileSegment}
+use Rattle.lfs_image.specs.declared.fault.ImageFault.TheVariants.{IfileRow, Apart, Label, Log, Memory}
 use Rattle.lfs_image.specs.declared.head.Head.{Head}
 use Rattle.lfs_image.specs.Faults.{IsApart, IsImageFaultOf}
 use Rattle.lfs_image.specs.Heads.{MayHead, ReadsHead, ifile_place, length_told}
@@ -49,7 +52,8 @@ same_blocks (x ∷ xs) (y ∷ ys) r s a b long e =
     let whole : x ++ (flat_map (λ block. block) xs ++ r) ≡ y ++ (flat_map (λ block. block) ys ++ s) =
     sym (append_assoc x (flat_map (λ block. block) xs) r) ∙ e ∙ append_assoc y (flat_map (λ block. block) ys) s in
     let here : x ≡ y = front x y _ _ sizes whole in
-    let there : xs ≡ ys = same_blocks xs ys r s (rest_of x xs a) (rest_of y ys b) (omega arith) (back x y _ _ sizes whole) in
+    let there : xs ≡ ys = same_blocks xs ys r s (rest_of x xs a) (rest_of y ys b) (omega arith)
+    (back x y _ _ sizes whole) in
     λ i. here i ∷ there i
 
 length-blocks : (xs : List (List ℕ)) → AreBlocks xs → length (flat_map (λ block. block) xs) ≡ 512 * length xs
@@ -75,26 +79,32 @@ may_head l level is = record {
   within = is.laid_out.within;
 }
 
-reads_head : (bytes : List ℕ) (l : LogParts) (level : Level) → IsImageOf bytes l level → ReadsHead bytes (head_of l level)
+reads_head : (bytes : List ℕ) (l : LogParts) (level : Level) → IsImageOf bytes l level
+    → ReadsHead bytes (head_of l level)
 reads_head bytes l level is =
-    subst (λ bs. ReadsHead bs (head_of l level)) is.spelled (head_told (head_of l level) (body_bytes l) (may_head l level is.parts))
+    subst (λ bs. ReadsHead bs (head_of l level)) is.spelled
+    (head_told (head_of l level) (body_bytes l) (may_head l level is.parts))
 
 body_at : (bytes : List ℕ) (l : LogParts) (level : Level) → IsImageOf bytes l level → body_bytes l ≡ drop 512 bytes
 body_at bytes l level is =
     let h = head_bytes (head_of l level) in
-    sym (drop-append_seam h (body_bytes l)) ∙ ap (λ n. drop n (h ++ body_bytes l)) (length-head (head_of l level)) ∙ ap (λ bs. drop 512 bs) is.spelled
+    sym (drop-append_seam h (body_bytes l)) ∙ ap (λ n. drop n (h ++ body_bytes l)) (length-head (head_of l level))
+    ∙ ap (λ bs. drop 512 bs) is.spelled
 
-head_at : (bytes : List ℕ) (l : LogParts) (level : Level) → IsImageOf bytes l level → take 512 bytes ≡ head_bytes (head_of l level)
+head_at : (bytes : List ℕ) (l : LogParts) (level : Level) → IsImageOf bytes l level → take 512 bytes
+    ≡ head_bytes (head_of l level)
 head_at bytes l level is =
     let h = head_bytes (head_of l level) in
     ap (λ bs. take 512 bs) (sym is.spelled)
     ∙ ap (λ n. take n (h ++ body_bytes l)) (sym (length-head (head_of l level)))
     ∙ take-append_seam h (body_bytes l)
 
-many_blocks : (bytes : List ℕ) (l : LogParts) (level : Level) → IsImageOf bytes l level → length l.memory.blocks ≡ number_at bytes 8 * 64
+many_blocks : (bytes : List ℕ) (l : LogParts) (level : Level) → IsImageOf bytes l level → length l.memory.blocks
+    ≡ number_at bytes 8 * 64
 many_blocks bytes l level is = is.parts.laid_out.whole ∙ ap (λ n. n * 64) (sym (reads_head bytes l level is).segments)
 
-ifile_at : (bytes : List ℕ) (l : LogParts) (level : Level) → IsImageOf bytes l level → ifile_bytes l.tables ≡ drop (ifile_place bytes) bytes
+ifile_at : (bytes : List ℕ) (l : LogParts) (level : Level) → IsImageOf bytes l level → ifile_bytes l.tables
+    ≡ drop (ifile_place bytes) bytes
 ifile_at bytes l level is =
     let blocks : List ℕ = flat_map (λ block. block) l.memory.blocks in
     let long : length blocks ≡ 512 * (number_at bytes 8 * 64) =
@@ -109,7 +119,8 @@ length_is bytes l level is =
     let reads = reads_head bytes l level is in
     let blocks : List ℕ = flat_map (λ block. block) l.memory.blocks in
     let head = length-head (head_of l level) in
-    let many = length-blocks l.memory.blocks is.parts.laid_out.each ∙ ap (λ n. 512 * n) (many_blocks bytes l level is) in
+    let many = length-blocks l.memory.blocks is.parts.laid_out.each
+    ∙ ap (λ n. 512 * n) (many_blocks bytes l level is) in
     let file = length-ifile_bytes l.tables is.parts.formed.states_length in
     let agree = is.parts.agree in
     let segments = reads.segments in
@@ -121,9 +132,11 @@ length_is bytes l level is =
 tables_of : (bytes : List ℕ) (l : LogParts) (level : Level) (t : Tables) → IsImageOf bytes l level → IsIfile t
     → ifile_bytes t ≡ drop (ifile_place bytes) bytes → l.tables ≡ t
 tables_of bytes l level t is formed stands =
-    one_ifile (ifile_bytes t) t l.tables formed (tables_told t formed) is.parts.formed (ifile_at bytes l level is ∙ sym stands)
+    one_ifile (ifile_bytes t) t l.tables formed (tables_told t formed) is.parts.formed (ifile_at bytes l level is
+    ∙ sym stands)
 
-pub one_image : (bytes : List ℕ) (l m : LogParts) (a b : Level) → IsImageOf bytes l a → IsImageOf bytes m b → (l ≡ m) × (a ≡ b)
+pub one_image : (bytes : List ℕ) (l m : LogParts) (a b : Level) → IsImageOf bytes l a → IsImageOf bytes m b → (l ≡ m)
+    × (a ≡ b)
 one_image bytes l m a b p q =
     let one = reads_head bytes l a p in
     let other = reads_head bytes m b q in
@@ -131,17 +144,27 @@ one_image bytes l m a b p q =
     let active : l.memory.active ≡ m.memory.active = sym one.active ∙ other.active in
     let fill : l.memory.fill ≡ m.memory.fill = sym one.used ∙ other.used in
     let blocks : l.memory.blocks ≡ m.memory.blocks =
-    same_blocks l.memory.blocks m.memory.blocks (ifile_bytes l.tables) (ifile_bytes m.tables) p.parts.laid_out.each q.parts.laid_out.each
+    same_blocks l.memory.blocks m.memory.blocks (ifile_bytes l.tables)
+    (ifile_bytes m.tables) p.parts.laid_out.each q.parts.laid_out.each
     (many_blocks bytes l a p ∙ sym (many_blocks bytes m b q)) (body_at bytes l a p ∙ sym (body_at bytes m b q)) in
     let tables : l.tables ≡ m.tables = tables_of bytes l a m.tables p q.parts.formed (ifile_at bytes m b q) in
     let clean : l.clean ≡ m.clean =
-    p.parts.counted ∙ ap (λ t. clean_count t l.memory.segments) tables ∙ ap (λ n. clean_count m.tables n) segments ∙ sym q.parts.counted in
-    let memory : l.memory ≡ m.memory = λ i. record { segments = segments i; active = active i; fill = fill i; blocks = blocks i } in
-    (λ i. record { memory = memory i; tables = tables i; clean = clean i }, same_level a b (sym one.level ∙ other.level))
+    p.parts.counted ∙ ap (λ t. clean_count t l.memory.segments) tables ∙ ap (λ n. clean_count m.tables n) segments
+    ∙ sym q.parts.counted in
+    let memory : l.memory ≡ m.memory = λ i. record {
+      segments = segments i;
+      active = active i;
+      fill = fill i;
+      blocks = blocks i;
+    } in (
+      λ i. record { memory = memory i; tables = tables i; clean = clean i },
+      same_level a b (sym one.level ∙ other.level),
+    )
 
 -- ---- bytes with a fault
 -- tables that don't make a log with a memory stand apart from its head
-pub stands_apart : (bytes : List ℕ) (h : Head) (m : SegmentMemory) (t : Tables) → ReadsHead bytes h → m.segments ≡ h.segments → m.active ≡ h.active
+pub stands_apart : (bytes : List ℕ) (h : Head) (m : SegmentMemory) (t : Tables) → ReadsHead bytes h → m.segments
+    ≡ h.segments → m.active ≡ h.active
     → IsLaidOut m → IsIfile t → ifile_bytes t ≡ drop (ifile_place bytes) bytes
     → ((clean : ℕ) → IsParts (record { memory = m; tables = t; clean = clean }) → ⊥) → IsApart bytes
 stands_apart bytes h m t reads segments active laid formed stands none = record {
@@ -171,10 +194,13 @@ not_apart bytes l level is apart =
       is_active = is.parts.is_active;
       no_other = λ s low. is.parts.no_other s (subst (λ n. s < n) agree low);
     } in
-    apart.apart (ap (λ t. length t.live) (sym same) ∙ agree ∙ sym reads.segments) (ap (λ t. length t.rows) (sym same) ∙ sym reads.inodes)
-    (subst (λ s. IsActiveAlone apart.tables s) (sym reads.active) (subst (λ t. IsActiveAlone t l.memory.active) same alone))
+    apart.apart (ap (λ t. length t.live) (sym same) ∙ agree ∙ sym reads.segments) (ap (λ t. length t.rows) (sym same)
+    ∙ sym reads.inodes)
+    (subst (λ s. IsActiveAlone apart.tables s) (sym reads.active)
+    (subst (λ t. IsActiveAlone t l.memory.active) same alone))
 
-no_tables : (bytes : List ℕ) (l : LogParts) (level : Level) (fault : IfileFault) → IsImageOf bytes l level → (fault ≡ ifile_fault.Memory → ⊥)
+no_tables : (bytes : List ℕ) (l : LogParts) (level : Level) (fault : IfileFault) → IsImageOf bytes l level
+    → (fault ≡ ifile_fault.Memory → ⊥)
     → IsIfileFaultOf (drop (ifile_place bytes) bytes) fault → ⊥
 no_tables bytes l level fault is other h =
     no_ifile (drop (ifile_place bytes) bytes) fault h other l.tables is.parts.formed (ifile_at bytes l level is)
@@ -186,44 +212,59 @@ level-most Secure = omega arith
 level-most HighlySecure = omega arith
 
 -- bytes with a fault, but for want of memory, are the image of no labelled log that a store may stand on
-no_fault : (bytes : List ℕ) (fault : ImageFault) → IsImageFaultOf bytes fault → (fault ≡ Memory → ⊥) → (l : LogParts) (level : Level)
+no_fault : (bytes : List ℕ) (fault : ImageFault) → IsImageFaultOf bytes fault → (fault ≡ Memory → ⊥)
+    → (l : LogParts) (level : Level)
     → IsStored l → IsLabelled l → IsImageOf bytes l level → ⊥
-no_fault bytes Short (inl few) other l level s label is = let long = length_is bytes l level is in absurd (omega (arith, few))
-no_fault bytes Short (inr few) other l level s label is = let long = length_is bytes l level is in absurd (omega (arith, few))
-no_fault bytes Long many other l level s label is = let long = length_is bytes l level is in absurd (omega (arith, many))
+no_fault bytes Short (inl few) other l level s label is = let long = length_is bytes l level is in
+    absurd (omega (arith, few))
+no_fault bytes Short (inr few) other l level s label is = let long = length_is bytes l level is in
+    absurd (omega (arith, few))
+no_fault bytes Long many other l level s label is = let long = length_is bytes l level is in
+    absurd (omega (arith, many))
 no_fault bytes Mark h other l level s label is = h (reads_head bytes l level is).mark
 no_fault bytes Form h other l level s label is = h (reads_head bytes l level is).form
 no_fault bytes (Segments number) (e, inl low) other l level s label is =
-    let same = (reads_head bytes l level is).segments in let least = (may_head l level is.parts).segments_least in absurd (omega (arith, low))
+    let same = (reads_head bytes l level is).segments in let least = (may_head l level is.parts).segments_least in
+    absurd (omega (arith, low))
 no_fault bytes (Segments number) (e, inr high) other l level s label is =
-    let same = (reads_head bytes l level is).segments in let most = (may_head l level is.parts).segments_most in absurd (omega (arith, high))
+    let same = (reads_head bytes l level is).segments in let most = (may_head l level is.parts).segments_most in
+    absurd (omega (arith, high))
 no_fault bytes (Inodes number) (e, inl low) other l level s label is =
-    let same = (reads_head bytes l level is).inodes in let least = (may_head l level is.parts).inodes_least in absurd (omega (arith, low))
+    let same = (reads_head bytes l level is).inodes in let least = (may_head l level is.parts).inodes_least in
+    absurd (omega (arith, low))
 no_fault bytes (Inodes number) (e, inr high) other l level s label is =
-    let same = (reads_head bytes l level is).inodes in let most = (may_head l level is.parts).inodes_most in absurd (omega (arith, high))
+    let same = (reads_head bytes l level is).inodes in let most = (may_head l level is.parts).inodes_most in
+    absurd (omega (arith, high))
 no_fault bytes (Active segment) (e, high) other l level s label is =
     let reads = reads_head bytes l level is in
-    let many = reads.segments in let same = reads.active in let inside = (may_head l level is.parts).active_inside in absurd (omega (arith, high))
+    let many = reads.segments in let same = reads.active in let inside = (may_head l level is.parts).active_inside in
+    absurd (omega (arith, high))
 no_fault bytes (Used blocks) (e, inl low) other l level s label is =
     let reads = reads_head bytes l level is in
     let begun : log_start (number_at bytes 16) ≤ l.memory.fill =
     subst (λ a. log_start a ≤ l.memory.fill) (sym reads.active) (may_head l level is.parts).begun in
     let same = reads.used in absurd (omega (arith, low))
 no_fault bytes (Used blocks) (e, inr high) other l level s label is =
-    let same = (reads_head bytes l level is).used in let within = (may_head l level is.parts).within in absurd (omega (arith, high))
+    let same = (reads_head bytes l level is).used in let within = (may_head l level is.parts).within in
+    absurd (omega (arith, high))
 no_fault bytes (Securelevel number) (e, high) other l level s label is =
     let same = (reads_head bytes l level is).level in let most = level-most level in absurd (omega (arith, high))
-no_fault bytes Gap h other l level s label is = h (head_of l level) (may_head l level is.parts) (head_at bytes l level is)
+no_fault bytes Gap h other l level s label is =
+    h (head_of l level) (may_head l level is.parts) (head_at bytes l level is)
 no_fault bytes IfileHead h other l level s label is = no_tables bytes l level ifile_fault.Head is (λ e. absurd (cc)) h
-no_fault bytes (IfileSegment segment) h other l level s label is = no_tables bytes l level (ifile_fault.Segment segment) is (λ e. absurd (cc)) h
-no_fault bytes (IfileRow number) h other l level s label is = no_tables bytes l level (ifile_fault.Row number) is (λ e. absurd (cc)) h
+no_fault bytes (IfileSegment segment) h other l level s label is =
+    no_tables bytes l level (ifile_fault.Segment segment) is (λ e. absurd (cc)) h
+no_fault bytes (IfileRow number) h other l level s label is =
+    no_tables bytes l level (ifile_fault.Row number) is (λ e. absurd (cc)) h
 no_fault bytes Apart h other l level s label is = not_apart bytes l level is h
-no_fault bytes Label (m, at, image, un) other l level s label is = un (subst IsLabelled (one_image bytes l m level at is image).0 label)
+no_fault bytes Label (m, at, image, un) other l level s label is =
+    un (subst IsLabelled (one_image bytes l m level at is image).0 label)
 no_fault bytes (Log fault) (not_memory, (m, at, image, bad)) other l level s label is =
     not_stored m fault bad not_memory 32 (subst IsStored (one_image bytes l m level at is image).0 s 32)
 no_fault bytes Memory h other l level s label is = other refl
 
-pub no_image : (bytes : List ℕ) (fault : ImageFault) → IsImageFaultOf bytes fault → (fault ≡ Memory → ⊥) → (l : LogParts) (level : Level)
+pub no_image : (bytes : List ℕ) (fault : ImageFault) → IsImageFaultOf bytes fault → (fault ≡ Memory → ⊥)
+    → (l : LogParts) (level : Level)
     → IsStored l → IsLabelled l → image_bytes l level ≡ bytes → ⊥
 no_image bytes fault h other l level s label spelled =
     let store = s 32 in

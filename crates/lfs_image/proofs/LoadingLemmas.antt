@@ -1,5 +1,6 @@
 -- An image from its pieces.
-use Rattle.std.proofs.Common.{◌≡◌, ℕ, ◌+◌, ◌*◌, ◌/◌, List, [], ◌∷◌, ◌++◌, length, take, drop, refl, sym, ap, subst, ◌∙◌, ◌-◌, arith, append_assoc}
+use Rattle.std.proofs.Common.{◌≡◌, ℕ, ◌+◌, ◌*◌, ◌/◌, List, [], ◌∷◌, ◌++◌, length, take, drop, refl, sym, ap, subst, ◌∙◌}
+use Rattle.std.proofs.Common.{◌-◌, arith, append_assoc}
 use Rattle.std.specs.List.{flat_map}
 use Rattle.std.proofs.lemmas.List.{drop-drop, take-append-drop, take_rest}
 use Rattle.std.proofs.lemmas.List.Concat.{flat_map-append}
@@ -15,7 +16,8 @@ use Rattle.lfs_image.specs.declared.head.Head.{Head}
 use Rattle.lfs_image.specs.Image.{IsImageOf, body_bytes, head_bytes, head_of, image_bytes}
 
 -- one more block
-again : (f block behind rest bytes : List ℕ) → rest ≡ block ++ behind → f ++ rest ≡ bytes → (f ++ (block ++ [])) ++ behind ≡ bytes
+again : (f block behind rest bytes : List ℕ) → rest ≡ block ++ behind → f ++ rest ≡ bytes → (f ++ (block ++ []))
+    ++ behind ≡ bytes
 again f block behind rest bytes split whole =
     rw append_assoc (rw (append_assoc block [] behind) (rw (sym split) whole))
 
@@ -24,11 +26,13 @@ pub block_more : (blocks : List (List ℕ)) (bytes block : List ℕ) (k : ℕ) �
     → flat_map (λ block. block) (blocks ++ block ∷ []) ++ drop (512 * (k + 1)) bytes ≡ bytes
 block_more blocks bytes block k is whole =
     let here : 512 * (k + 1) ≡ 512 * k + 512 = omega arith in
-    let further : drop 512 (drop (512 * k) bytes) ≡ drop (512 * (k + 1)) bytes = drop-drop 512 (512 * k) bytes ∙ ap (λ n. drop n bytes) (sym here) in
+    let further : drop 512 (drop (512 * k) bytes) ≡ drop (512 * (k + 1)) bytes = drop-drop 512 (512 * k) bytes
+    ∙ ap (λ n. drop n bytes) (sym here) in
     let split : drop (512 * k) bytes ≡ block ++ drop (512 * (k + 1)) bytes =
     rw (is, sym further) (sym (take-append-drop 512 (drop (512 * k) bytes))) in
     rw (flat_map-append (λ block. block) blocks (block ∷ []))
-    (again (flat_map (λ block. block) blocks) block (drop (512 * (k + 1)) bytes) (drop (512 * k) bytes) bytes split whole)
+    (again (flat_map (λ block. block) blocks) block (drop (512 * (k + 1)) bytes)
+    (drop (512 * k) bytes) bytes split whole)
 
 -- a log whose memory has these blocks and whose tables have so many rows is told by a head
 pub same_head : (l : LogParts) (h : Head) (blocks : List (List ℕ)) → l.memory ≡ seen blocks h.active h.used
@@ -45,10 +49,12 @@ same_body l tables blocks active used rest body memory is file whole = rw (memor
 
 -- blocks and what stands behind them are the bytes behind the head, which are read as some of the bytes
 pub blocks_whole : (bytes : List ℕ) (blocks : List (List ℕ)) (count : ℕ)
-    → flat_map (λ block. block) blocks ++ drop (512 * count) (take (length bytes - 512) (drop 512 bytes)) ≡ take (length bytes - 512) (drop 512 bytes)
+    → flat_map (λ block. block) blocks ++ drop (512 * count) (take (length bytes - 512) (drop 512 bytes))
+    ≡ take (length bytes - 512) (drop 512 bytes)
     → flat_map (λ block. block) blocks ++ drop (512 + 512 * count) bytes ≡ drop 512 bytes
 blocks_whole bytes blocks count whole =
-    let behind : drop (512 * count) (drop 512 bytes) ≡ drop (512 + 512 * count) bytes = drop-drop (512 * count) 512 bytes in
+    let behind : drop (512 * count) (drop 512 bytes)
+    ≡ drop (512 + 512 * count) bytes = drop-drop (512 * count) 512 bytes in
     subst (λ rest. flat_map (λ block. block) blocks ++ rest ≡ drop 512 bytes) behind
     (subst (λ body. flat_map (λ block. block) blocks ++ drop (512 * count) body ≡ body) (take_rest bytes 512) whole)
 
@@ -56,15 +62,18 @@ blocks_whole bytes blocks count whole =
 join : (a b x y bytes : List ℕ) → a ≡ x → b ≡ y → x ++ y ≡ bytes → a ++ b ≡ bytes
 join a b x y bytes p q whole = rw (p, q) whole
 
-same_image : (l : LogParts) (level : Level) (h : Head) (bytes : List ℕ) → take 512 bytes ≡ head_bytes h → head_of l level ≡ h
+same_image : (l : LogParts) (level : Level) (h : Head) (bytes : List ℕ) → take 512 bytes ≡ head_bytes h
+    → head_of l level ≡ h
     → body_bytes l ≡ drop 512 bytes → image_bytes l level ≡ bytes
 same_image l level h bytes told same body =
     join (head_bytes (head_of l level)) (body_bytes l) (take 512 bytes) (drop 512 bytes) bytes
     (ap head_bytes same ∙ sym told) body (take-append-drop 512 bytes)
 
-pub image_of : (l : LogParts) (h : Head) (bytes : List ℕ) → IsParts l → take 512 bytes ≡ head_bytes h → head_of l h.level ≡ h
+pub image_of : (l : LogParts) (h : Head) (bytes : List ℕ) → IsParts l → take 512 bytes ≡ head_bytes h
+    → head_of l h.level ≡ h
     → body_bytes l ≡ drop 512 bytes → IsImageOf bytes l h.level
-image_of l h bytes parts told same body = record { parts = parts; spelled = same_image l h.level h bytes told same body }
+image_of l h bytes parts told same body =
+    record { parts = parts; spelled = same_image l h.level h bytes told same body }
 
 -- parts by their fields
 pub stored_parts : (p : Parts) (l : LogParts) (frames : ℕ) → p.log ≡ l → p.cache ≡ nothing_in frames → p.waiting ≡ []

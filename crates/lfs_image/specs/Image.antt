@@ -15,7 +15,8 @@ level_word Insecure = 1
 level_word Secure = 2
 level_word HighlySecure = 3
 
--- The head, one block: LFSI, the form, how many segments and inode numbers there are, the active segment and how many of
+-- The head, one block: LFSI, the form, how many segments and inode numbers there are, the active segment and how many
+-- of
 -- its blocks are used, and the securelevel; zeros fill it up.
 unfoldable pub head_bytes : Head → List ℕ
 head_bytes h =

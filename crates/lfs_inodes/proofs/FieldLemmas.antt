@@ -1,5 +1,6 @@
 -- The bounds of what is read of a record.
-use Rattle.std.proofs.Common.{◌≡◌, ℕ, Bool, true, false, cond, List, [], ◌∷◌, ◌++◌, slice_index, take, refl, sym, ap, subst, ◌∙◌, arith, inl, inr}
+use Rattle.std.proofs.Common.{◌≡◌, ℕ, Bool, true, false, cond, List, [], ◌∷◌, ◌++◌, slice_index, take, refl, sym, ap}
+use Rattle.std.proofs.Common.{subst, ◌∙◌, arith, inl, inr}
 use Rattle.std.specs.Prelude.{Some, None}
 use Rattle.std.proofs.lemmas.Bool.{cases_lt, cases_eq, cond-false, ne_eqb}
 use Rattle.std.proofs.lemmas.List.{take_at}
@@ -12,7 +13,8 @@ use Rattle.lfs_inodes.specs.Facts.{block_count}
 use Rattle.lfs_inodes.specs.Bytes.{number_at}
 use Rattle.lfs_inodes.specs.Record.{IsKindCode, IsRecord}
 use Rattle.lfs_inodes.specs.Reading.{AreFields, Fields, fields_as, fields_in, fields_of, is_record, read}
-use Rattle.lfs_inodes.proofs.AddressLemmas.{length-addresses, slice_index-direct, slice_index-double, slice_index-single}
+use Rattle.lfs_inodes.proofs.AddressLemmas.{length-addresses, slice_index-direct, slice_index-double}
+use Rattle.lfs_inodes.proofs.AddressLemmas.{slice_index-single}
 use Rattle.lfs_inodes.proofs.FieldTests.{record_decides}
 use Rattle.lfs_inodes.proofs.FieldsRead.{fields_in-by_kind, fields_in-is, made, made-record}
 use Rattle.lfs_inodes.proofs.SameInode.{same_inode}
@@ -34,19 +36,25 @@ AreFields-fields_of v = record {
     ]
   ];
   within = λ n lt past. elim (cases_lt n 12) [
-    | inl direct ↦ slice_index-direct v n direct ∙ (v.addressed n direct).1 (subst (λ m. block_count v.size ≤ m) (cond-false _ _ _ (ne_eqb n 13 (λ e. omega arith))) past)
+    | inl direct ↦ slice_index-direct v n direct
+        ∙ (v.addressed n direct).1 (subst (λ m. block_count v.size ≤ m)
+        (cond-false _ _ _ (ne_eqb n 13 (λ e. omega arith))) past)
     | inr high ↦ elim (cases_eq n 12) [
-      | inl same ↦ rw (same, slice_index-single v) (v.indirect.1 (subst (λ m. block_count v.size ≤ first_at m) same past))
-      | inr ne ↦ let last : n ≡ 13 = omega arith in rw (last, slice_index-double v) (v.doubled.1 (subst (λ m. block_count v.size ≤ first_at m) last past))
+      | inl same ↦ rw (same, slice_index-single v)
+          (v.indirect.1 (subst (λ m. block_count v.size ≤ first_at m) same past))
+      | inr ne ↦ let last : n ≡ 13 = omega arith in
+          rw (last, slice_index-double v) (v.doubled.1 (subst (λ m. block_count v.size ≤ first_at m) last past))
     ]
   ];
 }
 
-passes : (kind : Kind) (bytes : List ℕ) (f : Fields) (b : Bool) → is_record kind bytes ≡ b → cond b (Some (read kind bytes)) None ≡ Some f → is_record kind bytes ≡ true
+passes : (kind : Kind) (bytes : List ℕ) (f : Fields) (b : Bool) → is_record kind bytes ≡ b
+    → cond b (Some (read kind bytes)) None ≡ Some f → is_record kind bytes ≡ true
 passes kind bytes f true e h = e
 passes kind bytes f false e h = cc
 
-inode_as : (kind : Kind) (bytes : List ℕ) (f : Fields) → IsKindCode (number_at bytes 2 2) kind → fields_as kind bytes ≡ Some f → (v : Inode) × IsRecord bytes v
+inode_as : (kind : Kind) (bytes : List ℕ) (f : Fields) → IsKindCode (number_at bytes 2 2) kind → fields_as kind bytes
+    ≡ Some f → (v : Inode) × IsRecord bytes v
 inode_as kind bytes f code e =
     let h = (record_decides kind bytes).0 (passes kind bytes f (is_record kind bytes) refl e) in
     (made kind bytes h, made-record kind bytes code h)
@@ -59,7 +67,10 @@ inode_in bytes f e = elim (cases_eq (number_at bytes 2 2) 1) [
   | inr other ↦ elim (cases_eq (number_at bytes 2 2) 2) [
     | inl directory ↦ inode_as Directory bytes f directory (sym (fields_in-by_kind Directory bytes directory) ∙ e)
     | inr neither ↦
-        let none : fields_in bytes ≡ None = rw (ne_eqb (number_at bytes 2 2) 1 other, ne_eqb (number_at bytes 2 2) 2 neither) refl in
+        let none : fields_in bytes ≡ None = rw (
+          ne_eqb (number_at bytes 2 2) 1 other,
+          ne_eqb (number_at bytes 2 2) 2 neither,
+        ) refl in
         cc
   ]
 ]
@@ -74,11 +85,13 @@ AreFields-fields_in bytes f e =
 -- an inode is its fields
 pub fields_of-one : (v w : Inode) → fields_of v ≡ fields_of w → v ≡ w
 fields_of-one v w same =
-    let addresses : v.direct ++ v.single ∷ v.double ∷ [] ≡ w.direct ++ w.single ∷ w.double ∷ [] = ap (λ f. f.addresses) same in
+    let addresses : v.direct ++ v.single ∷ v.double ∷ [] ≡ w.direct ++ w.single ∷ w.double
+    ∷ [] = ap (λ f. f.addresses) same in
     same_inode v w
     (ap (λ f. f.attributes.kind) same) (ap (λ f. f.attributes.number) same) (ap (λ f. f.attributes.version) same)
     (ap (λ f. f.attributes.owner) same) (ap (λ f. f.attributes.group) same) (ap (λ f. f.attributes.mode) same)
     (ap (λ f. f.attributes.flags) same) (ap (λ f. f.attributes.size) same)
-    (sym (take_at v.direct (v.single ∷ v.double ∷ []) 12 v.whole) ∙ ap (take 12) addresses ∙ take_at w.direct (w.single ∷ w.double ∷ []) 12 w.whole)
+    (sym (take_at v.direct (v.single ∷ v.double ∷ []) 12 v.whole) ∙ ap (take 12) addresses
+    ∙ take_at w.direct (w.single ∷ w.double ∷ []) 12 w.whole)
     (sym (slice_index-single v) ∙ ap (λ xs. slice_index xs 12) addresses ∙ slice_index-single w)
     (sym (slice_index-double v) ∙ ap (λ xs. slice_index xs 13) addresses ∙ slice_index-double w)

@@ -16,7 +16,8 @@ use Rattle.lfs_inodes.proofs.Cells.{length-numbers, slice_index-numbers}
 use Rattle.lfs_inodes.specs.Slots.{slot_of}
 use Rattle.lfs_inodes.proofs.FourSlots.{slot_of-zeros}
 use Rattle.lfs_inodes.proofs.Grammar.{zeros_no_record}
-use Rattle.lfs_inodes.proofs.AddressLemmas.{length-addresses, slice_index-direct, slice_index-double, slice_index-single}
+use Rattle.lfs_inodes.proofs.AddressLemmas.{length-addresses, slice_index-direct, slice_index-double}
+use Rattle.lfs_inodes.proofs.AddressLemmas.{slice_index-single}
 use Rattle.lfs_inodes.proofs.FieldTests.{Holds, record_decides}
 
 -- the tests pass on a record
@@ -38,11 +39,13 @@ Holds-from_record bytes v h = record {
 
 -- the addresses stand side by side
 addresses-read : (bytes : List ℕ) (v : Inode) → HasAddresses bytes v → numbers bytes 36 14 ≡ addresses v
-addresses-read bytes v h = ext_get_or 0 (numbers bytes 36 14) (addresses v) (length-numbers bytes 36 14 ∙ sym (length-addresses v)) each
+addresses-read bytes v h = ext_get_or 0 (numbers bytes 36 14) (addresses v) (length-numbers bytes 36 14
+    ∙ sym (length-addresses v)) each
   where
     each : (k : ℕ) → k < length (numbers bytes 36 14) → get_or (numbers bytes 36 14) k 0 ≡ get_or (addresses v) k 0
     each k lt = elim (cases_lt k 12) [
-      | inl direct ↦ slice_index-numbers bytes 36 14 k (omega arith) ∙ h.direct k direct ∙ sym (slice_index-direct v k direct)
+      | inl direct ↦ slice_index-numbers bytes 36 14 k (omega arith) ∙ h.direct k direct
+          ∙ sym (slice_index-direct v k direct)
       | inr past ↦ elim (cases_eq k 12) [
         | inl same ↦ rw same (slice_index-numbers bytes 36 14 12 (omega arith) ∙ h.single ∙ sym (slice_index-single v))
         | inr ne ↦
@@ -69,9 +72,11 @@ read-is bytes v h = λ i. record {
 }
 
 fields_as-is : (bytes : List ℕ) (v : Inode) → IsRecord bytes v → fields_as v.kind bytes ≡ Some (fields_of v)
-fields_as-is bytes v h = rw ((record_decides v.kind bytes).1 (Holds-from_record bytes v h)) (ap Some (read-is bytes v h))
+fields_as-is bytes v h = rw ((record_decides v.kind bytes).1 (Holds-from_record bytes v h))
+    (ap Some (read-is bytes v h))
 
-pub fields_in-by_kind : (kind : Kind) (bytes : List ℕ) → IsKindCode (number_at bytes 2 2) kind → fields_in bytes ≡ fields_as kind bytes
+pub fields_in-by_kind : (kind : Kind) (bytes : List ℕ) → IsKindCode (number_at bytes 2 2) kind → fields_in bytes
+    ≡ fields_as kind bytes
 unfolding fields_in
 fields_in-by_kind File bytes e = rw (eq-eqb (number_at bytes 2 2) 1 e) refl
 fields_in-by_kind Directory bytes e =
@@ -106,7 +111,8 @@ made kind bytes h = record {
   doubled = h.double;
 }
 
-pub made-record : (kind : Kind) (bytes : List ℕ) → IsKindCode (number_at bytes 2 2) kind → (h : Holds kind bytes) → IsRecord bytes (made kind bytes h)
+pub made-record : (kind : Kind) (bytes : List ℕ) → IsKindCode (number_at bytes 2 2) kind → (h : Holds kind bytes)
+    → IsRecord bytes (made kind bytes h)
 unfolding made
 made-record kind bytes e h = record {
   whole = h.whole;
@@ -121,7 +127,8 @@ made-record kind bytes e h = record {
   };
 }
 
-no_fields : (kind : Kind) (bytes : List ℕ) → IsKindCode (number_at bytes 2 2) kind → ((v : Inode) → IsRecord bytes v → ⊥) → fields_as kind bytes ≡ None
+no_fields : (kind : Kind) (bytes : List ℕ) → IsKindCode (number_at bytes 2 2) kind
+    → ((v : Inode) → IsRecord bytes v → ⊥) → fields_as kind bytes ≡ None
 no_fields kind bytes e none = rw (false_from_ne_true (is_record kind bytes) (λ passes.
     let h = (record_decides kind bytes).0 passes in none (made kind bytes h) (made-record kind bytes e h))) refl
 
@@ -137,7 +144,8 @@ fields_in-none bytes none = elim (cases_eq (number_at bytes 2 2) 1) [
 ]
 
 -- an answer that is in the grammar is what is read
-pub fields_in-answer : (bytes : List ℕ) (answer : Option Inode) → IfSome answer (λ v. IsRecord bytes v) → IfNone answer ((v : Inode) → IsRecord bytes v → ⊥)
+pub fields_in-answer : (bytes : List ℕ) (answer : Option Inode) → IfSome answer (λ v. IsRecord bytes v)
+    → IfNone answer ((v : Inode) → IsRecord bytes v → ⊥)
     → option_map fields_of answer ≡ fields_in bytes
 fields_in-answer bytes None found none = sym (fields_in-none bytes none)
 fields_in-answer bytes (Some v) found none = sym (fields_in-is bytes v found)

@@ -1,7 +1,9 @@
 -- The four slots of an inode block.
-use Rattle.std.proofs.Common.{◌≡◌, ◌≢◌, ℕ, zero, suc, ◌+◌, ◌-◌, ◌*◌, ◌<◌, List, [], ◌++◌, length, get_or, take, drop, set, replicate, refl, sym, ap, ◌∙◌, arith, inl, inr}
+use Rattle.std.proofs.Common.{◌≡◌, ◌≢◌, ℕ, zero, suc, ◌+◌, ◌-◌, ◌*◌, ◌<◌, List, [], ◌++◌, length, get_or, take, drop}
+use Rattle.std.proofs.Common.{set, replicate, refl, sym, ap, ◌∙◌, arith, inl, inr}
 use Rattle.std.proofs.lemmas.Bool.{cases_lt, cases_eq}
-use Rattle.std.proofs.lemmas.List.{take-replicate, drop-replicate, drop-take, drop_at, take_at, ext_get_or, length-take-le, length-set, get_or-set_same, get_or-set_other}
+use Rattle.std.proofs.lemmas.List.{take-replicate, drop-replicate, drop-take, drop_at, take_at, ext_get_or}
+use Rattle.std.proofs.lemmas.List.{length-take-le, length-set, get_or-set_same, get_or-set_other}
 use Rattle.std.proofs.lemmas.Slice.{take-put_mid_below, drop-put_mid}
 use borrow.Rule.Slice.PartMut.{put_mid}
 use Rattle.lfs_types.specs.Blocks.{zero_block}
@@ -24,12 +26,16 @@ get_or-slots block (suc (suc (suc zero))) lt = refl
 get_or-slots block (suc (suc (suc (suc j)))) lt = absurd (omega arith)
 
 -- a block is its slots
-slot_of-same : (old new : List ℕ) (i : ℕ) (part : List ℕ) → i < 4 → slot_of new i ≡ part → ((j : ℕ) → j < 4 → j ≢ i → slot_of new j ≡ slot_of old j)
+slot_of-same : (old new : List ℕ) (i : ℕ) (part : List ℕ) → i < 4 → slot_of new i ≡ part
+    → ((j : ℕ) → j < 4 → j ≢ i → slot_of new j ≡ slot_of old j)
     → slots new ≡ set (slots old) i part
-slot_of-same old new i part lt here there = ext_get_or [] (slots new) (set (slots old) i part) (sym (length-set (slots old) i part)) (λ j within. elim (cases_eq j i) [
-  | inl same ↦ rw same (get_or-slots new i lt ∙ here ∙ sym (get_or-set_same (slots old) i part [] lt))
-  | inr other ↦ get_or-slots new j within ∙ there j within other ∙ sym (get_or-set_other (slots old) i j part [] other ∙ get_or-slots old j within)
-])
+slot_of-same old new i part lt here there =
+    ext_get_or [] (slots new) (set (slots old) i part) (sym (length-set (slots old) i part))
+    (λ j within. elim (cases_eq j i) [
+      | inl same ↦ rw same (get_or-slots new i lt ∙ here ∙ sym (get_or-set_same (slots old) i part [] lt))
+      | inr other ↦ get_or-slots new j within ∙ there j within other
+          ∙ sym (get_or-set_other (slots old) i j part [] other ∙ get_or-slots old j within)
+    ])
 
 -- a write to one slot
 pub slots-put : (old part : List ℕ) (i n : ℕ) → length old ≡ 512 → length part ≡ 128 → i < 4 → n ≡ 128
@@ -42,7 +48,8 @@ slots-put old part i n whole wide lt e = rw e (slot_of-same old new i part lt he
 
     here : take 128 (drop (128 * i) new) ≡ part
     here =
-        ap (take 128) (drop_at (take (128 * i) old) (part ++ drop 128 (drop (128 * i) old)) (128 * i) (length-take-le (128 * i) old (omega arith)))
+        ap (take 128) (drop_at (take (128 * i) old) (part ++ drop 128 (drop (128 * i) old)) (128 * i)
+        (length-take-le (128 * i) old (omega arith)))
         ∙ take_at part (drop 128 (drop (128 * i) old)) 128 wide
 
     below : (j : ℕ) → j < i → take 128 (drop (128 * j) new) ≡ take 128 (drop (128 * j) old)

@@ -12,19 +12,24 @@ use Rattle.lfs_inodes.proofs.Numbers.{number_at-same, number_at-one}
 use Rattle.lfs_inodes.proofs.SameInode.{same_inode}
 
 -- a part of a stretch that agrees
-pub SameBetween-within : (xs ys : List ℕ) (from end low high : ℕ) → SameBetween xs ys from end → from ≤ low → high ≤ end → SameBetween xs ys low high
+pub SameBetween-within : (xs ys : List ℕ) (from end low high : ℕ) → SameBetween xs ys from end → from ≤ low → high ≤ end
+    → SameBetween xs ys low high
 SameBetween-within xs ys from end low high same p q k above below = same k (omega arith) (omega arith)
 
 -- two stretches, one after the other
-SameBetween-join : (xs ys : List ℕ) (from mid end : ℕ) → SameBetween xs ys from mid → SameBetween xs ys mid end → SameBetween xs ys from end
-SameBetween-join xs ys from mid end first second k low high = elim (cases_lt k mid) [ inl below ↦ first k low below | inr above ↦ second k above high ]
+SameBetween-join : (xs ys : List ℕ) (from mid end : ℕ) → SameBetween xs ys from mid → SameBetween xs ys mid end
+    → SameBetween xs ys from end
+SameBetween-join xs ys from mid end first second k low high =
+    elim (cases_lt k mid) [ inl below ↦ first k low below | inr above ↦ second k above high ]
 
 -- stretches of zeros
-SameBetween-zero : (xs ys : List ℕ) (from end : ℕ) → AreZero xs from end → AreZero ys from end → SameBetween xs ys from end
+SameBetween-zero : (xs ys : List ℕ) (from end : ℕ) → AreZero xs from end → AreZero ys from end
+    → SameBetween xs ys from end
 SameBetween-zero xs ys from end p q k low high = p k low high ∙ sym (q k low high)
 
 -- `count` stretches of 4 bytes, one after the other
-pub SameBetween-cells : (xs ys : List ℕ) (at count : ℕ) → ((n : ℕ) → n < count → SameBetween xs ys (at + 4 * n) (at + 4 * n + 4)) → SameBetween xs ys at (at + 4 * count)
+pub SameBetween-cells : (xs ys : List ℕ) (at count : ℕ)
+    → ((n : ℕ) → n < count → SameBetween xs ys (at + 4 * n) (at + 4 * n + 4)) → SameBetween xs ys at (at + 4 * count)
 SameBetween-cells xs ys at zero cells k low high = absurd (omega arith)
 SameBetween-cells xs ys at (suc count) cells k low high = elim (cases_lt k (at + 4 * count)) [
   | inl below ↦ SameBetween-cells xs ys at count (λ n lt. cells n (omega arith)) k low below
@@ -32,11 +37,14 @@ SameBetween-cells xs ys at (suc count) cells k low high = elim (cases_lt k (at +
 ]
 
 -- a number within a stretch that agrees
-pub number_at-within : (xs ys : List ℕ) (from end at n : ℕ) → SameBetween xs ys from end → from ≤ at → at + n ≤ end → number_at xs at n ≡ number_at ys at n
-number_at-within xs ys from end at n same low high = number_at-same xs ys at n (SameBetween-within xs ys from end at (at + n) same low high)
+pub number_at-within : (xs ys : List ℕ) (from end at n : ℕ) → SameBetween xs ys from end → from ≤ at → at + n ≤ end
+    → number_at xs at n ≡ number_at ys at n
+number_at-within xs ys from end at n same low high =
+    number_at-same xs ys at n (SameBetween-within xs ys from end at (at + n) same low high)
 
 -- a write leaves the numbers before it
-pub number_at-before : (old new : List ℕ) (at n number i w : ℕ) → Puts old new at n number → i + w ≤ at → number_at new i w ≡ number_at old i w
+pub number_at-before : (old new : List ℕ) (at n number i w : ℕ) → Puts old new at n number → i + w ≤ at
+    → number_at new i w ≡ number_at old i w
 number_at-before old new at n number i w p below = number_at-within new old 0 at i w p.below (omega arith) below
 
 -- the parts of a record depend on their own bytes alone
@@ -47,7 +55,8 @@ HasIdentity-same xs ys v same h = record {
   version = number_at-within ys xs 0 12 8 4 same (omega arith) (omega arith) ∙ h.version;
 }
 
-pub HasAttributes-same : (xs ys : List ℕ) (v : Inode) → SameBetween ys xs 12 36 → HasAttributes xs v → HasAttributes ys v
+pub HasAttributes-same : (xs ys : List ℕ) (v : Inode) → SameBetween ys xs 12 36 → HasAttributes xs v
+    → HasAttributes ys v
 HasAttributes-same xs ys v same h = record {
   owner = number_at-within ys xs 12 36 12 4 same (omega arith) (omega arith) ∙ h.owner;
   group = number_at-within ys xs 12 36 16 4 same (omega arith) (omega arith) ∙ h.group;
@@ -85,8 +94,10 @@ IsRecord-one bytes v w p q = same_inode v w
     (sym p.addresses.double ∙ q.addresses.double)
 
 -- an inode has one record of a version
-pub IsRecord-same : (xs ys : List ℕ) (v : Inode) → AreBytes xs → AreBytes ys → number_at xs 0 2 ≡ number_at ys 0 2 → IsRecord xs v → IsRecord ys v → xs ≡ ys
-IsRecord-same xs ys v p q version a b = ext_get_or 0 xs ys (a.whole ∙ sym b.whole) (λ k lt. whole k (omega arith) (omega (arith, a.whole)))
+pub IsRecord-same : (xs ys : List ℕ) (v : Inode) → AreBytes xs → AreBytes ys → number_at xs 0 2 ≡ number_at ys 0 2
+    → IsRecord xs v → IsRecord ys v → xs ≡ ys
+IsRecord-same xs ys v p q version a b = ext_get_or 0 xs ys (a.whole ∙ sym b.whole)
+    (λ k lt. whole k (omega arith) (omega (arith, a.whole)))
   where
     at : (i n : ℕ) → number_at xs i n ≡ number_at ys i n → SameBetween xs ys i (i + n)
     at i n e = number_at-one xs ys i n p q e
@@ -115,7 +126,8 @@ IsRecord-same xs ys v p q version a b = ext_get_or 0 xs ys (a.whole ∙ sym b.wh
     whole : SameBetween xs ys 0 128
     whole =
         then 92 128 (then 88 92 (then 84 88 (then 36 84 attributes
-        (SameBetween-cells xs ys 36 12 (λ n lt. at (36 + 4 * n) 4 (a.addresses.direct n lt ∙ sym (b.addresses.direct n lt)))))
+        (SameBetween-cells xs ys 36 12 (λ n lt. at (36 + 4 * n) 4 (a.addresses.direct n lt
+        ∙ sym (b.addresses.direct n lt)))))
         (at 84 4 (a.addresses.single ∙ sym b.addresses.single)))
         (at 88 4 (a.addresses.double ∙ sym b.addresses.double)))
         (SameBetween-zero xs ys 92 128 a.addresses.unnamed b.addresses.unnamed)

@@ -1,7 +1,9 @@
 -- Numbers of any width at places of a list of bytes.
-use Rattle.std.proofs.Common.{◌≡◌, ℕ, zero, suc, ◌+◌, ◌-◌, ◌^◌, ◌<◌, ◌≤◌, List, [], ◌++◌, length, take, drop, get_or, slice_index, refl, sym, ap, subst, ◌∙◌, arith, inl, inr}
+use Rattle.std.proofs.Common.{◌≡◌, ℕ, zero, suc, ◌+◌, ◌-◌, ◌^◌, ◌<◌, ◌≤◌, List, [], ◌++◌, length, take, drop, get_or}
+use Rattle.std.proofs.Common.{slice_index, refl, sym, ap, subst, ◌∙◌, arith, inl, inr}
 use Rattle.std.proofs.lemmas.Bool.{cases_lt}
-use Rattle.std.proofs.lemmas.List.{get_or-drop, get_or-take, get_or_append_left, get_or-append_right, append-nil, drop_all, drop_at, take_rest, length-append, length-drop, length-take-le, drop-drop}
+use Rattle.std.proofs.lemmas.List.{get_or-drop, get_or-take, get_or_append_left, get_or-append_right, append-nil}
+use Rattle.std.proofs.lemmas.List.{drop_all, drop_at, take_rest, length-append, length-drop, length-take-le, drop-drop}
 use Rattle.std.proofs.lemmas.Nat.{same_from_place}
 use Rattle.std.specs.Int.{bytes_high_first}
 use borrow.Rule.Slice.PartMut.{put_mid}
@@ -28,7 +30,8 @@ big_from-same : (i n : ℕ) (xs ys : List ℕ) → SameBetween xs ys i (i + n) �
 big_from-same i zero xs ys same = refl
 big_from-same i (suc n) xs ys same =
     let byte : slice_index xs i ≡ slice_index ys i = same i (omega arith) (omega arith) in
-    let rest : big_from (suc i) n xs ≡ big_from (suc i) n ys = big_from-same (suc i) n xs ys (λ k low high. same k (omega arith) (omega arith)) in
+    let rest : big_from (suc i) n xs ≡ big_from (suc i) n ys =
+    big_from-same (suc i) n xs ys (λ k low high. same k (omega arith) (omega arith)) in
     rw (byte, rest) refl
 
 -- a number depends on its own bytes alone
@@ -36,10 +39,12 @@ pub number_at-same : (xs ys : List ℕ) (at n : ℕ) → SameBetween xs ys at (a
 unfolding number_at
 number_at-same xs ys at n same = big_from-same at n xs ys same
 
-big_from-one : (i n : ℕ) (xs ys : List ℕ) → AreBytes xs → AreBytes ys → big_from i n xs ≡ big_from i n ys → SameBetween xs ys i (i + n)
+big_from-one : (i n : ℕ) (xs ys : List ℕ) → AreBytes xs → AreBytes ys → big_from i n xs ≡ big_from i n ys
+    → SameBetween xs ys i (i + n)
 big_from-one i zero xs ys p q e = λ k low high. absurd (omega arith)
 big_from-one i (suc n) xs ys p q e =
-    let parts = same_from_place (slice_index xs i) (big_from (suc i) n xs) (slice_index ys i) (big_from (suc i) n ys) (256 ^ n) (big_from-lt (suc i) n xs p) (big_from-lt (suc i) n ys q) e in
+    let parts = same_from_place (slice_index xs i) (big_from (suc i) n xs) (slice_index ys i) (big_from (suc i) n ys)
+    (256 ^ n) (big_from-lt (suc i) n xs p) (big_from-lt (suc i) n ys q) e in
     let rest = big_from-one (suc i) n xs ys p q parts.1 in
     λ k low high. elim (cases_lt i k) [
       | inl above ↦ rest k (omega arith) (omega arith)
@@ -47,7 +52,8 @@ big_from-one i (suc n) xs ys p q e =
     ]
 
 -- bytes that spell one number in one width are one
-pub number_at-one : (xs ys : List ℕ) (at n : ℕ) → AreBytes xs → AreBytes ys → number_at xs at n ≡ number_at ys at n → SameBetween xs ys at (at + n)
+pub number_at-one : (xs ys : List ℕ) (at n : ℕ) → AreBytes xs → AreBytes ys → number_at xs at n ≡ number_at ys at n
+    → SameBetween xs ys at (at + n)
 unfolding number_at
 number_at-one xs ys at n p q e = big_from-one at n xs ys p q e
 
@@ -61,7 +67,14 @@ Puts-from_parts : (old : List ℕ) (at n number : ℕ) → at + n ≤ length old
     → Puts old (take at old ++ (bytes_high_first n number ++ drop (at + n) old)) at n number
 unfolding number_at
 Puts-from_parts old at n number room fits bytes = record {
-  same_length = omega (arith, length-append (take at old) rest, length-append part (drop (at + n) old), front, wide, length-drop (at + n) old);
+  same_length = omega (
+    arith,
+    length-append (take at old) rest,
+    length-append part (drop (at + n) old),
+    front,
+    wide,
+    length-drop (at + n) old,
+  );
   bytes = bytes;
   written = written;
   below = λ k low high. get_or_append_left (take at old) rest 0 k (omega (arith, front)) ∙ get_or-take at old k 0 high;
@@ -99,9 +112,12 @@ pub Puts-from_write : (old part : List ℕ) (at n number : ℕ) → at + n ≤ l
     → AreBytes (put_mid at (length old - at) old part)
     → Puts old (put_mid at (length old - at) old part) at n number
 Puts-from_write old part at n number room fits e bytes =
-    let rest : drop n (take (length old - at) (drop at old)) ≡ drop (at + n) old = ap (drop n) (take_rest old at) ∙ drop-drop n at old in
-    let after : drop (length old - at) (drop at old) ≡ [] = drop_all (length old - at) (drop at old) (omega (arith, length-drop at old)) in
-    let parts : put_mid at (length old - at) old part ≡ take at old ++ (bytes_high_first n number ++ drop (at + n) old) =
+    let rest : drop n (take (length old - at) (drop at old)) ≡ drop (at + n) old = ap (drop n) (take_rest old at)
+    ∙ drop-drop n at old in
+    let after : drop (length old - at) (drop at old)
+    ≡ [] = drop_all (length old - at) (drop at old) (omega (arith, length-drop at old)) in
+    let parts : put_mid at (length old - at) old part ≡ take at old
+    ++ (bytes_high_first n number ++ drop (at + n) old) =
     rw (e, rest, after, append-nil) refl in
     subst (λ (new : List ℕ). Puts old new at n number) (sym parts)
     (Puts-from_parts old at n number room fits (subst (λ (new : List ℕ). AreBytes new) parts bytes))

@@ -6,8 +6,10 @@ use Rattle.lfs_inodes.specs.declared.inode.Inode.{Inode}
 use Rattle.lfs_types.specs.FlagNumbers.{IsKnown}
 use Rattle.lfs_inodes.specs.Facts.{IsInodeNumber, IsSizeOf, AreDirect, IsDouble, IsSingle}
 
-pub same_inode : (v w : Inode) → v.kind ≡ w.kind → v.number ≡ w.number → v.version ≡ w.version → v.owner ≡ w.owner → v.group ≡ w.group
-    → v.mode ≡ w.mode → v.flags ≡ w.flags → v.size ≡ w.size → v.direct ≡ w.direct → v.single ≡ w.single → v.double ≡ w.double → v ≡ w
+pub same_inode : (v w : Inode) → v.kind ≡ w.kind → v.number ≡ w.number → v.version ≡ w.version → v.owner ≡ w.owner
+    → v.group ≡ w.group
+    → v.mode ≡ w.mode → v.flags ≡ w.flags → v.size ≡ w.size → v.direct ≡ w.direct → v.single ≡ w.single → v.double
+    ≡ w.double → v ≡ w
 same_inode v w kind number version owner group mode flags size direct single double = λ i. record {
   kind = kind i;
   number = number i;

@@ -1,8 +1,10 @@
 -- Where an inode's blocks lie: the addresses of its record, and those of its indirect blocks.
-use Rattle.std.specs.Prelude.{◌≡◌, ◌≤◌, ℕ, ◌+◌, ◌-◌, ◌*◌, ◌/◌, ◌%◌, ◌==◌, List, [], ◌∷◌, ◌++◌, length, map, replicate, slice_index, take, nat_lt, if◌then◌else◌}
+use Rattle.std.specs.Prelude.{◌≡◌, ◌≤◌, ℕ, ◌+◌, ◌-◌, ◌*◌, ◌/◌, ◌%◌, ◌==◌, List, [], ◌∷◌, ◌++◌, length, map, replicate}
+use Rattle.std.specs.Prelude.{slice_index, take, nat_lt, if◌then◌else◌}
 use Rattle.std.specs.List.{range_with_len}
 use Rattle.lfs_inodes.specs.declared.inode.Inode.{Inode}
-use Rattle.lfs_inodes.specs.declared.inode.TheConstants.{DIRECT_COUNT, DOUBLE_PLACE, ENTRY_COUNT, ROOT_COUNT, SINGLE_END}
+use Rattle.lfs_inodes.specs.declared.inode.TheConstants.{DIRECT_COUNT, DOUBLE_PLACE, ENTRY_COUNT, ROOT_COUNT}
+use Rattle.lfs_inodes.specs.declared.inode.TheConstants.{SINGLE_END}
 use Rattle.lfs_inodes.specs.Bytes.{number_at}
 
 -- the addresses that stand in the record: those of blocks 0 to 11, of the single and of the double indirect block
@@ -30,7 +32,8 @@ cells block = numbers block 0 128
 abbrev pub address_of : Inode → List ℕ → List ℕ → ℕ → ℕ
 address_of v single child n =
     if nat_lt n DIRECT_COUNT then slice_index (addresses v) n
-    else (if nat_lt n SINGLE_END then slice_index (cells single) (n - DIRECT_COUNT) else slice_index (cells child) ((n - SINGLE_END) % ENTRY_COUNT))
+    else (if nat_lt n SINGLE_END then slice_index (cells single) (n - DIRECT_COUNT)
+    else slice_index (cells child) ((n - SINGLE_END) % ENTRY_COUNT))
 
 -- two blocks under the double indirect block are under one child of it
 abbrev pub SameChild : ℕ → ℕ → Type 0

@@ -21,7 +21,8 @@ IsSizeOf kind size = (size ≤ FILE_BYTES) × (kind ≡ Directory → size % BLO
 
 -- direct addresses lie in the volume, and only blocks below the size have one
 abbrev pub AreDirect : ℕ → List ℕ → Type 0
-AreDirect size direct = (n : ℕ) → n < DIRECT_COUNT → (slice_index direct n < ADDRESS_LIMIT) × (block_count size ≤ n → slice_index direct n ≡ 0)
+AreDirect size direct = (n : ℕ) → n < DIRECT_COUNT → (slice_index direct n < ADDRESS_LIMIT)
+    × (block_count size ≤ n → slice_index direct n ≡ 0)
 
 -- so does the address of the indirect block, which is there for the blocks from 12 on
 abbrev pub IsSingle : ℕ → ℕ → Type 0

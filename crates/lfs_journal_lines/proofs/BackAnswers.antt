@@ -8,7 +8,8 @@ use Rattle.std.proofs.lemmas.Slice.Eq.{bytes_eq-Decides}
 use Rattle.lfs_types.specs.RuleCodes.{error_name, rule_code, rule_error}
 use Rattle.lfs_types.specs.declared.answer.Answer.{Answer}
 use Rattle.lfs_types.specs.declared.answer.Answer.TheVariants.{Served as Shows, Denied, Refused}
-use Rattle.lfs_types.specs.declared.answer.Resource.TheVariants.{NoMemory, NoSpace, NoInodes, DirectoryFull, JournalFull}
+use Rattle.lfs_types.specs.declared.answer.Resource.TheVariants.{NoMemory, NoSpace, NoInodes, DirectoryFull}
+use Rattle.lfs_types.specs.declared.answer.Resource.TheVariants.{JournalFull}
 use Rattle.lfs_types.specs.declared.answer.Served.TheVariants.{Stat, Bytes, Names, Done}
 use Rattle.lfs_types.specs.declared.attrs.Attrs.{Attrs}
 use Rattle.lfs_types.specs.declared.attrs.Kind.{Kind}
@@ -16,9 +17,14 @@ use Rattle.lfs_types.specs.declared.attrs.Kind.TheVariants.{File, Directory}
 use Rattle.lfs_types.specs.declared.cleaner.CleanFault.TheVariants as fault
 use Rattle.lfs_types.specs.declared.rule.Denial.{Denial}
 use Rattle.lfs_types.specs.declared.rule.Errno.{Errno}
-use Rattle.lfs_types.specs.declared.rule.Errno.TheVariants.{EPERM, ENOENT, EACCES, EBUSY, EEXIST, ENOTDIR, EISDIR, EINVAL, EFBIG, ENOTEMPTY}
+use Rattle.lfs_types.specs.declared.rule.Errno.TheVariants.{EPERM, ENOENT, EACCES, EBUSY, EEXIST, ENOTDIR, EISDIR}
+use Rattle.lfs_types.specs.declared.rule.Errno.TheVariants.{EINVAL, EFBIG, ENOTEMPTY}
 use Rattle.lfs_types.specs.declared.rule.Rule.{Rule}
-use Rattle.lfs_types.specs.declared.rule.Rule.TheVariants.{IsDirectory, GrantsSearch, NameThere, NameFree, IsNoDirectory, IsEmpty, IsNotRoot, IsNotBeneathItself, IsMutable, IsNotAppendOnly, GrantsRead, GrantsWrite, PassesSticky, IsOwner, MaySetOwner, IsSuperuser, MaySetFlags, KeepsSystemLocks, MaySetLevel, FitsFile}
+use Rattle.lfs_types.specs.declared.rule.Rule.TheVariants.{IsDirectory, GrantsSearch, NameThere, NameFree}
+use Rattle.lfs_types.specs.declared.rule.Rule.TheVariants.{IsNoDirectory, IsEmpty, IsNotRoot, IsNotBeneathItself}
+use Rattle.lfs_types.specs.declared.rule.Rule.TheVariants.{IsMutable, IsNotAppendOnly, GrantsRead, GrantsWrite}
+use Rattle.lfs_types.specs.declared.rule.Rule.TheVariants.{PassesSticky, IsOwner, MaySetOwner, IsSuperuser, MaySetFlags}
+use Rattle.lfs_types.specs.declared.rule.Rule.TheVariants.{KeepsSystemLocks, MaySetLevel, FitsFile}
 use Rattle.lfs_model.specs.declared.journal.CleanerKind.{CleanerKind}
 use Rattle.lfs_model.specs.declared.journal.CleanerKind.TheVariants.{Ifile, Infos, Bmapv, Markv, Segclean}
 use Rattle.lfs_model.specs.declared.journal.CleanerOutcome.{CleanerOutcome}
@@ -58,10 +64,26 @@ kind_is_word Directory = refl
 tells_stat : (number : ℕ) (attrs : Attrs) → number < 2 ^ 32 → AreAttrs attrs → TellsAnswer (Shows (Stat number attrs))
 tells_stat number attrs low are = record {
   words =
-      rw (short_word number low, kind_is_word attrs.kind, short_word attrs.uid are.uid, short_word attrs.gid are.gid, mode_word attrs.mode are.mode, flags_word attrs.flags, decimal_word attrs.size are.size)
+      rw (
+        short_word number low,
+        kind_is_word attrs.kind,
+        short_word attrs.uid are.uid,
+        short_word attrs.gid are.gid,
+        mode_word attrs.mode are.mode,
+        flags_word attrs.flags,
+        decimal_word attrs.size are.size,
+      )
       refl;
   back =
-      rw (short_read number low, kind_back attrs.kind, short_read attrs.uid are.uid, short_read attrs.gid are.gid, mode_read attrs.mode are.mode, flags_read_back attrs.flags are.flags.0 are.flags.1, long_read attrs.size are.size)
+      rw (
+        short_read number low,
+        kind_back attrs.kind,
+        short_read attrs.uid are.uid,
+        short_read attrs.gid are.gid,
+        mode_read attrs.mode are.mode,
+        flags_read_back attrs.flags are.flags.0 are.flags.1,
+        long_read attrs.size are.size,
+      )
       refl;
 }
 
@@ -127,15 +149,27 @@ same_bytes bs = (bytes_eq-Decides bs bs).1 refl
 
 tells_denial : (denial : Denial) → denial.path < 256 → denial.at < 2 ^ 32 → TellsAnswer (Denied denial)
 tells_denial denial path at = record {
-  words = rw (code_word denial.rule, error_word (rule_error denial.rule), decimal_word denial.path (omega arith), short_word denial.at at) refl;
-  back = rw (rule_back denial.rule, same_bytes (error_name (rule_error denial.rule)), octet_back denial.path path, short_read denial.at at) refl;
+  words = rw (
+    code_word denial.rule,
+    error_word (rule_error denial.rule),
+    decimal_word denial.path (omega arith),
+    short_word denial.at at,
+  ) refl;
+  back = rw (
+    rule_back denial.rule,
+    same_bytes (error_name (rule_error denial.rule)),
+    octet_back denial.path path,
+    short_read denial.at at,
+  ) refl;
 }
 
 -- each answer of which a journal has an entry is told
 pub tells_answer : (answer : Answer) → IsAnswer answer → IsKept answer → TellsAnswer answer
 tells_answer (Shows (Stat number attrs)) is kept = tells_stat number attrs is.0 is.1
-tells_answer (Shows (Bytes bytes)) is kept = record { words = rw (bytes_word bytes is) refl; back = rw (bytes_read_back bytes is kept) refl }
-tells_answer (Shows (Names names)) is kept = record { words = names_words names is; back = rw (names_back names is) refl }
+tells_answer (Shows (Bytes bytes)) is kept =
+    record { words = rw (bytes_word bytes is) refl; back = rw (bytes_read_back bytes is kept) refl }
+tells_answer (Shows (Names names)) is kept =
+    record { words = names_words names is; back = rw (names_back names is) refl }
 tells_answer (Shows Done) is kept = record { words = refl; back = refl }
 tells_answer (Denied denial) is kept = tells_denial denial is.0 is.1
 tells_answer (Refused NoMemory) is kept = absurd kept
@@ -153,11 +187,13 @@ pub record TellsOutcome (came : CleanerOutcome) : Type 0 where
 
 pub tells_outcome : (came : CleanerOutcome) → IsOutcome came → TellsOutcome came
 tells_outcome outcome.Denied is = record { words = refl; back = refl }
-tells_outcome (outcome.Done number) is = record { words = rw (short_word number is) refl; back = rw (short_read number is) refl }
+tells_outcome (outcome.Done number) is =
+    record { words = rw (short_word number is) refl; back = rw (short_read number is) refl }
 tells_outcome (outcome.Fault fault.NoSuchSegment) is = record { words = refl; back = refl }
 tells_outcome (outcome.Fault fault.Active) is = record { words = refl; back = refl }
 tells_outcome (outcome.Fault fault.NotDirty) is = record { words = refl; back = refl }
-tells_outcome (outcome.Fault (fault.Live bytes)) is = record { words = rw (short_word bytes is) refl; back = rw (short_read bytes is) refl }
+tells_outcome (outcome.Fault (fault.Live bytes)) is =
+    record { words = rw (short_word bytes is) refl; back = rw (short_read bytes is) refl }
 tells_outcome (outcome.Fault fault.NoSpace) is = record { words = refl; back = refl }
 
 pub kind_told_back : (kind : CleanerKind) → kind_of (cleaner_word kind) ≡ Some kind

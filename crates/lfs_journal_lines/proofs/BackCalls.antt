@@ -5,7 +5,9 @@ use Rattle.lfs_types.specs.declared.level.Level.{Level}
 use Rattle.lfs_types.specs.declared.request.Place.{Place}
 use Rattle.lfs_types.specs.declared.request.Place.TheVariants.{At, End}
 use Rattle.lfs_types.specs.declared.request.Request.{Request}
-use Rattle.lfs_types.specs.declared.request.Request.TheVariants.{Stat, Read, Write, List as Names, SetLength, Create, Mkdir, Unlink, Rmdir, Rename, Chmod, Chown, Chflags, SetLevel, Sync}
+use Rattle.lfs_types.specs.declared.request.Request.TheVariants.{Stat, Read, Write, List as Names, SetLength, Create}
+use Rattle.lfs_types.specs.declared.request.Request.TheVariants.{Mkdir, Unlink, Rmdir, Rename, Chmod, Chown, Chflags}
+use Rattle.lfs_types.specs.declared.request.Request.TheVariants.{SetLevel, Sync}
 use Rattle.lfs_script.proofs.SpellingLemmas.{line_back}
 use Rattle.lfs_script.specs.Plans.{line_said}
 use Rattle.lfs_script.specs.Requests.{request_said}
@@ -14,15 +16,18 @@ use Rattle.lfs_script.specs.Verbs.{request_word}
 use Rattle.lfs_script.specs.declared.plan.Act.TheVariants as acts
 use Rattle.lfs_script.specs.declared.plan.Line.TheVariants as says
 use Rattle.lfs_script.specs.declared.verb.RequestKind.{RequestKind}
-use Rattle.lfs_words.proofs.ReadBack.{bytes_read_back, flags_read_back, level_read_back, long_read, mode_read, short_read}
+use Rattle.lfs_words.proofs.ReadBack.{bytes_read_back, flags_read_back, level_read_back, long_read, mode_read}
+use Rattle.lfs_words.proofs.ReadBack.{short_read}
 use Rattle.lfs_words.specs.BytesText.{bytes_text}
 use Rattle.lfs_words.specs.LevelText.{level_text}
 use Rattle.lfs_words.specs.NameText.{flags_text, mode_text}
 use Rattle.lfs_words.specs.PathText.{path_of, path_word}
 use Rattle.lfs_words.specs.Wording.{spaced}
 use Rattle.lfs_journal_lines.proofs.BackNames.{Spelled, spelled}
-use Rattle.lfs_journal_lines.proofs.BackWords.{AreField, IsOperand, bytes_operand, field_more, field_none, flags_operand, level_operand, long_operand, mode_operand, short_operand}
-use Rattle.lfs_journal_lines.specs.Asked.{or_old, path_told, paths_put, plain_word, request_told, with_path, with_target}
+use Rattle.lfs_journal_lines.proofs.BackWords.{AreField, IsOperand, bytes_operand, field_more, field_none}
+use Rattle.lfs_journal_lines.proofs.BackWords.{flags_operand, level_operand, long_operand, mode_operand, short_operand}
+use Rattle.lfs_journal_lines.specs.Asked.{or_old, path_told, paths_put, plain_word, request_told, with_path}
+use Rattle.lfs_journal_lines.specs.Asked.{with_target}
 use Rattle.lfs_journal_lines.specs.Ranges.{HasText, IsRequest}
 
 -- the operands of a call are the words of a field, and are read as the call
@@ -31,10 +36,13 @@ pub record Tells (request : Request) : Type 0 where
   pub back : request_told (request_word (kind_of request)) (operands request) ≡ Ok request
 
 -- a call whose plain line is that of another, in which its paths are then put
-tells_by : (request plain : Request) → kind_of plain ≡ kind_of request → map plain_word (operands request) ≡ operands plain → IsSaid plain
-    → paths_put (operands request) plain ≡ Ok request → request_told (request_word (kind_of request)) (operands request) ≡ Ok request
+tells_by : (request plain : Request) → kind_of plain ≡ kind_of request → map plain_word (operands request)
+    ≡ operands plain → IsSaid plain
+    → paths_put (operands request) plain ≡ Ok request → request_told (request_word (kind_of request)) (operands request)
+    ≡ Ok request
 tells_by request plain kind words said put =
-    let line : line_said (request_word (kind_of request) ++ spaced (map plain_word (operands request))) ≡ Ok (says.Act (acts.User plain)) =
+    let line : line_said (request_word (kind_of request) ++ spaced (map plain_word (operands request)))
+    ≡ Ok (says.Act (acts.User plain)) =
     rw (words, ← kind) (line_back plain said) in
     rw line put
 
@@ -70,7 +78,8 @@ no_target (SetLevel level) = refl
 no_target Sync = refl
 
 -- one path is put, with no other behind it
-put_one : (word : List ℕ) (words : List (List ℕ)) (request : Request) (escape : Option (List (List ℕ))) → path_told word ≡ Ok escape → AreOperands words
+put_one : (word : List ℕ) (words : List (List ℕ)) (request : Request) (escape : Option (List (List ℕ))) → path_told word
+    ≡ Ok escape → AreOperands words
     → paths_put (word ∷ words) request ≡ Ok (with_path escape request)
 put_one word [] request escape told are = rw told refl
 put_one word (other ∷ words) request escape told are =
@@ -82,13 +91,17 @@ put_one word (other ∷ words) request escape told are =
 record Form (make : List (List ℕ) → Request) (kind : RequestKind) (words : List (List ℕ)) : Type 0 where
   pub operands_are : (path : List (List ℕ)) → operands (make path) ≡ path_word path ∷ words
   pub kind_is : (path : List (List ℕ)) → kind_of (make path) ≡ kind
-  pub puts : (escape : Option (List (List ℕ))) (path : List (List ℕ)) → with_path escape (make path) ≡ make (or_old escape path)
-  pub said : (path : List (List ℕ)) → path_of (path_word path) ≡ Ok path → request_said kind (path_word path ∷ words) ≡ Ok (make path)
+  pub puts : (escape : Option (List (List ℕ))) (path : List (List ℕ)) → with_path escape (make path)
+      ≡ make (or_old escape path)
+  pub said : (path : List (List ℕ)) → path_of (path_word path) ≡ Ok path → request_said kind (path_word path ∷ words)
+      ≡ Ok (make path)
   pub rest : AreOperands words
 
-tells_one : (make : List (List ℕ) → Request) (kind : RequestKind) (words : List (List ℕ)) → Form make kind words → (path : List (List ℕ)) → Spelled path → Tells (make path)
+tells_one : (make : List (List ℕ) → Request) (kind : RequestKind) (words : List (List ℕ)) → Form make kind words
+    → (path : List (List ℕ)) → Spelled path → Tells (make path)
 tells_one make kind words form path at =
-    let field : AreField (path_word path ∷ words) = field_more (path_word path) words at.word at.bar (field_of words form.rest) in
+    let field : AreField (path_word path ∷ words) =
+    field_more (path_word path) words at.word at.bar (field_of words form.rest) in
     let same : kind_of (make at.root) ≡ kind_of (make path) = form.kind_is at.root ∙ sym (form.kind_is path) in
     let plain : map plain_word (operands (make path)) ≡ operands (make at.root) =
     rw (form.operands_are path, form.operands_are at.root, at.plain, as_they_are words form.rest) refl in
@@ -107,7 +120,8 @@ tells_one make kind words form path at =
 
 -- ---- each call
 
-tells_write : (path : List (List ℕ)) (place : Place) (bytes : List ℕ) → Spelled path → IsRequest (Write path place bytes) → Tells (Write path place bytes)
+tells_write : (path : List (List ℕ)) (place : Place) (bytes : List ℕ) → Spelled path
+    → IsRequest (Write path place bytes) → Tells (Write path place bytes)
 tells_write path (At off) bytes at is =
     tells_one (λ p. Write p (At off) bytes) _ (codes "at" ∷ decimal off ∷ bytes_text bytes ∷ [])
     (record {
@@ -115,7 +129,10 @@ tells_write path (At off) bytes at is =
       kind_is = λ p. refl;
       puts = λ e p. refl;
       said = λ p read. rw (read, long_read off is.1, bytes_read_back bytes is.2.bytes is.2.few) refl;
-      rest = (record { word_is = refl; bar = refl; plain = refl }, (long_operand off is.1, (bytes_operand bytes is.2, tt)));
+      rest = (
+        record { word_is = refl; bar = refl; plain = refl },
+        (long_operand off is.1, (bytes_operand bytes is.2, tt)),
+      );
     }) path at
 tells_write path End bytes at is =
     tells_one (λ p. Write p End bytes) _ (codes "end" ∷ bytes_text bytes ∷ [])
@@ -134,14 +151,17 @@ tells_rename from to a b =
       said = rw (a.read, b.read) refl;
     } in
     record {
-      words = field_more (path_word from) (path_word to ∷ []) a.word a.bar (field_more (path_word to) [] b.word b.bar field_none);
-      back = tells_by (Rename from to) (Rename a.root b.root) refl (rw (a.plain, b.plain) refl) said (rw (a.told, b.told, a.whole, b.whole) refl);
+      words = field_more (path_word from) (path_word to ∷ []) a.word a.bar
+          (field_more (path_word to) [] b.word b.bar field_none);
+      back = tells_by (Rename from to) (Rename a.root b.root) refl (rw (a.plain, b.plain) refl) said
+          (rw (a.told, b.told, a.whole, b.whole) refl);
     }
 
 tells_level : (level : Level) → Tells (SetLevel level)
 tells_level level =
     let one = level_operand level in
-    let said : IsSaid (SetLevel level) = record { words = rw one.word_is refl; said = rw (level_read_back level) refl } in
+    let said : IsSaid (SetLevel level) = record { words = rw one.word_is refl; said = rw (level_read_back level) refl }
+    in
     record {
       words = field_more (level_text level) [] one.word_is one.bar field_none;
       back = tells_by (SetLevel level) (SetLevel level) refl (rw one.plain refl) said (rw one.plain refl);
@@ -155,7 +175,13 @@ tells_sync =
 -- each call is told
 pub tells : (request : Request) → IsRequest request → HasText request → Tells request
 tells (Stat path) is text =
-    tells_one Stat _ [] (record { operands_are = λ p. refl; kind_is = λ p. refl; puts = λ e p. refl; said = λ p read. rw read refl; rest = tt }) path (spelled path is text)
+    tells_one Stat _ [] (record {
+      operands_are = λ p. refl;
+      kind_is = λ p. refl;
+      puts = λ e p. refl;
+      said = λ p read. rw read refl;
+      rest = tt;
+    }) path (spelled path is text)
 tells (Read path off len) is text =
     tells_one (λ p. Read p off len) _ (decimal off ∷ decimal len ∷ [])
     (record {
@@ -167,7 +193,13 @@ tells (Read path off len) is text =
     }) path (spelled path is.0 text)
 tells (Write path place bytes) is text = tells_write path place bytes (spelled path is.0 text) is
 tells (Names path) is text =
-    tells_one Names _ [] (record { operands_are = λ p. refl; kind_is = λ p. refl; puts = λ e p. refl; said = λ p read. rw read refl; rest = tt }) path (spelled path is text)
+    tells_one Names _ [] (record {
+      operands_are = λ p. refl;
+      kind_is = λ p. refl;
+      puts = λ e p. refl;
+      said = λ p read. rw read refl;
+      rest = tt;
+    }) path (spelled path is text)
 tells (SetLength path len) is text =
     tells_one (λ p. SetLength p len) _ (decimal len ∷ [])
     (record {
@@ -196,9 +228,21 @@ tells (Mkdir path mode) is text =
       rest = (mode_operand mode is.1, tt);
     }) path (spelled path is.0 text)
 tells (Unlink path) is text =
-    tells_one Unlink _ [] (record { operands_are = λ p. refl; kind_is = λ p. refl; puts = λ e p. refl; said = λ p read. rw read refl; rest = tt }) path (spelled path is text)
+    tells_one Unlink _ [] (record {
+      operands_are = λ p. refl;
+      kind_is = λ p. refl;
+      puts = λ e p. refl;
+      said = λ p read. rw read refl;
+      rest = tt;
+    }) path (spelled path is text)
 tells (Rmdir path) is text =
-    tells_one Rmdir _ [] (record { operands_are = λ p. refl; kind_is = λ p. refl; puts = λ e p. refl; said = λ p read. rw read refl; rest = tt }) path (spelled path is text)
+    tells_one Rmdir _ [] (record {
+      operands_are = λ p. refl;
+      kind_is = λ p. refl;
+      puts = λ e p. refl;
+      said = λ p read. rw read refl;
+      rest = tt;
+    }) path (spelled path is text)
 tells (Rename from to) is text = tells_rename from to (spelled from is.0 text.0) (spelled to is.1 text.1)
 tells (Chmod path mode) is text =
     tells_one (λ p. Chmod p mode) _ (mode_text mode ∷ [])

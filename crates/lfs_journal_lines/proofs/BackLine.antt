@@ -1,5 +1,6 @@
 -- A line tells its entry.
-use Rattle.std.proofs.Common.{◌≡◌, ℕ, suc, ◌^◌, ◌<◌, ◌≤◌, Bool, true, false, List, [], ◌∷◌, ◌++◌, length, codes, Ok, refl, ap, ◌∙◌, inl, inr, arith, append_assoc, length-append}
+use Rattle.std.proofs.Common.{◌≡◌, ℕ, suc, ◌^◌, ◌<◌, ◌≤◌, Bool, true, false, List, [], ◌∷◌, ◌++◌, length, codes, Ok}
+use Rattle.std.proofs.Common.{refl, ap, ◌∙◌, inl, inr, arith, append_assoc, length-append}
 use Rattle.std.proofs.Math.Seq.{drop-append-add, take-append_seam}
 use Rattle.std.specs.Prelude.{decimal, nat_lt, not}
 use Rattle.std.specs.List.{flat_map, list_all, list_any, position_or_len}
@@ -33,7 +34,8 @@ use Rattle.lfs_journal_lines.proofs.BackWords.{AreField, field_more, field_none,
 use Rattle.lfs_journal_lines.specs.Asked.{asked_told}
 use Rattle.lfs_journal_lines.specs.EntryText.{asked_text, came_words, entry_text}
 use Rattle.lfs_journal_lines.specs.Ranges.{IsCaller, IsEvent, IsTold}
-use Rattle.lfs_journal_lines.specs.Reading.{cut_at_bar, entry_told, event_told, fields_told, is_bar, who_told, words_told}
+use Rattle.lfs_journal_lines.specs.Reading.{cut_at_bar, entry_told, event_told, fields_told, is_bar, who_told}
+use Rattle.lfs_journal_lines.specs.Reading.{words_told}
 use Rattle.lfs_journal_lines.specs.declared.asked.Asked.{Asked}
 use Rattle.lfs_journal_lines.specs.declared.asked.Asked.TheVariants as asked
 
@@ -44,7 +46,8 @@ visible_groups [] short = refl
 visible_groups (g ∷ gs) short =
     let here = decimal_word g (omega (arith, short 0)) in
     let bytes = (and_parts (not (is_bare (decimal g))) (list_all is_word_byte (decimal g)) here).1 in
-    list_all-append is_word_byte (decimal g) (flat_map (λ group. 44 ∷ decimal group) gs) ∙ rw (bytes, visible_groups gs (λ k. short (suc k))) refl
+    list_all-append is_word_byte (decimal g) (flat_map (λ group. 44 ∷ decimal group) gs)
+    ∙ rw (bytes, visible_groups gs (λ k. short (suc k))) refl
 
 groups_word : (gs : List ℕ) → 1 ≤ length gs → AreShort gs → is_word (groups_text gs) ≡ true
 groups_word [] some short = absurd (omega arith)
@@ -65,28 +68,39 @@ groups_bar gs some short =
     elim (cases_Bool (bytes_eq (groups_text gs) (codes "|"))) [
       | inl same ↦
           let e : groups_text gs ≡ codes "|" = (bytes_eq-Decides (groups_text gs) (codes "|")).0 same in
-          let f : decimals_fault (groups_of (groups_text gs)) ≡ decimals_fault (groups_of (codes "|")) = ap (λ w. decimals_fault (groups_of w)) e in
+          let f : decimals_fault (groups_of (groups_text gs))
+          ≡ decimals_fault (groups_of (codes "|")) = ap (λ w. decimals_fault (groups_of w)) e in
           let g = (groups_back gs some short).0 in
           absurd (cc)
       | inr differs ↦ differs
     ]
 
-marked_field : (uid : ℕ) (groups : List ℕ) (init : Bool) → uid < 2 ^ 32 → is_word (groups_text groups) ≡ true → is_bar (groups_text groups) ≡ false
+marked_field : (uid : ℕ) (groups : List ℕ) (init : Bool) → uid < 2 ^ 32 → is_word (groups_text groups) ≡ true
+    → is_bar (groups_text groups) ≡ false
     → AreField (marked_words (decimal uid) (groups_text groups) init)
 marked_field uid groups true lt word bar =
     let user = long_operand uid (omega arith) in
-    field_more (decimal uid) _ user.word_is user.bar (field_more (groups_text groups) _ word bar (field_more (codes "init") [] refl refl field_none))
+    field_more (decimal uid) _ user.word_is user.bar
+    (field_more (groups_text groups) _ word bar (field_more (codes "init") [] refl refl field_none))
 marked_field uid groups false lt word bar =
     let user = long_operand uid (omega arith) in
     field_more (decimal uid) _ user.word_is user.bar (field_more (groups_text groups) [] word bar field_none)
 
 caller_field : (cred : Caller) → IsCaller cred → AreField (caller_words cred)
 caller_field cred is =
-    marked_field cred.uid cred.groups cred.init is.user (groups_word cred.groups is.some is.groups) (groups_bar cred.groups is.some is.groups)
+    marked_field cred.uid cred.groups cred.init is.user (groups_word cred.groups is.some is.groups)
+    (groups_bar cred.groups is.some is.groups)
 
-who_back : (session : ℕ) (cred : Caller) → session < 256 → IsCaller cred → who_told (decimal session ∷ codes "as" ∷ caller_words cred) ≡ Ok (session, cred)
+who_back : (session : ℕ) (cred : Caller) → session < 256 → IsCaller cred
+    → who_told (decimal session ∷ codes "as" ∷ caller_words cred) ≡ Ok (session, cred)
 who_back session cred lt is =
-    let back = caller_read_back cred (record { user = is.user; groups = is.groups; some = is.some; few = is.few; root = is.root }) in
+    let back = caller_read_back cred (record {
+      user = is.user;
+      groups = is.groups;
+      some = is.some;
+      few = is.few;
+      root = is.root;
+    }) in
     rw (octet_back session lt, back) refl
 
 -- ---- what was asked
@@ -143,14 +157,20 @@ tells_event (User request answer) is told =
     let came = tells_answer answer is.1 told.1 in
     let verb = verb_alone (kind_of request) in
     record {
-      call = field_more (request_word (kind_of request)) (operands request) (is_verb (kind_of request)).word verb.1 call.words;
+      call = field_more (request_word (kind_of request)) (operands request)
+          (is_verb (kind_of request)).word verb.1 call.words;
       call_back = rw (verb.0, call.back) refl;
       came = came.words;
       came_back = rw came.back refl;
     }
 tells_event (Cleaner kind outcome) is told =
     let came = tells_outcome outcome is in
-    record { call = kind_field kind; call_back = rw (kind_told_back kind) refl; came = came.words; came_back = rw came.back refl }
+    record {
+      call = kind_field kind;
+      call_back = rw (kind_told_back kind) refl;
+      came = came.words;
+      came_back = rw came.back refl;
+    }
 
 -- ---- the line
 
@@ -165,7 +185,8 @@ none_bare (word ∷ words) all =
     bare_not true h = absurd (cc)
     bare_not false h = refl
 
-first_bar : (words more : List (List ℕ)) → list_any is_bar words ≡ false → position_or_len is_bar (words ++ codes "|" ∷ more) ≡ length words
+first_bar : (words more : List (List ℕ)) → list_any is_bar words ≡ false
+    → position_or_len is_bar (words ++ codes "|" ∷ more) ≡ length words
 first_bar [] more none = refl
 first_bar (word ∷ words) more none =
     elim (cases_Bool (is_bar word)) [
@@ -176,44 +197,58 @@ first_bar (word ∷ words) more none =
     ]
 
 -- words are cut at a bar behind others
-cut_back : (words more : List (List ℕ)) → list_any is_bar words ≡ false → cut_at_bar (words ++ codes "|" ∷ more) ≡ Ok (words, more)
+cut_back : (words more : List (List ℕ)) → list_any is_bar words ≡ false → cut_at_bar (words ++ codes "|" ∷ more)
+    ≡ Ok (words, more)
 cut_back words more none =
     let at = first_bar words more none in
     let within : nat_lt (length words) (length (words ++ codes "|" ∷ more)) ≡ true =
-    lt-ltb (length words) (length (words ++ codes "|" ∷ more)) (omega (arith, length-append words (codes "|" ∷ more))) in
+    lt-ltb (length words) (length (words ++ codes "|" ∷ more)) (omega (arith, length-append words (codes "|" ∷ more)))
+    in
     rw (at, within, take-append_seam words (codes "|" ∷ more), drop-append-add words (codes "|" ∷ more) 1) refl
 
-fields_back : (who call came : List (List ℕ)) (session : ℕ) (cred : Caller) (is : Asked) (event : Event) → list_any is_bar who ≡ false → list_any is_bar call ≡ false
+fields_back : (who call came : List (List ℕ)) (session : ℕ) (cred : Caller) (is : Asked) (event : Event)
+    → list_any is_bar who ≡ false → list_any is_bar call ≡ false
     → who_told who ≡ Ok (session, cred) → asked_told call ≡ Ok is → event_told is came ≡ Ok event
-    → fields_told (who ++ codes "|" ∷ (call ++ codes "|" ∷ came)) ≡ Ok (record { session = session; cred = cred; event = event })
+    → fields_told (who ++ codes "|" ∷ (call ++ codes "|" ∷ came))
+    ≡ Ok (record { session = session; cred = cred; event = event })
 fields_back who call came session cred is event one two first second third =
     rw (cut_back who (call ++ codes "|" ∷ came) one, cut_back call came two, first, second, third) refl
 
 -- a line of words is read as they are
-line_back : (first : List ℕ) (words : List (List ℕ)) → list_all is_word (first ∷ words) ≡ true → words_told (first ++ spaced words) ≡ Ok (first ∷ words)
+line_back : (first : List ℕ) (words : List (List ℕ)) → list_all is_word (first ∷ words) ≡ true
+    → words_told (first ++ spaced words) ≡ Ok (first ∷ words)
 line_back first words all =
     let parts = and_parts (is_word first) (list_all is_word words) all in
-    rw (line_printable first words parts.0 parts.1, words_split first words parts.0 parts.1, none_bare (first ∷ words) all) refl
+    rw (
+      line_printable first words parts.0 parts.1,
+      words_split first words parts.0 parts.1,
+      none_bare (first ∷ words) all,
+    ) refl
 
 joined : (session : List ℕ) (who : List (List ℕ)) (first : List ℕ) (rest came : List (List ℕ))
     → session ++ spaced who ++ 32 ∷ codes "|" ++ 32 ∷ (first ++ spaced rest) ++ 32 ∷ codes "|" ++ spaced came
     ≡ session ++ spaced (who ++ codes "|" ∷ (first ∷ rest ++ codes "|" ∷ came))
 joined session who first rest came =
-    rw (flat_map-append (λ (word : List ℕ). 32 ∷ word) who (codes "|" ∷ (first ∷ rest ++ codes "|" ∷ came)), flat_map-append (λ (word : List ℕ). 32 ∷ word) rest (codes "|" ∷ came))
+    rw (
+      flat_map-append (λ (word : List ℕ). 32 ∷ word) who (codes "|" ∷ (first ∷ rest ++ codes "|" ∷ came)),
+      flat_map-append (λ (word : List ℕ). 32 ∷ word) rest (codes "|" ∷ came),
+    )
     (simp append_assoc)
 
 asked_words : (event : Event) → asked_text event ≡ asked_first event ++ spaced (asked_rest event)
 asked_words (User request answer) = refl
 asked_words (Cleaner kind came) = rw append-nil refl
 
-all_words : (who call came : List (List ℕ)) → list_all is_word who ≡ true → list_all is_word call ≡ true → list_all is_word came ≡ true
+all_words : (who call came : List (List ℕ)) → list_all is_word who ≡ true → list_all is_word call ≡ true
+    → list_all is_word came ≡ true
     → list_all is_word (who ++ codes "|" ∷ (call ++ codes "|" ∷ came)) ≡ true
 all_words who call came one two three =
     list_all-append is_word who (codes "|" ∷ (call ++ codes "|" ∷ came))
     ∙ rw (one, list_all-append is_word call (codes "|" ∷ came), two, three) refl
 
 -- the line of an entry tells it
-pub entry_back : (entry : Entry) → entry.session < 256 → IsCaller entry.cred → IsEvent entry.event → IsTold entry.event → entry_told (entry_text entry) ≡ Ok entry
+pub entry_back : (entry : Entry) → entry.session < 256 → IsCaller entry.cred → IsEvent entry.event → IsTold entry.event
+    → entry_told (entry_text entry) ≡ Ok entry
 unfolding entry_told entry_text
 entry_back entry session caller is told =
     let event = tells_event entry.event is told in
@@ -222,9 +257,20 @@ entry_back entry session caller is told =
     let who = decimal entry.session ∷ codes "as" ∷ caller_words entry.cred in
     let call = asked_first entry.event ∷ asked_rest entry.event in
     let came = came_words entry.event in
-    let who_field : AreField who = field_more (decimal entry.session) _ number.word_is number.bar (field_more (codes "as") (caller_words entry.cred) refl refl as_words) in
-    let words : words_told (decimal entry.session ++ spaced ((codes "as" ∷ caller_words entry.cred) ++ codes "|" ∷ (call ++ codes "|" ∷ came))) ≡ Ok (who ++ codes "|" ∷ (call ++ codes "|" ∷ came)) =
-    line_back (decimal entry.session) ((codes "as" ∷ caller_words entry.cred) ++ codes "|" ∷ (call ++ codes "|" ∷ came)) (all_words who call came who_field.word event.call.word event.came) in
-    let read = fields_back who call came entry.session entry.cred (asked_of entry.event) entry.event who_field.bars event.call.bars (who_back entry.session entry.cred session caller) event.call_back event.came_back in
-    rw (asked_words entry.event, joined (decimal entry.session) (codes "as" ∷ caller_words entry.cred) (asked_first entry.event) (asked_rest entry.event) came, words)
+    let who_field : AreField who = field_more (decimal entry.session) _ number.word_is number.bar
+    (field_more (codes "as") (caller_words entry.cred) refl refl as_words) in
+    let words : words_told (decimal entry.session
+    ++ spaced ((codes "as" ∷ caller_words entry.cred) ++ codes "|" ∷ (call ++ codes "|" ∷ came)))
+    ≡ Ok (who ++ codes "|" ∷ (call ++ codes "|" ∷ came)) =
+    line_back (decimal entry.session) ((codes "as" ∷ caller_words entry.cred) ++ codes "|" ∷ (call ++ codes "|" ∷ came))
+    (all_words who call came who_field.word event.call.word event.came) in
+    let read = fields_back who call came entry.session entry.cred
+    (asked_of entry.event) entry.event who_field.bars event.call.bars
+    (who_back entry.session entry.cred session caller) event.call_back event.came_back in
+    rw (
+      asked_words entry.event,
+      joined (decimal entry.session) (codes "as" ∷ caller_words entry.cred)
+          (asked_first entry.event) (asked_rest entry.event) came,
+      words,
+    )
     read

@@ -1,5 +1,7 @@
 -- Names and paths are read back.
-use Rattle.std.proofs.Common.{◌≡◌, ℕ, zero, suc, ◌+◌, ◌*◌, ◌/◌, ◌%◌, ◌<◌, ◌==◌, true, false, List, [], ◌∷◌, ◌++◌, length, map, Option, None, Some, Result, Ok, Err, refl, ap, sym, subst, ◌∙◌, inl, inr, arith, append_assoc, length-append, rules, tests}
+use Rattle.std.proofs.Common.{◌≡◌, ℕ, zero, suc, ◌+◌, ◌*◌, ◌/◌, ◌%◌, ◌<◌, ◌==◌, true, false, List, [], ◌∷◌, ◌++◌}
+use Rattle.std.proofs.Common.{length, map, Option, None, Some, Result, Ok, Err, refl, ap, sym, subst, ◌∙◌, inl, inr}
+use Rattle.std.proofs.Common.{arith, append_assoc, length-append, rules, tests}
 use Rattle.std.specs.Prelude.{not}
 use Rattle.std.specs.Char.{digit_char, digit_value}
 use Rattle.std.specs.List.{All, list_all}
@@ -61,7 +63,8 @@ behind_none : (read : Result (List ℕ) FaultKind) → read ≡ behind [] read
 behind_none (Ok more) = refl
 behind_none (Err kind) = refl
 
-before_behind : (b : ℕ) (bs : List ℕ) (read : Result (List ℕ) FaultKind) → before b (behind bs read) ≡ behind (b ∷ bs) read
+before_behind : (b : ℕ) (bs : List ℕ) (read : Result (List ℕ) FaultKind) → before b (behind bs read)
+    ≡ behind (b ∷ bs) read
 before_behind b bs (Ok more) = refl
 before_behind b bs (Err kind) = refl
 
@@ -70,7 +73,8 @@ byte_back : (b : ℕ) (rest : List ℕ) → b < 256 → bytes_told (byte_text b 
 byte_back b rest lt =
     elim (cases_Bool (is_plain b)) [
       | inl plain ↦ rw plain (plain_told b rest (plain_differs b plain))
-      | inr odd ↦ rw odd (escape_told 37 (digit_char (b / 16) ∷ digit_char (b % 16) ∷ rest) refl ∙ rw (digits_back b lt) refl)
+      | inr odd ↦ rw odd (escape_told 37 (digit_char (b / 16) ∷ digit_char (b % 16) ∷ rest) refl
+          ∙ rw (digits_back b lt) refl)
     ]
 
 -- the bytes of a name are read, and then what is behind them
@@ -92,7 +96,8 @@ no_bytes = refl
 pub name_back : (name : List ℕ) → IsName name → name_told (name_text name) ≡ Ok name
 name_back name is =
     let whole : bytes_told (name_text name) ≡ Ok name =
-    ap bytes_told (sym (append-nil (name_text name))) ∙ bytes_back name [] is.bytes ∙ ap (behind name) no_bytes ∙ ap Ok (append-nil name) in
+    ap bytes_told (sym (append-nil (name_text name))) ∙ bytes_back name [] is.bytes ∙ ap (behind name) no_bytes
+    ∙ ap Ok (append-nil name) in
     rw (whole, is.fine) refl
 
 visible_byte : (b : ℕ) → b < 256 → list_all is_word_byte (byte_text b) ≡ true
@@ -100,14 +105,16 @@ visible_byte b lt =
     elim (cases_Bool (is_plain b)) [
       | inl plain ↦ rw (plain, plain_visible b plain) refl
       | inr odd ↦
-          let digits = and_parts (not (is_bare (hex_text (b ∷ [])))) (list_all is_word_byte (hex_text (b ∷ []))) (bytes_word (b ∷ []) (one_byte b lt)) in
+          let digits = and_parts (not (is_bare (hex_text (b ∷ [])))) (list_all is_word_byte (hex_text (b ∷ [])))
+          (bytes_word (b ∷ []) (one_byte b lt)) in
           rw odd digits.1
     ]
 
 visible_name : (bs : List ℕ) → AreBytes bs → list_all is_word_byte (name_text bs) ≡ true
 visible_name [] are = refl
 visible_name (b ∷ bs) are =
-    list_all-append is_word_byte (byte_text b) (name_text bs) ∙ rw (visible_byte b (are 0), visible_name bs (more_bytes b bs are)) refl
+    list_all-append is_word_byte (byte_text b) (name_text bs)
+    ∙ rw (visible_byte b (are 0), visible_name bs (more_bytes b bs are)) refl
 
 byte_some : (b : ℕ) → 0 < length (byte_text b)
 byte_some b = elim (cases_Bool (is_plain b)) [ inl plain ↦ rw plain (omega arith) | inr odd ↦ rw odd (omega arith) ]
@@ -116,7 +123,8 @@ byte_some b = elim (cases_Bool (is_plain b)) [ inl plain ↦ rw plain (omega ari
 pub name_word : (name : List ℕ) → IsName name → is_word (name_text name) ≡ true
 name_word [] is = absurd (let h : name_fault [] ≡ None = is.fine in cc)
 name_word (b ∷ bs) is =
-    word_there (name_text (b ∷ bs)) (omega (arith, byte_some b, length-append (byte_text b) (name_text bs))) (visible_name (b ∷ bs) is.bytes)
+    word_there (name_text (b ∷ bs)) (omega (arith, byte_some b, length-append (byte_text b) (name_text bs)))
+    (visible_name (b ∷ bs) is.bytes)
 
 first_name : (name : List ℕ) (names : List (List ℕ)) → All IsName (name ∷ names) → IsName name
 first_name name names all = all 0 [] (omega arith)
@@ -141,16 +149,19 @@ names_words (name ∷ names) all =
 no_fault : (k : ℕ) (names : List (List ℕ)) → All IsName names → names_fault k names ≡ None
 no_fault k [] all = refl
 no_fault k (name ∷ names) all =
-    ap (λ f. or_later k f (names_fault (k + 1) names)) (first_name name names all).fine ∙ no_fault (k + 1) names (more_names name names all)
+    ap (λ f. or_later k f (names_fault (k + 1) names)) (first_name name names all).fine
+    ∙ no_fault (k + 1) names (more_names name names all)
 
-slashed_back : (names : List (List ℕ)) → All IsName names → bytes_told (slashed (map name_text names)) ≡ Ok (slashed names)
+slashed_back : (names : List (List ℕ)) → All IsName names → bytes_told (slashed (map name_text names))
+    ≡ Ok (slashed names)
 slashed_back [] all = no_bytes
 slashed_back (name ∷ names) all =
     plain_told 47 (name_text name ++ slashed (map name_text names)) refl
     ∙ ap (before 47) (bytes_back name (slashed (map name_text names)) (first_name name names all).bytes)
     ∙ ap (λ read. before 47 (behind name read)) (slashed_back names (more_names name names all))
 
-visible_slashed : (names : List (List ℕ)) → All IsName names → list_all is_word_byte (slashed (map name_text names)) ≡ true
+visible_slashed : (names : List (List ℕ)) → All IsName names → list_all is_word_byte (slashed (map name_text names))
+    ≡ true
 visible_slashed [] all = refl
 visible_slashed (name ∷ names) all =
     list_all-append is_word_byte (name_text name) (slashed (map name_text names))
@@ -197,14 +208,16 @@ named_text (name ∷ names) odd = refl
 as_escape : (path : List (List ℕ)) → IsPath path → IsText path → can_spell path ≡ false → Spelled path
 as_escape path is text odd =
     let e : path_word path ≡ 37 ∷ slashed (map name_text path) = rw odd refl in
-    let utf8 : is_utf8 (slashed path) ≡ true = subst (λ bs. is_utf8 bs ≡ true) (named_text path odd) (is_utf8-from_IsUtf8 (path_text path) text) in
+    let utf8 : is_utf8 (slashed path) ≡ true =
+    subst (λ bs. is_utf8 bs ≡ true) (named_text path odd) (is_utf8-from_IsUtf8 (path_text path) text) in
     let read : path_of (slashed path) ≡ Ok path =
     subst (λ bs. path_of bs ≡ Ok path) (named_text path odd) (path_read_back path (no_fault 1 path is.each) is.few) in
     let escaped : escaped_path (slashed (map name_text path)) ≡ Ok path = rw (slashed_back path is.each, utf8) read in
     record {
       root = [];
       escape = Some path;
-      word = subst (λ w. is_word w ≡ true) (sym e) (word_there (37 ∷ slashed (map name_text path)) (omega arith) (visible_slashed path is.each));
+      word = subst (λ w. is_word w ≡ true) (sym e)
+          (word_there (37 ∷ slashed (map name_text path)) (omega arith) (visible_slashed path is.each));
       bar = rw e refl;
       plain = rw e refl;
       root_word = refl;

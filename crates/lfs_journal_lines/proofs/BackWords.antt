@@ -1,5 +1,6 @@
 -- The words of an entry: each may stand in a line, and is no bar.
-use Rattle.std.proofs.Common.{◌≡◌, ℕ, ◌/◌, ◌%◌, ◌^◌, ◌<◌, ◌==◌, true, false, List, [], ◌∷◌, codes, Result, Ok, Err, refl, ap, inl, inr, arith, rules, tests}
+use Rattle.std.proofs.Common.{◌≡◌, ℕ, ◌/◌, ◌%◌, ◌^◌, ◌<◌, ◌==◌, true, false, List, [], ◌∷◌, codes, Result, Ok, Err}
+use Rattle.std.proofs.Common.{refl, ap, inl, inr, arith, rules, tests}
 use Rattle.std.specs.Prelude.{decimal}
 use Rattle.std.specs.Char.{digit_char, digit_value}
 use Rattle.std.specs.List.{list_all, list_any}
@@ -31,15 +32,18 @@ pub record AreField (words : List (List ℕ)) : Type 0 where
 pub field_none : AreField []
 field_none = record { word = refl; bars = refl }
 
-pub field_more : (word : List ℕ) (words : List (List ℕ)) → is_word word ≡ true → is_bar word ≡ false → AreField words → AreField (word ∷ words)
+pub field_more : (word : List ℕ) (words : List (List ℕ)) → is_word word ≡ true → is_bar word ≡ false → AreField words
+    → AreField (word ∷ words)
 field_more word words one differs more =
     record { word = rw (one, more.word) refl; bars = rw (differs, more.bars) refl }
 
 -- a word that is read is no bar, where a bar isn't
-pub no_bar : {A : Type 0} (read : List ℕ → Result A FaultKind) (word : List ℕ) (value : A) (kind : FaultKind) → read word ≡ Ok value → read (codes "|") ≡ Err kind → is_bar word ≡ false
+pub no_bar : {A : Type 0} (read : List ℕ → Result A FaultKind) (word : List ℕ) (value : A) (kind : FaultKind)
+    → read word ≡ Ok value → read (codes "|") ≡ Err kind → is_bar word ≡ false
 no_bar read word value kind good bad =
     elim (cases_Bool (bytes_eq word (codes "|"))) [
-      | inl same ↦ let e : word ≡ codes "|" = (bytes_eq-Decides word (codes "|")).0 same in let f : read word ≡ read (codes "|") = ap read e in absurd (cc)
+      | inl same ↦ let e : word ≡ codes "|" = (bytes_eq-Decides word (codes "|")).0 same in let f : read word
+          ≡ read (codes "|") = ap read e in absurd (cc)
       | inr differs ↦ differs
     ]
 

@@ -16,7 +16,9 @@ use Rattle.lfs_types.specs.declared.cleaner.CleanFault.TheVariants.{Live}
 use Rattle.lfs_types.specs.declared.request.Place.{Place}
 use Rattle.lfs_types.specs.declared.request.Place.TheVariants.{At, End}
 use Rattle.lfs_types.specs.declared.request.Request.{Request}
-use Rattle.lfs_types.specs.declared.request.Request.TheVariants.{Stat, Read, Write, List as Names, SetLength, Create, Mkdir, Unlink, Rmdir, Rename, Chmod, Chown, Chflags, SetLevel, Sync}
+use Rattle.lfs_types.specs.declared.request.Request.TheVariants.{Stat, Read, Write, List as Names, SetLength, Create}
+use Rattle.lfs_types.specs.declared.request.Request.TheVariants.{Mkdir, Unlink, Rmdir, Rename, Chmod, Chown, Chflags}
+use Rattle.lfs_types.specs.declared.request.Request.TheVariants.{SetLevel, Sync}
 use Rattle.lfs_model.specs.declared.journal.CleanerOutcome.{CleanerOutcome}
 use Rattle.lfs_model.specs.declared.journal.CleanerOutcome.TheVariants as outcome
 use Rattle.lfs_model.specs.declared.journal.Event.{Event}
@@ -127,7 +129,8 @@ HasText (Chflags path flags) = IsText path
 HasText (SetLevel level) = Unit {0}
 HasText Sync = Unit {0}
 
--- an answer of which a journal has an entry: not for want of memory or of its own room, and at most 4,096 bytes of a Read
+-- an answer of which a journal has an entry: not for want of memory or of its own room, and at most 4,096 bytes of a
+-- Read
 abbrev pub IsKept : Answer → Type 0
 IsKept (Shows (shows.Bytes bytes)) = length bytes ≤ 4096
 IsKept (Refused NoMemory) = ⊥

@@ -1,5 +1,6 @@
 -- The entry that a line tells.
-use Rattle.std.specs.Prelude.{◌≡◌, ◌≢◌, ℕ, ◌+◌, Bool, List, [], ◌∷◌, codes, drop, position, take, Option, None, Some, Result, Ok, Err, if◌then◌else◌}
+use Rattle.std.specs.Prelude.{◌≡◌, ◌≢◌, ℕ, ◌+◌, Bool, List, [], ◌∷◌, codes, drop, position, take, Option, None, Some}
+use Rattle.std.specs.Prelude.{Result, Ok, Err, if◌then◌else◌}
 use Rattle.std.specs.List.{list_any}
 use Rattle.std.specs.Str.{bytes_eq}
 use Rattle.lfs_types.specs.Caller.{Caller}
@@ -24,7 +25,8 @@ use Rattle.lfs_journal_lines.specs.declared.fault.LineFault.{LineFault}
 -- the words of a line, none of them empty
 abbrev pub words_told : List ℕ → Result (List (List ℕ)) FaultKind
 words_told line =
-    if is_printable line then (if list_any is_bare (words_of line) then Err Words else Ok (words_of line)) else Err Bytes
+    if is_printable line then (if list_any is_bare (words_of line) then Err Words else Ok (words_of line))
+    else Err Bytes
 
 -- a bar, which stands between the fields of a line
 abbrev pub is_bar : List ℕ → Bool

@@ -1,5 +1,6 @@
 -- What a table says after the slot of a number was put, and what changes of a content leave.
-use Rattle.std.proofs.Common.{◌≡◌, ◌≢◌, ℕ, ◌+◌, ◌<◌, Bool, true, false, cond, List, [], ◌∷◌, ◌++◌, length, take, Option, None, Some, refl, sym, ap, subst, ◌∙◌, ⊎_elim}
+use Rattle.std.proofs.Common.{◌≡◌, ◌≢◌, ℕ, ◌+◌, ◌<◌, Bool, true, false, cond, List, [], ◌∷◌, ◌++◌, length, take, Option}
+use Rattle.std.proofs.Common.{None, Some, refl, sym, ap, subst, ◌∙◌, ⊎_elim}
 use Rattle.std.specs.Prelude.{get_or, nat_lt}
 use Rattle.std.specs.FinMap as map
 use Rattle.std.proofs.lemmas.Bool.{cases_eq}
@@ -12,12 +13,14 @@ use Rattle.lfs_known.specs.Says.{SaysTheSame, kept_of, says}
 use Rattle.lfs_known.specs.declared.slots.Slots.{Slots}
 
 -- changes and further ones are made one after the other
-pub applied-append : (before after : List Change) (c : Content) → applied (before ++ after) c ≡ applied after (applied before c)
+pub applied-append : (before after : List Change) (c : Content) → applied (before ++ after) c
+    ≡ applied after (applied before c)
 applied-append [] after c = refl
 applied-append (change ∷ before) after c = applied-append before after (changed change c)
 
 -- the first changes and the next one are the first ones, and then that one
-pub applied_next : (changes : List Change) (i : ℕ) (change : Change) (c : Content) → i < length changes → change ≡ get_or changes i change
+pub applied_next : (changes : List Change) (i : ℕ) (change : Change) (c : Content) → i < length changes → change
+    ≡ get_or changes i change
     → applied (take (i + 1) changes) c ≡ changed change (applied (take i changes) c)
 applied_next changes i change c within is =
     ap (λ xs. applied xs c) (take_more changes i change within) ∙ applied-append (take i changes) _ c
@@ -37,11 +40,15 @@ module _ {T : Type 0} where
     at true kept = kept
     at false kept = absurd (cc)
 
-  -- what is said after the slot of a number was put is true of the files, where a change touches that number's alone and
+  -- what is said after the slot of a number was put is true of the files, where a change touches that number's alone
+  -- and
   -- what is said of it is true
-  pub true_put : (P : Option File → T → Type 0) (old new : Slots T) (number : ℕ) (c after : Content) → SaysTheSame old new number
-      → ((n : ℕ) → n ≢ number → map.get after n ≡ map.get c n) → ((v : T) → says new number ≡ Some v → P (map.get after number) v)
-      → ((n : ℕ) (v : T) → says old n ≡ Some v → P (map.get c n) v) → (n : ℕ) (v : T) → says new n ≡ Some v → P (map.get after n) v
+  pub true_put : (P : Option File → T → Type 0) (old new : Slots T) (number : ℕ) (c after : Content)
+      → SaysTheSame old new number
+      → ((n : ℕ) → n ≢ number → map.get after n ≡ map.get c n)
+      → ((v : T) → says new number ≡ Some v → P (map.get after number) v)
+      → ((n : ℕ) (v : T) → says old n ≡ Some v → P (map.get c n) v) → (n : ℕ) (v : T) → says new n ≡ Some v
+      → P (map.get after n) v
   true_put P old new number c after others kept here was n v said = ⊎_elim
       (λ same. subst (λ k. P (map.get after k) v) (sym same) (here v (sym (ap (says new) same) ∙ said)))
       (λ apart. subst (λ o. P o v) (sym (kept n apart)) (was n v (sym (others n apart) ∙ said)))

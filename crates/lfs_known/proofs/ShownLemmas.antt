@@ -1,5 +1,6 @@
 -- What a cache of attributes says after a change of a content.
-use Rattle.std.proofs.Common.{◌≡◌, ◌≢◌, ℕ, ◌+◌, ◌≤◌, List, [], ◌∷◌, length, Option, None, Some, refl, sym, ap, subst, ◌∙◌, arith}
+use Rattle.std.proofs.Common.{◌≡◌, ◌≢◌, ℕ, ◌+◌, ◌≤◌, List, [], ◌∷◌, length, Option, None, Some, refl, sym, ap, subst}
+use Rattle.std.proofs.Common.{◌∙◌, arith}
 use Rattle.std.specs.Prelude.{IfSome, option_map}
 use Rattle.std.specs.FinMap as map
 use Rattle.lfs_types.specs.Changes.{changed_at}
@@ -14,9 +15,11 @@ use Rattle.lfs_known.specs.declared.slots.Slots.{Slots}
 use Rattle.lfs_known.proofs.FollowLemmas.{changed-others, kept_only, true_put}
 use Rattle.lfs_known.specs.Shown.{AreShown}
 
--- what is said after the slot of a number was put is shown, where a change touches that number alone and shows there what is said of it
+-- what is said after the slot of a number was put is shown, where a change touches that number alone and shows there
+-- what is said of it
 pub shown_put : (old new : Slots Attrs) (ino : ℕ) (c after : Content) → SaysTheSame old new ino
-    → ((q : ℕ) → q ≢ ino → map.get after q ≡ map.get c q) → ((a : Attrs) → says new ino ≡ Some a → shown_attrs after ino ≡ Some a)
+    → ((q : ℕ) → q ≢ ino → map.get after q ≡ map.get c q)
+    → ((a : Attrs) → says new ino ≡ Some a → shown_attrs after ino ≡ Some a)
     → AreShown old c → AreShown new after
 shown_put = true_put (λ o a. option_map attrs_of o ≡ Some a)
 
@@ -30,20 +33,26 @@ module _ (c : Content) (ino : ℕ) where
     at (Some f) h = ap (option_map attrs_of) (get-insert_same c ino (change f)) ∙ ap Some (by f (cc))
 
 -- bytes put within others leave their length
-pub length-within : (old : List ℕ) (off : ℕ) (bytes : List ℕ) → off + length bytes ≤ length old → length (splice old off bytes) ≡ length old
+pub length-within : (old : List ℕ) (off : ℕ) (bytes : List ℕ) → off + length bytes ≤ length old
+    → length (splice old off bytes) ≡ length old
 length-within old off [] within = refl
-length-within old off (b ∷ bs) within = ap (λ (x : List ℕ). length x) (splice-put_over old off (b ∷ bs) (omega arith) (omega arith)) ∙ length-put_over old off (b ∷ bs) (omega arith) ∙ omega arith
+length-within old off (b ∷ bs) within = ap (λ (x : List ℕ). length x)
+    (splice-put_over old off (b ∷ bs) (omega arith) (omega arith)) ∙ length-put_over old off (b ∷ bs) (omega arith)
+    ∙ omega arith
 
 -- what something known becomes was made of it
-mapped : (g : Attrs → Attrs) (b : Attrs) (o : Option Attrs) → option_map g o ≡ Some b → (a : Attrs) × (o ≡ Some a) × (g a ≡ b)
+mapped : (g : Attrs → Attrs) (b : Attrs) (o : Option Attrs) → option_map g o ≡ Some b → (a : Attrs) × (o ≡ Some a)
+    × (g a ≡ b)
 mapped g b None h = absurd (cc)
 mapped g b (Some a) h = (a, refl, cc)
 
 module _ (old new : Slots Attrs) (ino : ℕ) (c : Content) (others : SaysTheSame old new ino) where
   -- a number got an empty file
-  pub shown_made : (attrs : Attrs) → says new ino ≡ kept_of ino (Some (record attrs { size = 0 })) → AreShown old c → AreShown new (map.insert c ino (file_of attrs []))
+  pub shown_made : (attrs : Attrs) → says new ino ≡ kept_of ino (Some (record attrs { size = 0 })) → AreShown old c
+      → AreShown new (map.insert c ino (file_of attrs []))
   shown_made attrs put = shown_put old new ino c _ others (get-insert_other c ino (file_of attrs []))
-      (λ a h. ap (option_map attrs_of) (get-insert_same c ino (file_of attrs [])) ∙ kept_only ino (Some (record attrs { size = 0 })) a (sym put ∙ h))
+      (λ a h. ap (option_map attrs_of) (get-insert_same c ino (file_of attrs []))
+      ∙ kept_only ino (Some (record attrs { size = 0 })) a (sym put ∙ h))
 
   -- a number became free
   pub shown_removed : says new ino ≡ None → AreShown old c → AreShown new (map.remove c ino)
@@ -51,7 +60,8 @@ module _ (old new : Slots Attrs) (ino : ℕ) (c : Content) (others : SaysTheSame
 
   -- a file was changed
   pub shown_changed : (change : File → File)
-      → ((b : Attrs) → says new ino ≡ Some b → (a : Attrs) × (says old ino ≡ Some a) × ((f : File) → attrs_of f ≡ a → attrs_of (change f) ≡ b))
+      → ((b : Attrs) → says new ino ≡ Some b → (a : Attrs) × (says old ino ≡ Some a)
+      × ((f : File) → attrs_of f ≡ a → attrs_of (change f) ≡ b))
       → AreShown old c → AreShown new (changed_at (map.get c ino) ino change c)
   shown_changed change by was = shown_put old new ino c _ others (changed-others c ino (map.get c ino) change)
       (λ b h. let is = by b h in changed-shown c ino change is.0 b is.2 (was ino is.0 is.1)) was
@@ -61,17 +71,22 @@ module _ (old new : Slots Attrs) (ino : ℕ) (c : Content) (others : SaysTheSame
       → says new ino ≡ kept_of ino (option_map g (says old ino))
       → AreShown old c → AreShown new (changed_at (map.get c ino) ino change c)
   shown_mapped change g by put = shown_changed change
-      (λ b h. let was = mapped g b (says old ino) (kept_only ino _ b (sym put ∙ h)) in (was.0, was.1, λ f e. by f ∙ ap g e ∙ was.2))
+      (λ b h. let was = mapped g b (says old ino) (kept_only ino _ b (sym put ∙ h)) in
+      (was.0, was.1, λ f e. by f ∙ ap g e ∙ was.2))
 
   -- and where bytes were put within it
-  pub shown_within : (off : ℕ) (bytes : List ℕ) → IfSome (says new ino) (λ a. (says old ino ≡ Some a) × (off + length bytes ≤ a.size))
-      → AreShown old c → AreShown new (changed_at (map.get c ino) ino (λ f. record f { bytes = splice f.bytes off bytes }) c)
+  pub shown_within : (off : ℕ) (bytes : List ℕ)
+      → IfSome (says new ino) (λ a. (says old ino ≡ Some a) × (off + length bytes ≤ a.size))
+      → AreShown old c → AreShown new (changed_at (map.get c ino) ino
+      (λ f. record f { bytes = splice f.bytes off bytes }) c)
   shown_within off bytes within = shown_changed (λ f. record f { bytes = splice f.bytes off bytes })
       (λ b h.
-      let is : (says old ino ≡ Some b) × (off + length bytes ≤ b.size) = subst (λ o. IfSome o (λ a. (says old ino ≡ Some a) × (off + length bytes ≤ a.size))) h within in (
+      let is : (says old ino ≡ Some b) × (off + length bytes ≤ b.size) =
+      subst (λ o. IfSome o (λ a. (says old ino ≡ Some a) × (off + length bytes ≤ a.size))) h within in (
         b,
         is.0,
         λ f e.
             let size : length f.bytes ≡ b.size = ap (λ (x : Attrs). x.size) e in
-            ap (λ n. record (attrs_of f) { size = n }) (length-within f.bytes off bytes (omega (arith, is.1, size))) ∙ e,
+            ap (λ n. record (attrs_of f) { size = n }) (length-within f.bytes off bytes (omega (arith, is.1, size)))
+            ∙ e,
       ))

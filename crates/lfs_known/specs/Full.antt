@@ -12,7 +12,8 @@ use Rattle.lfs_known.specs.declared.hints.Hint.{Hint}
 -- a directory's bytes have the blocks before that of a hint, and in none of them does a name of its length fit
 pub record IsFullBefore (bytes : List ℕ) (hint : Hint) : Type 0 where
   pub within : BLOCK_SIZE * hint.block ≤ length bytes
-  pub full : (k : ℕ) → k < hint.block → BLOCK_SIZE < used_of (entries_of (take BLOCK_SIZE (drop (BLOCK_SIZE * k) bytes))) + 5 + hint.length
+  pub full : (k : ℕ) → k < hint.block → BLOCK_SIZE < used_of
+      (entries_of (take BLOCK_SIZE (drop (BLOCK_SIZE * k) bytes))) + 5 + hint.length
 
 -- what hints say is true of a content
 abbrev pub AreFull : Slots Hint → Content → Type 0

@@ -1,5 +1,6 @@
 -- What slots say of a name.
-use Rattle.std.specs.Prelude.{ℕ, ◌==◌, ◌&&◌, nat_le, Bool, List, length, take, Option, None, Some, bytes_eq, if◌then◌else◌, slice_index_or}
+use Rattle.std.specs.Prelude.{ℕ, ◌==◌, ◌&&◌, nat_le, Bool, List, length, take, Option, None, Some, bytes_eq}
+use Rattle.std.specs.Prelude.{if◌then◌else◌, slice_index_or}
 use Rattle.lfs_known.specs.Places.{place_of}
 use Rattle.lfs_known.specs.declared.pair.Pair.{Pair}
 

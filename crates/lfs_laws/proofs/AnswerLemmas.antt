@@ -42,7 +42,8 @@ AllJudged-users [] = tt
 AllJudged-users (e ∷ es) = AllJudged-left e.session e.cred e.event (users_alone es) (AllJudged-users es)
 
 -- a call has one answer by the rules
-one_answer : (numbers : ℕ) (w : World) (caller : Caller) (request : Request) (a b : Answer) → IsJudged (User request a) → IsJudged (User request b)
+one_answer : (numbers : ℕ) (w : World) (caller : Caller) (request : Request) (a b : Answer) → IsJudged (User request a)
+    → IsJudged (User request b)
     → IsAnswer numbers w caller request a → IsAnswer numbers w caller request b → a ≡ b
 one_answer numbers w caller request (Served shown) (Served other) ja jb a b = ap Served (a.2 ∙ sym b.2)
 one_answer numbers w caller request (Served shown) (Denied denial) ja jb a b = let none = a.0 in let some = b in cc
@@ -59,7 +60,8 @@ call session caller request = record { session = session; cred = caller; request
 
 -- one call, decided by the rules in one world, has one entry
 one_entry : (numbers : ℕ) (w : World) (s t : ℕ) (c d : Caller) (request other : Request) (a b : Answer)
-    → IsJudged (User request a) → IsJudged (User other b) → IsAnswer numbers w c request a → IsAnswer numbers w d other b
+    → IsJudged (User request a) → IsJudged (User other b) → IsAnswer numbers w c request a
+    → IsAnswer numbers w d other b
     → call s c request ≡ call t d other → entry s c (User request a) ≡ entry t d (User other b)
 one_entry numbers w s t c d request other a b ja jb ia ib same =
     let sessions : s ≡ t = ap (λ (x : Call). x.session) same in
@@ -72,7 +74,8 @@ one_entry numbers w s t c d request other a b ja jb ia ib same =
     cc
 
 -- the first entries of lists that make the same calls from one world are the same, and the others make the same calls
-same_first : (numbers segments : ℕ) (w : World) (s t : ℕ) (c d : Caller) (x y : Event) (es fs : List Entry) → IsJudged x → IsJudged y
+same_first : (numbers segments : ℕ) (w : World) (s t : ℕ) (c d : Caller) (x y : Event) (es fs : List Entry) → IsJudged x
+    → IsJudged y
     → IsEvent numbers segments w c x → IsEvent numbers segments w d y
     → call_of s c x ++ calls_of es ≡ call_of t d y ++ calls_of fs
     → (entry s c x ≡ entry t d y) × (calls_of es ≡ calls_of fs)
@@ -92,9 +95,11 @@ same_entries : (numbers segments : ℕ) (es fs : List Entry) (w : World) → All
     → IsLegal numbers segments es w → IsLegal numbers segments fs w → calls_of es ≡ calls_of fs → es ≡ fs
 same_entries numbers segments [] [] w je jf le lf same = refl
 same_entries numbers segments [] (f ∷ fs) w je jf le lf same = absurd (no_calls f.session f.cred f.event fs jf.0 same)
-same_entries numbers segments (e ∷ es) [] w je jf le lf same = absurd (no_calls e.session e.cred e.event es je.0 (sym same))
+same_entries numbers segments (e ∷ es) [] w je jf le lf same =
+    absurd (no_calls e.session e.cred e.event es je.0 (sym same))
 same_entries numbers segments (e ∷ es) (f ∷ fs) w je jf le lf same =
-    let both = same_first numbers segments w e.session f.session e.cred f.cred e.event f.event es fs je.0 jf.0 le.0 lf.0 same in
+    let both = same_first numbers segments w e.session f.session e.cred f.cred e.event f.event es fs je.0 jf.0 le.0 lf.0
+    same in
     let one : e ≡ f = both.0 in
     let rest : es ≡ fs = same_entries numbers segments es fs (after_event numbers w e.cred e.event) je.1 jf.1 le.1
     (subst (λ (x : Entry). IsLegal numbers segments fs (after_event numbers w x.cred x.event)) (sym one) lf.1) both.1 in
@@ -105,5 +110,6 @@ same_answers_law numbers segments es fs w le lf same =
     let mine = users_alone_law numbers segments es w le in
     let other = users_alone_law numbers segments fs w lf in
     let alike : users_alone es ≡ users_alone fs =
-    same_entries numbers segments (users_alone es) (users_alone fs) w (AllJudged-users es) (AllJudged-users fs) mine.0 other.0 same in
+    same_entries numbers segments (users_alone es) (users_alone fs) w (AllJudged-users es)
+    (AllJudged-users fs) mine.0 other.0 same in
     (alike, sym mine.1 ∙ ap (λ l. world_after numbers l w) alike ∙ other.1)

@@ -1,10 +1,13 @@
 -- Calls that differ only in what they bring are decided alike.
-use Rattle.std.proofs.Common.{◌≡◌, ℕ, ◌/◌, ◌%◌, ◌==◌, ◌&&◌, ◌||◌, not, Bool, true, false, [], ◌∷◌, ◌++◌, length, refl, sym, ap, ◌∙◌, arith}
+use Rattle.std.proofs.Common.{◌≡◌, ℕ, ◌/◌, ◌%◌, ◌==◌, ◌&&◌, ◌||◌, not, Bool, true, false, [], ◌∷◌, ◌++◌, length, refl}
+use Rattle.std.proofs.Common.{sym, ap, ◌∙◌, arith}
 use Rattle.lfs_types.specs.Caller.{Caller}
 use Rattle.lfs_types.specs.Tree.{root}
 use Rattle.lfs_types.specs.declared.level.Level.{Level}
-use Rattle.lfs_types.specs.declared.request.Request.TheVariants.{Read, Write, SetLength, Create, Mkdir, Chmod, Chown, Chflags}
-use Rattle.lfs_types.specs.declared.rule.Rule.TheVariants.{FitsFile, MaySetOwner, MaySetFlags, KeepsSystemLocks, IsOwner, IsMutable, IsNotAppendOnly}
+use Rattle.lfs_types.specs.declared.request.Request.TheVariants.{Read, Write, SetLength, Create, Mkdir, Chmod, Chown}
+use Rattle.lfs_types.specs.declared.request.Request.TheVariants.{Chflags}
+use Rattle.lfs_types.specs.declared.rule.Rule.TheVariants.{FitsFile, MaySetOwner, MaySetFlags, KeepsSystemLocks}
+use Rattle.lfs_types.specs.declared.rule.Rule.TheVariants.{IsOwner, IsMutable, IsNotAppendOnly}
 use Rattle.lfs_rules.specs.Bits.{has_bit}
 use Rattle.lfs_rules.specs.Locks.{is_immutable, is_append_only, may_set_flags, keeps_system_locks}
 use Rattle.lfs_rules.specs.Owners.{is_the_superuser, is_the_owner, is_in_group, is_owner_or_superuser, may_set_owner}
@@ -29,16 +32,21 @@ upper_bit flags = let same : flags / 0x2_0000 ≡ flags / 0x1_0000 / 2 = omega a
 third_bit : (flags : ℕ) → flags / 0x4_0000 % 2 ≡ flags / 0x1_0000 / 4 % 2
 third_bit flags = let same : flags / 0x4_0000 ≡ flags / 0x1_0000 / 4 = omega arith in ap (λ n. n % 2) same
 
-immutable_bit : (flags other : ℕ) → flags / 0x1_0000 ≡ other / 0x1_0000 → has_bit flags 0x2_0000 ≡ has_bit other 0x2_0000
+immutable_bit : (flags other : ℕ) → flags / 0x1_0000 ≡ other / 0x1_0000 → has_bit flags 0x2_0000
+    ≡ has_bit other 0x2_0000
 immutable_bit flags other e = ap (λ n. n == 1) (upper_bit flags ∙ ap (λ n. n / 2 % 2) e ∙ sym (upper_bit other))
 
 append_bit : (flags other : ℕ) → flags / 0x1_0000 ≡ other / 0x1_0000 → has_bit flags 0x4_0000 ≡ has_bit other 0x4_0000
 append_bit flags other e = ap (λ n. n == 1) (third_bit flags ∙ ap (λ n. n / 4 % 2) e ∙ sym (third_bit other))
 
-may_set_same : (caller : Caller) (old flags other : ℕ) → flags / 0x1_0000 ≡ other / 0x1_0000 → may_set_flags caller old flags ≡ may_set_flags caller old other
-may_set_same caller old flags other e = ap (λ n. is_the_superuser caller || not (not (old / 0x1_0000 == n) || (has_bit old 0x2_0000 || has_bit old 0x4_0000))) e
+may_set_same : (caller : Caller) (old flags other : ℕ) → flags / 0x1_0000 ≡ other / 0x1_0000
+    → may_set_flags caller old flags ≡ may_set_flags caller old other
+may_set_same caller old flags other e = ap
+    (λ n. is_the_superuser caller || not (not (old / 0x1_0000 == n) || (has_bit old 0x2_0000 || has_bit old 0x4_0000)))
+    e
 
-keeps_same : (level : Level) (old flags other : ℕ) → flags / 0x1_0000 ≡ other / 0x1_0000 → keeps_system_locks level old flags ≡ keeps_system_locks level old other
+keeps_same : (level : Level) (old flags other : ℕ) → flags / 0x1_0000 ≡ other / 0x1_0000
+    → keeps_system_locks level old flags ≡ keeps_system_locks level old other
 keeps_same level old flags other e =
     let one = immutable_bit flags other e in
     let two = append_bit flags other e in
@@ -48,11 +56,13 @@ pub decides_alike : DecidesAlike
 decides_alike w caller (Read path off len) (Read path2 off2 len2) e = ap (λ p. decide w caller (Read p off len)) e
 decides_alike w caller (Write path place bytes) (Write path2 place2 bytes2) e =
     (λ i. let attrs = attrs_at w.rows (reached w.rows root path) in
-    first_failing (walk w.rows caller 0 0 root path ++ (change_tests caller (e.1 i) attrs (length path) ++ (asks (e.2 i) FitsFile 0 (length path) ∷ []))))
+    first_failing (walk w.rows caller 0 0 root path
+    ++ (change_tests caller (e.1 i) attrs (length path) ++ (asks (e.2 i) FitsFile 0 (length path) ∷ []))))
     ∙ ap (λ p. decide w caller (Write p place2 bytes2)) e.0
 decides_alike w caller (SetLength path len) (SetLength path2 len2) e =
     (λ i. let attrs = attrs_at w.rows (reached w.rows root path) in
-    first_failing (walk w.rows caller 0 0 root path ++ (change_tests caller false attrs (length path) ++ (asks (e.1 i) FitsFile 0 (length path) ∷ []))))
+    first_failing (walk w.rows caller 0 0 root path
+    ++ (change_tests caller false attrs (length path) ++ (asks (e.1 i) FitsFile 0 (length path) ∷ []))))
     ∙ ap (λ p. decide w caller (SetLength p len2)) e.0
 decides_alike w caller (Create path mode) (Create path2 mode2) e = ap (λ p. decide w caller (Create p mode)) e
 decides_alike w caller (Mkdir path mode) (Mkdir path2 mode2) e = ap (λ p. decide w caller (Mkdir p mode)) e
@@ -60,7 +70,8 @@ decides_alike w caller (Chmod path mode) (Chmod path2 mode2) e = ap (λ p. decid
 decides_alike w caller (Chown path uid gid) (Chown path2 uid2 gid2) e =
     let attrs = attrs_at w.rows (reached w.rows root path) in
     let may : may_set_owner caller attrs uid gid ≡ may_set_owner caller attrs uid gid2 =
-    any_group (is_the_superuser caller) (is_the_owner caller attrs) (uid == attrs.uid) (gid == attrs.gid) (gid2 == attrs.gid) (is_in_group caller gid) (is_in_group caller gid2) e.2 e.3 in
+    any_group (is_the_superuser caller) (is_the_owner caller attrs) (uid == attrs.uid) (gid == attrs.gid)
+    (gid2 == attrs.gid) (is_in_group caller gid) (is_in_group caller gid2) e.2 e.3 in
     (λ i. first_failing (walk w.rows caller 0 0 root path ++
     (asks (not (is_immutable attrs)) IsMutable 0 (length path)
     ∷ asks (not (is_append_only attrs)) IsNotAppendOnly 0 (length path)

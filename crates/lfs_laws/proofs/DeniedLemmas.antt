@@ -1,5 +1,7 @@
 -- What the denials of a walk and of the tests behind it tell, and that it is true.
-use Rattle.std.proofs.Common.{◌≡◌, ◌≢◌, ◌⊎◌, ◌<◌, ◌≤◌, ℕ, ◌+◌, ◌==◌, ◌&&◌, ◌||◌, not, Bool, true, false, cond, List, [], ◌∷◌, ◌++◌, length, Option, None, Some, refl, sym, ap, subst, ◌∙◌, arith, append_assoc, append-nil, length-append, eqb-true, eq-eqb, inl, inr, ⊎_elim}
+use Rattle.std.proofs.Common.{◌≡◌, ◌≢◌, ◌⊎◌, ◌<◌, ◌≤◌, ℕ, ◌+◌, ◌==◌, ◌&&◌, ◌||◌, not, Bool, true, false, cond, List, []}
+use Rattle.std.proofs.Common.{◌∷◌, ◌++◌, length, Option, None, Some, refl, sym, ap, subst, ◌∙◌, arith, append_assoc}
+use Rattle.std.proofs.Common.{append-nil, length-append, eqb-true, eq-eqb, inl, inr, ⊎_elim}
 use Rattle.std.proofs.lemmas.Bool.{eqb-false, not-true, not-false, or_parts, or_right}
 use Rattle.std.specs.Prelude.{is_some, is_none, nat_le, slice_get, IsSome, IsSomeAnd}
 use Rattle.std.specs.List.{list_any}
@@ -10,16 +12,28 @@ use Rattle.lfs_types.specs.Tree.{Row, World, root, attrs_of}
 use Rattle.lfs_types.specs.declared.attrs.Attrs.{Attrs}
 use Rattle.lfs_types.specs.declared.attrs.Bit.TheVariants as bits
 use Rattle.lfs_types.specs.declared.request.Request.{Request}
-use Rattle.lfs_types.specs.declared.request.Request.TheVariants.{Stat, Read, Write, List as Names, SetLength, Create, Mkdir, Unlink, Rmdir, Rename, Chmod, Chown, Chflags, SetLevel, Sync}
+use Rattle.lfs_types.specs.declared.request.Request.TheVariants.{Stat, Read, Write, List as Names, SetLength, Create}
+use Rattle.lfs_types.specs.declared.request.Request.TheVariants.{Mkdir, Unlink, Rmdir, Rename, Chmod, Chown, Chflags}
+use Rattle.lfs_types.specs.declared.request.Request.TheVariants.{SetLevel, Sync}
 use Rattle.lfs_types.specs.declared.rule.Denial.{Denial}
 use Rattle.lfs_types.specs.declared.rule.Rule.{Rule}
-use Rattle.lfs_types.specs.declared.rule.Rule.TheVariants.{IsDirectory, GrantsSearch, NameThere, NameFree, IsNoDirectory, IsEmpty, IsNotRoot, IsNotBeneathItself, IsMutable, IsNotAppendOnly, GrantsRead, GrantsWrite, PassesSticky, IsOwner, MaySetOwner, MaySetFlags, KeepsSystemLocks, FitsFile}
+use Rattle.lfs_types.specs.declared.rule.Rule.TheVariants.{IsDirectory, GrantsSearch, NameThere, NameFree}
+use Rattle.lfs_types.specs.declared.rule.Rule.TheVariants.{IsNoDirectory, IsEmpty, IsNotRoot, IsNotBeneathItself}
+use Rattle.lfs_types.specs.declared.rule.Rule.TheVariants.{IsMutable, IsNotAppendOnly, GrantsRead, GrantsWrite}
+use Rattle.lfs_types.specs.declared.rule.Rule.TheVariants.{PassesSticky, IsOwner, MaySetOwner, MaySetFlags}
+use Rattle.lfs_types.specs.declared.rule.Rule.TheVariants.{KeepsSystemLocks, FitsFile}
 use Rattle.lfs_model.proofs.Trees.{no_parent}
 use Rattle.lfs_types.specs.declared.attrs.Kind.{Kind}
 use Rattle.lfs_types.specs.declared.attrs.Kind.TheVariants.{File as Regular, Directory}
 use Rattle.lfs_model.specs.World.{Rows, child, children, file_at, IsChild, IsTree}
-use Rattle.lfs_model.specs.Rules.{Check, asks, attrs_at, change_tests, chflags_tests, chmod_tests, chown_tests, file_max, is_end, length_tests, level_tests, list_tests, read_tests, start_in, stat_tests, write_tests, decide, first_failing, front, last, making, next, position, reached, reaching, removing, removing_tests, rmdir_tests, unlink_tests, row_grants, is_directory_row, visited, walk, arriving, is_there, placing_tests, replaced_tests, entering_tests, moving_tests, last_tests}
-use Rattle.lfs_laws.specs.LawDenied.{child_of, led, IsKept, IsTooLong, MayEnter, MayPass, Says, SaysAt, Tells, Told, TellsLittle}
+use Rattle.lfs_model.specs.Rules.{Check, asks, attrs_at, change_tests, chflags_tests, chmod_tests, chown_tests}
+use Rattle.lfs_model.specs.Rules.{file_max, is_end, length_tests, level_tests, list_tests, read_tests, start_in}
+use Rattle.lfs_model.specs.Rules.{stat_tests, write_tests, decide, first_failing, front, last, making, next, position}
+use Rattle.lfs_model.specs.Rules.{reached, reaching, removing, removing_tests, rmdir_tests, unlink_tests, row_grants}
+use Rattle.lfs_model.specs.Rules.{is_directory_row, visited, walk, arriving, is_there, placing_tests, replaced_tests}
+use Rattle.lfs_model.specs.Rules.{entering_tests, moving_tests, last_tests}
+use Rattle.lfs_laws.specs.LawDenied.{child_of, led, IsKept, IsTooLong, MayEnter, MayPass, Says, SaysAt, Tells, Told}
+use Rattle.lfs_laws.specs.LawDenied.{TellsLittle}
 use Rattle.lfs_laws.specs.Rights.{IsGivable}
 use Rattle.lfs_rules.specs.Bits.{has_bit}
 use Rattle.lfs_rules.specs.Grants.{grants_of}
@@ -27,7 +41,8 @@ use Rattle.lfs_rules.specs.Locks.{is_immutable, is_append_only, keeps_system_loc
 use Rattle.lfs_rules.specs.Owners.{is_in_group, is_owner_or_superuser, may_set_owner}
 use Rattle.lfs_rules.specs.Securelevel.{is_above_zero, is_lower}
 use Rattle.lfs_rules.specs.Sticky.{is_barred}
-use Rattle.lfs_model.proofs.Allowed.{child_there, directory_attrs, grants_attrs, last_step, reached_last, split_last, MayArrive, may_arrive}
+use Rattle.lfs_model.proofs.Allowed.{child_there, directory_attrs, grants_attrs, last_step, reached_last, split_last}
+use Rattle.lfs_model.proofs.Allowed.{MayArrive, may_arrive}
 use Rattle.lfs_model.proofs.Children.{child-is}
 use Rattle.lfs_model.proofs.Members.{children-none}
 use Rattle.lfs_model.proofs.Deciding.{failing-behind, failing-front, met_first, passes-append}
@@ -37,12 +52,14 @@ use Rattle.lfs_types.proofs.Somewhere.{is_some_and, not_some, present, some_and,
 
 -- ---- ways
 
-pass_more : (rows : Rows) (caller : Caller) (o : Option ℕ) (names : List (List ℕ)) (name : List ℕ) → MayPass rows caller o names → MayEnter rows caller (led rows o names)
+pass_more : (rows : Rows) (caller : Caller) (o : Option ℕ) (names : List (List ℕ)) (name : List ℕ)
+    → MayPass rows caller o names → MayEnter rows caller (led rows o names)
     → MayPass rows caller o (names ++ name ∷ [])
 pass_more rows caller o [] name p enter = (enter, tt)
 pass_more rows caller o (x ∷ xs) name p enter = (p.0, pass_more rows caller (child_of rows o x) xs name p.1 enter)
 
-led_more : (rows : Rows) (o : Option ℕ) (names : List (List ℕ)) (name : List ℕ) → led rows o (names ++ name ∷ []) ≡ child_of rows (led rows o names) name
+led_more : (rows : Rows) (o : Option ℕ) (names : List (List ℕ)) (name : List ℕ) → led rows o (names ++ name ∷ [])
+    ≡ child_of rows (led rows o names) name
 led_more rows o [] name = refl
 led_more rows o (x ∷ xs) name = led_more rows (child_of rows o x) xs name
 
@@ -57,7 +74,8 @@ record At (rows : Rows) (caller : Caller) (path : List (List ℕ)) (n k : ℕ) :
   there : IsSome (map.get rows n)
 
 -- a test that isn't met, or one behind it
-pub fails : (D : Denial → Type 0) (met : Bool) (d : Denial) (rest : Option Denial) → (met ≡ false → D d) → (met ≡ true → (denial : Denial) → rest ≡ Some denial → D denial)
+pub fails : (D : Denial → Type 0) (met : Bool) (d : Denial) (rest : Option Denial) → (met ≡ false → D d)
+    → (met ≡ true → (denial : Denial) → rest ≡ Some denial → D denial)
     → (denial : Denial) → cond met rest (Some d) ≡ Some denial → D denial
 fails D true d rest first others denial h = others refl denial h
 fails D false d rest first others denial h = let same : d ≡ denial = cc in subst D same (first refl)
@@ -70,19 +88,24 @@ abbrev pub Each : (Denial → Type 0) → List Check → Type 0
 Each D [] = Unit {0}
 Each D (check ∷ checks) = (check.met ≡ false → D check.denial) × Each D checks
 
-pub each : (D : Denial → Type 0) (checks : List Check) → Each D checks → (denial : Denial) → first_failing checks ≡ Some denial → D denial
+pub each : (D : Denial → Type 0) (checks : List Check) → Each D checks → (denial : Denial) → first_failing checks
+    ≡ Some denial → D denial
 each D [] all denial h = none_fails D denial h
-each D (check ∷ checks) all denial h = fails D check.met check.denial (first_failing checks) all.0 (λ on. each D checks all.1) denial h
+each D (check ∷ checks) all denial h = fails D check.met check.denial (first_failing checks) all.0
+    (λ on. each D checks all.1) denial h
 
 by_first : (D : Denial → Type 0) (xs ys : List Check) → ((denial : Denial) → first_failing xs ≡ Some denial → D denial)
-    → (first_failing xs ≡ None → (denial : Denial) → first_failing ys ≡ Some denial → D denial) → (denial : Denial) → first_failing (xs ++ ys) ≡ Some denial
+    → (first_failing xs ≡ None → (denial : Denial) → first_failing ys ≡ Some denial → D denial) → (denial : Denial)
+    → first_failing (xs ++ ys) ≡ Some denial
     → (o : Option Denial) → first_failing xs ≡ o → D denial
 by_first D xs ys front behind denial h None e = behind e denial (sym (failing-behind xs ys e) ∙ h)
 by_first D xs ys front behind denial h (Some d) e = front denial (e ∙ sym (failing-front xs ys d e) ∙ h)
 
 -- a denial by the first tests, or by those behind them
-pub fails-append : (D : Denial → Type 0) (xs ys : List Check) → ((denial : Denial) → first_failing xs ≡ Some denial → D denial)
-    → (first_failing xs ≡ None → (denial : Denial) → first_failing ys ≡ Some denial → D denial) → (denial : Denial) → first_failing (xs ++ ys) ≡ Some denial → D denial
+pub fails-append : (D : Denial → Type 0) (xs ys : List Check)
+    → ((denial : Denial) → first_failing xs ≡ Some denial → D denial)
+    → (first_failing xs ≡ None → (denial : Denial) → first_failing ys ≡ Some denial → D denial) → (denial : Denial)
+    → first_failing (xs ++ ys) ≡ Some denial → D denial
 fails-append D xs ys front behind denial h = by_first D xs ys front behind denial h (first_failing xs) refl
 
 not_none : (o : Option ℕ) → is_none o ≡ false → (m : ℕ) × (o ≡ Some m)
@@ -105,7 +128,8 @@ nothing_left : (behind : List (List ℕ)) → behind ≡ [] → length behind �
 nothing_left behind e = let long = ap (length {A = List ℕ}) e in omega (arith, long)
 
 -- what has children is a directory
-full_directory : (rows : Rows) → Caller → IsTree rows → (m : ℕ) (r : Row) → map.get rows m ≡ Some r → (length (children rows m) == 0) ≡ false → r.file.kind ≡ Directory
+full_directory : (rows : Rows) → Caller → IsTree rows → (m : ℕ) (r : Row) → map.get rows m ≡ Some r
+    → (length (children rows m) == 0) ≡ false → r.file.kind ≡ Directory
 full_directory rows caller tree m r there full = by_kind r.file.kind refl
   where
     by_kind : (k : Kind) → r.file.kind ≡ k → r.file.kind ≡ Directory
@@ -116,11 +140,14 @@ full_directory rows caller tree m r there full = by_kind r.file.kind refl
         absurd (cc (none, full))
 
 -- what is known of the attributes at a number is known of its row's
-of_row : (rows : Rows) (n : ℕ) (r : Row) → map.get rows n ≡ Some r → (P : Attrs → Type 0) → P (attrs_at rows n) → P (attrs_of r.file)
+of_row : (rows : Rows) (n : ℕ) (r : Row) → map.get rows n ≡ Some r → (P : Attrs → Type 0) → P (attrs_at rows n)
+    → P (attrs_of r.file)
 of_row rows n r there P h = subst P (ap (λ o. attrs_of (file_at o)) there) h
 
-parent_of_row : (rows : Rows) (n : ℕ) (r : Row) → map.get rows n ≡ Some r → (dir : ℕ) → {name : List ℕ} → IsChild rows dir name n → dir ≡ r.parent
-parent_of_row rows n r there dir hangs = let row : hangs.row ≡ r = cc (hangs.there, there) in sym hangs.hangs ∙ ap (λ (x : Row). x.parent) row
+parent_of_row : (rows : Rows) (n : ℕ) (r : Row) → map.get rows n ≡ Some r → (dir : ℕ) → {name : List ℕ}
+    → IsChild rows dir name n → dir ≡ r.parent
+parent_of_row rows n r there dir hangs = let row : hangs.row ≡ r = cc (hangs.there, there) in sym hangs.hangs
+    ∙ ap (λ (x : Row). x.parent) row
 
 both_of : (a b : Bool) → not (a && b) ≡ false → (a ≡ true) × (b ≡ true)
 both_of true b h = (refl, not-false _ h)
@@ -138,9 +165,11 @@ not_most : (a b : ℕ) → nat_le a b ≡ false → b < a
 not_most a b h = grind (arith, h)
 
 abbrev BarredBy : Caller → Attrs → Attrs → Type 0
-BarredBy caller dir file = (has_bit dir.mode 0o1000 ≡ true) × (caller.uid ≢ 0) × (caller.uid ≢ file.uid) × (caller.uid ≢ dir.uid)
+BarredBy caller dir file = (has_bit dir.mode 0o1000 ≡ true) × (caller.uid ≢ 0) × (caller.uid ≢ file.uid)
+    × (caller.uid ≢ dir.uid)
 
-barred_of : (sticky s o d : Bool) → (sticky && not ((s || o) || d)) ≡ true → (sticky ≡ true) × (s ≡ false) × (o ≡ false) × (d ≡ false)
+barred_of : (sticky s o d : Bool) → (sticky && not ((s || o) || d)) ≡ true → (sticky ≡ true) × (s ≡ false) × (o ≡ false)
+    × (d ≡ false)
 barred_of true false false false h = (refl, refl, refl, refl)
 barred_of true true o d h = absurd (cc)
 barred_of true false true d h = absurd (cc)
@@ -152,16 +181,19 @@ barred_by caller dir file h =
     let b = barred_of (has_bit dir.mode 0o1000) (caller.uid == 0) (caller.uid == file.uid) (caller.uid == dir.uid) h in
     (b.0, eqb-false caller.uid 0 b.1, eqb-false caller.uid file.uid b.2, eqb-false caller.uid dir.uid b.3)
 
-kept : (w : World) (caller : Caller) (r : Row) → BarredBy caller (attrs_at w.rows r.parent) (attrs_of r.file) → IsKept w caller r
+kept : (w : World) (caller : Caller) (r : Row) → BarredBy caller (attrs_at w.rows r.parent) (attrs_of r.file)
+    → IsKept w caller r
 kept w caller r b = record { sticky = b.0; ordinary = b.1; row = b.2; parent = b.3 }
 
 -- who is neither the superuser nor the owner
-neither_owner : (caller : Caller) (attrs : Attrs) → is_owner_or_superuser caller attrs ≡ false → (caller.uid ≢ 0) × (caller.uid ≢ attrs.uid)
+neither_owner : (caller : Caller) (attrs : Attrs) → is_owner_or_superuser caller attrs ≡ false → (caller.uid ≢ 0)
+    × (caller.uid ≢ attrs.uid)
 neither_owner caller attrs h =
     let b = or_parts (caller.uid == 0) (caller.uid == attrs.uid) h in
     (eqb-false caller.uid 0 b.0, eqb-false caller.uid attrs.uid b.1)
 
-gives_not : (s o u g m : Bool) → (s || ((o && u) && (g || m))) ≡ false → o ≡ true → (s ≡ true) ⊎ ((u ≡ true) × ((g ≡ true) ⊎ (m ≡ true))) → ⊥
+gives_not : (s o u g m : Bool) → (s || ((o && u) && (g || m))) ≡ false → o ≡ true → (s ≡ true)
+    ⊎ ((u ≡ true) × ((g ≡ true) ⊎ (m ≡ true))) → ⊥
 gives_not s o u g m h e may = wrong (sym h ∙ gives s o u g m (or_right s o e) may)
   where
     last_true : (b : Bool) → (b || true) ≡ true
@@ -171,12 +203,16 @@ gives_not s o u g m h e may = wrong (sym h ∙ gives s o u g m (or_right s o e) 
     wrong : false ≡ true → ⊥
     wrong bad = cc (bad)
 
-given_wrongly : (caller : Caller) (uid gid : ℕ) (r : Row) → may_set_owner caller (attrs_of r.file) uid gid ≡ false → caller.uid ≡ r.file.uid → IsGivable caller r.file uid gid → ⊥
+given_wrongly : (caller : Caller) (uid gid : ℕ) (r : Row) → may_set_owner caller (attrs_of r.file) uid gid ≡ false
+    → caller.uid ≡ r.file.uid → IsGivable caller r.file uid gid → ⊥
 given_wrongly caller uid gid r h own may =
-    gives_not (caller.uid == 0) (caller.uid == r.file.uid) (uid == r.file.uid) (gid == r.file.gid) (is_in_group caller gid) h (eq-eqb caller.uid r.file.uid own)
-    (⊎_elim (λ s. inl (eq-eqb caller.uid 0 s)) (λ two. inr (eq-eqb uid r.file.uid two.0, ⊎_elim (λ g. inl (eq-eqb gid r.file.gid g)) (λ m. inr m) two.1)) may)
+    gives_not (caller.uid == 0) (caller.uid == r.file.uid) (uid == r.file.uid) (gid == r.file.gid)
+    (is_in_group caller gid) h (eq-eqb caller.uid r.file.uid own)
+    (⊎_elim (λ s. inl (eq-eqb caller.uid 0 s))
+    (λ two. inr (eq-eqb uid r.file.uid two.0, ⊎_elim (λ g. inl (eq-eqb gid r.file.gid g)) (λ m. inr m) two.1)) may)
 
-unless : (D : Denial → Type 0) (b : Bool) (checks : List Check) → ((denial : Denial) → first_failing checks ≡ Some denial → D denial)
+unless : (D : Denial → Type 0) (b : Bool) (checks : List Check)
+    → ((denial : Denial) → first_failing checks ≡ Some denial → D denial)
     → (denial : Denial) → first_failing (cond b [] checks) ≡ Some denial → D denial
 unless D true checks on denial h = none_fails D denial h
 unless D false checks on denial h = on denial h
@@ -185,20 +221,30 @@ module _ (w : World) (caller : Caller) (request : Request) (tree : IsTree w.rows
   -- the root, before any name
   abbrev start : At w.rows caller path root 0
   start = let top = some_and (map.get w.rows root) _ tree.rooted in
-      record { front = []; behind = path; split = refl; counted = refl; passes = tt; leads = refl; there = present top.is }
+      record {
+        front = [];
+        behind = path;
+        split = refl;
+        counted = refl;
+        passes = tt;
+        leads = refl;
+        there = present top.is;
+      }
 
   -- what is told of the row here
   abbrev Broken : (n k : ℕ) → At w.rows caller path n k → Rule → Type 0
   Broken n k a rule = (r : Row) → map.get w.rows n ≡ Some r → Says w caller request rule a.behind n r
 
-  here : (n k : ℕ) (a : At w.rows caller path n k) (rule : Rule) → Broken n k a rule → Tells w caller request path rule k
+  here : (n k : ℕ) (a : At w.rows caller path n k) (rule : Rule) → Broken n k a rule
+      → Tells w caller request path rule k
   here n k a rule says = let there = there_of _ a.there in record {
     front = a.front;
     behind = a.behind;
     split = a.split;
     counted = a.counted;
     passes = a.passes;
-    says = subst (SaysAt w caller request rule a.behind) (sym a.leads) (is_some_and (Says w caller request rule a.behind n) there.is (says there.value there.is));
+    says = subst (SaysAt w caller request rule a.behind) (sym a.leads)
+        (is_some_and (Says w caller request rule a.behind n) there.is (says there.value there.is));
   }
 
   -- no name is left at the end of a path
@@ -210,19 +256,25 @@ module _ (w : World) (caller : Caller) (request : Request) (tree : IsTree w.rows
       no_names a.behind (omega (arith, long, whole, count, e))
 
   -- the next name
-  on_split : (n k : ℕ) (a : At w.rows caller path n k) (name : List ℕ) (rest : List (List ℕ)) → a.behind ≡ name ∷ rest → (a.front ++ name ∷ []) ++ rest ≡ path
+  on_split : (n k : ℕ) (a : At w.rows caller path n k) (name : List ℕ) (rest : List (List ℕ)) → a.behind ≡ name ∷ rest
+      → (a.front ++ name ∷ []) ++ rest ≡ path
   on_split n k a name rest is = append_assoc a.front (name ∷ []) rest ∙ ap (λ l. a.front ++ l) (sym is) ∙ a.split
 
   on_count : (n k : ℕ) (a : At w.rows caller path n k) (name : List ℕ) → length (a.front ++ name ∷ []) ≡ k + 1
-  on_count n k a name = let long = length-append a.front (name ∷ []) in let count = a.counted in omega (arith, long, count)
+  on_count n k a name = let long = length-append a.front (name ∷ []) in let count = a.counted in
+      omega (arith, long, count)
 
-  on_leads : (n k : ℕ) (a : At w.rows caller path n k) (name : List ℕ) → led w.rows (Some root) (a.front ++ name ∷ []) ≡ child w.rows n name
+  on_leads : (n k : ℕ) (a : At w.rows caller path n k) (name : List ℕ) → led w.rows (Some root) (a.front ++ name ∷ [])
+      ≡ child w.rows n name
   on_leads n k a name = led_more w.rows (Some root) a.front name ∙ ap (λ o. child_of w.rows o name) a.leads
 
-  on_passes : (n k : ℕ) (a : At w.rows caller path n k) (name : List ℕ) → MayEnter w.rows caller (Some n) → MayPass w.rows caller (Some root) (a.front ++ name ∷ [])
-  on_passes n k a name enter = pass_more w.rows caller (Some root) a.front name a.passes (subst (MayEnter w.rows caller) (sym a.leads) enter)
+  on_passes : (n k : ℕ) (a : At w.rows caller path n k) (name : List ℕ) → MayEnter w.rows caller (Some n)
+      → MayPass w.rows caller (Some root) (a.front ++ name ∷ [])
+  on_passes n k a name enter = pass_more w.rows caller (Some root) a.front name a.passes
+      (subst (MayEnter w.rows caller) (sym a.leads) enter)
 
-  abbrev next_at : (n k : ℕ) (a : At w.rows caller path n k) (name : List ℕ) (rest : List (List ℕ)) → a.behind ≡ name ∷ rest → MayEnter w.rows caller (Some n)
+  abbrev next_at : (n k : ℕ) (a : At w.rows caller path n k) (name : List ℕ) (rest : List (List ℕ)) → a.behind ≡ name
+      ∷ rest → MayEnter w.rows caller (Some n)
       → (m : ℕ) → child w.rows n name ≡ Some m → At w.rows caller path m (k + 1)
   next_at n k a name rest is enter m at = record {
     front = a.front ++ name ∷ [];
@@ -235,7 +287,8 @@ module _ (w : World) (caller : Caller) (request : Request) (tree : IsTree w.rows
   }
 
   -- a name that isn't there
-  missing : (n k : ℕ) (a : At w.rows caller path n k) (name : List ℕ) (rest : List (List ℕ)) → a.behind ≡ name ∷ rest → MayEnter w.rows caller (Some n)
+  missing : (n k : ℕ) (a : At w.rows caller path n k) (name : List ℕ) (rest : List (List ℕ)) → a.behind ≡ name ∷ rest
+      → MayEnter w.rows caller (Some n)
       → child w.rows n name ≡ None → Tells w caller request path NameThere (k + 1)
   missing n k a name rest is enter none = record {
     front = a.front ++ name ∷ [];
@@ -246,17 +299,25 @@ module _ (w : World) (caller : Caller) (request : Request) (tree : IsTree w.rows
     says = subst (SaysAt w caller request NameThere rest) (sym (on_leads n k a name ∙ none)) tt;
   }
 
-  module _ (index : ℕ) (D : Denial → Type 0) (tells : (rule : Rule) (k : ℕ) → Tells w caller request path rule k → D (record { rule = rule; path = index; at = k })) where
+  module _ (index : ℕ) (D : Denial → Type 0) (tells : (rule : Rule) (k : ℕ) → Tells w caller request path rule k
+      → D (record { rule = rule; path = index; at = k })) where
     -- a walk along names, and tests behind it
-    along : (names rest : List (List ℕ)) (n k : ℕ) (a : At w.rows caller path n k) → a.behind ≡ names ++ rest → (tail : List Check)
-        → ((j : ℕ) → j ≡ k + length names → (b : At w.rows caller path (reached w.rows n names) j) → b.behind ≡ rest → (denial : Denial) → first_failing tail ≡ Some denial → D denial)
+    along : (names rest : List (List ℕ)) (n k : ℕ) (a : At w.rows caller path n k) → a.behind ≡ names ++ rest
+        → (tail : List Check)
+        → ((j : ℕ) → j ≡ k + length names → (b : At w.rows caller path (reached w.rows n names) j) → b.behind ≡ rest
+        → (denial : Denial) → first_failing tail ≡ Some denial → D denial)
         → (denial : Denial) → first_failing (walk w.rows caller index k n names ++ tail) ≡ Some denial → D denial
     along [] rest n k a is tail on denial h = on k (omega arith) a is denial h
     along (name ∷ names) rest n k a is tail on denial h =
         fails D (is_directory_row (map.get w.rows n)) _ _
-        (λ none. tells IsDirectory k (here n k a IsDirectory (λ r there. regular_kind r.file.kind (ap is_directory_row (sym there) ∙ none))))
+        (λ none. tells IsDirectory k (here n k a IsDirectory
+        (λ r there. regular_kind r.file.kind (ap is_directory_row (sym there) ∙ none))))
         (λ dir. fails D (row_grants caller bits.Search (map.get w.rows n)) _ _
-        (λ none. tells GrantsSearch k (here n k a GrantsSearch (λ r there. (directory_kind r.file.kind (ap is_directory_row (sym there) ∙ dir), ap (row_grants caller bits.Search) (sym there) ∙ none))))
+        (λ none. tells GrantsSearch k (here n k a GrantsSearch
+        (λ r there. (
+          directory_kind r.file.kind (ap is_directory_row (sym there) ∙ dir),
+          ap (row_grants caller bits.Search) (sym there) ∙ none,
+        ))))
         (λ search. fails D (is_some (child w.rows n name)) _ _
         (λ none. tells NameThere (k + 1) (missing n k a name (names ++ rest) is (dir, search) (not_some _ none)))
         (λ some. along names rest (next w.rows n name) (k + 1)
@@ -266,21 +327,29 @@ module _ (w : World) (caller : Caller) (request : Request) (tree : IsTree w.rows
 
     -- tests of the attributes at the end of the path
     at_path : (tests : Attrs → ℕ → List Check)
-        → ((n : ℕ) → At w.rows caller path n (length path) → (denial : Denial) → first_failing (tests (attrs_at w.rows n) (length path)) ≡ Some denial → D denial)
-        → (denial : Denial) → first_failing (walk w.rows caller index 0 root path ++ tests (attrs_at w.rows (reached w.rows root path)) (length path)) ≡ Some denial → D denial
-    at_path tests on = along path [] root 0 start (sym (append-nil path)) (tests (attrs_at w.rows (reached w.rows root path)) (length path))
-        (λ j e b is. on (reached w.rows root path) (subst (At w.rows caller path (reached w.rows root path)) (let same : j ≡ length path = omega (arith, e) in same) b))
+        → ((n : ℕ) → At w.rows caller path n (length path) → (denial : Denial)
+        → first_failing (tests (attrs_at w.rows n) (length path)) ≡ Some denial → D denial)
+        → (denial : Denial) → first_failing (walk w.rows caller index 0 root path
+        ++ tests (attrs_at w.rows (reached w.rows root path)) (length path)) ≡ Some denial → D denial
+    at_path tests on = along path [] root 0 start (sym (append-nil path))
+        (tests (attrs_at w.rows (reached w.rows root path)) (length path))
+        (λ j e b is. on (reached w.rows root path)
+        (subst (At w.rows caller path (reached w.rows root path)) (let same : j
+        ≡ length path = omega (arith, e) in same) b))
 
     -- a test by a rule of a row that is there
-    ok : (n k : ℕ) (a : At w.rows caller path n k) (rule : Rule) → Broken n k a rule → D (record { rule = rule; path = index; at = k })
+    ok : (n k : ℕ) (a : At w.rows caller path n k) (rule : Rule) → Broken n k a rule
+        → D (record { rule = rule; path = index; at = k })
     ok n k a rule says = tells rule k (here n k a rule says)
 
     -- so at a component that is said otherwise
-    tell_at : (n j k : ℕ) → j ≡ k → (a : At w.rows caller path n j) (rule : Rule) → Broken n j a rule → D (record { rule = rule; path = index; at = k })
+    tell_at : (n j k : ℕ) → j ≡ k → (a : At w.rows caller path n j) (rule : Rule) → Broken n j a rule
+        → D (record { rule = rule; path = index; at = k })
     tell_at n j k e a rule says = subst (λ q. D (record { rule = rule; path = index; at = q })) e (ok n j a rule says)
 
   -- the tests of a new row
-  module _ (D : Denial → Type 0) (tells : (rule : Rule) (k : ℕ) → Tells w caller request path rule k → D (record { rule = rule; path = 0; at = k })) where
+  module _ (D : Denial → Type 0) (tells : (rule : Rule) (k : ℕ) → Tells w caller request path rule k
+      → D (record { rule = rule; path = 0; at = k })) where
     made : (denial : Denial) → first_failing (making w.rows caller path) ≡ Some denial → D denial
     made = fails D (not (length path == 0)) _ _
         (λ none. ok 0 D tells root 0 start NameFree (λ r there. no_path path none))
@@ -290,17 +359,33 @@ module _ (w : World) (caller : Caller) (request : Request) (tree : IsTree w.rows
         let attrs = attrs_at w.rows dir in
         let kind_is = directory_attrs (map.get w.rows dir) (there_of _ b.there) in
         let search_is = grants_attrs caller bits.Search (map.get w.rows dir) (there_of _ b.there) in
-        fails D (is_directory_kind attrs.kind) _ _ (λ none. tell_at 0 D tells _ j _ at b IsDirectory (λ r there. regular_kind r.file.kind (of_row w.rows dir r there (λ x. is_directory_kind x.kind ≡ false) none)))
+        fails D (is_directory_kind attrs.kind) _ _
+        (λ none. tell_at 0 D tells _ j _ at b IsDirectory
+        (λ r there. regular_kind r.file.kind (of_row w.rows dir r there (λ x. is_directory_kind x.kind
+        ≡ false) none)))
         (λ d. fails D (grants_of caller attrs bits.Search) _ _
-        (λ none. tell_at 0 D tells _ j _ at b GrantsSearch (λ r there. (directory_kind r.file.kind (of_row w.rows dir r there (λ x. is_directory_kind x.kind ≡ true) d), of_row w.rows dir r there (λ x. grants_of caller x bits.Search ≡ false) none)))
+        (λ none. tell_at 0 D tells _ j _ at b GrantsSearch
+        (λ r there. (
+          directory_kind r.file.kind (of_row w.rows dir r there (λ x. is_directory_kind x.kind
+              ≡ true) d),
+          of_row w.rows dir r there (λ x. grants_of caller x bits.Search ≡ false) none,
+        )))
         (λ s. fails D (is_none (child w.rows dir (last path))) _ _
         (λ taken. let m = not_none (child w.rows dir (last path)) taken in
         let c = next_at _ j b (last path) [] is (kind_is ∙ d, search_is ∙ s) m.0 m.1 in
         tell_at 0 D tells m.0 (j + 1) _ (ap (λ q. q + 1) at) c NameFree (λ r there. refl))
         (λ free. fails D (not (is_immutable attrs)) _ _
-        (λ none. tell_at 0 D tells _ j _ at b IsMutable (λ r there. (one_left b.behind (last path) is, of_row w.rows dir r there (λ x. is_immutable x ≡ true) (not-false _ none))))
+        (λ none. tell_at 0 D tells _ j _ at b IsMutable
+        (λ r there. (
+          one_left b.behind (last path) is,
+          of_row w.rows dir r there (λ x. is_immutable x ≡ true) (not-false _ none),
+        )))
         (λ m. fails D (grants_of caller attrs bits.Write) _ _
-        (λ none. tell_at 0 D tells _ j _ at b GrantsWrite (λ r there. (one_left b.behind (last path) is, of_row w.rows dir r there (λ x. grants_of caller x bits.Write ≡ false) none)))
+        (λ none. tell_at 0 D tells _ j _ at b GrantsWrite
+        (λ r there. (
+          one_left b.behind (last path) is,
+          of_row w.rows dir r there (λ x. grants_of caller x bits.Write ≡ false) none,
+        )))
         (λ g. none_fails D)))))))
 
   -- ---- where a walk that passes ends
@@ -311,43 +396,67 @@ module _ (w : World) (caller : Caller) (request : Request) (tree : IsTree w.rows
     at : At w.rows caller path (reached w.rows n names) to
     left : at.behind ≡ rest
 
-  ended : (index : ℕ) (names rest : List (List ℕ)) (n k : ℕ) (a : At w.rows caller path n k) → a.behind ≡ names ++ rest → first_failing (walk w.rows caller index k n names) ≡ None → Ended n k names rest
+  ended : (index : ℕ) (names rest : List (List ℕ)) (n k : ℕ) (a : At w.rows caller path n k) → a.behind ≡ names ++ rest
+      → first_failing (walk w.rows caller index k n names) ≡ None → Ended n k names rest
   ended index [] rest n k a is h = record { to = k; is = omega arith; at = a; left = is }
   ended index (name ∷ names) rest n k a is h =
       let d = met_first _ _ _ h in
       let s = met_first _ _ _ d.1 in
       let t = met_first _ _ _ s.1 in
-      let on = ended index names rest (next w.rows n name) (k + 1) (next_at n k a name (names ++ rest) is (d.0, s.0) (next w.rows n name) (child_there _ _ t.0 refl)) refl t.1 in
+      let on = ended index names rest (next w.rows n name) (k + 1)
+      (next_at n k a name (names ++ rest) is (d.0, s.0) (next w.rows n name) (child_there _ _ t.0 refl)) refl t.1 in
       let e = on.is in
       record { to = on.to; is = omega (arith, e); at = on.at; left = on.left }
 
   -- the tests of a directory, and of what hangs in it, whose name is to go
-  lost : (index : ℕ) (D : Denial → Type 0) (tells : (rule : Rule) (k : ℕ) → Tells w caller request path rule k → D (record { rule = rule; path = index; at = k }))
-      → (dir m : ℕ) (name : List ℕ) (hangs : IsChild w.rows dir name m) (j k : ℕ) → j ≡ k → j + 1 ≡ k + 1 → (a : At w.rows caller path dir j) → length a.behind ≤ 1
-      → (c : At w.rows caller path m (j + 1)) → c.behind ≡ [] → (denial : Denial) → first_failing (removing_tests caller index (attrs_at w.rows dir) (attrs_at w.rows m) k) ≡ Some denial → D denial
-  lost index D tells dir m name hangs j k at after a one c last_one = each D (removing_tests caller index (attrs_at w.rows dir) (attrs_at w.rows m) k) (
-    λ f. tell_at index D tells _ j _ at a IsMutable (λ r there. (one, of_row w.rows dir r there (λ x. is_immutable x ≡ true) (not-false _ f))),
-    (
-      λ f. tell_at index D tells _ j _ at a GrantsWrite (λ r there. (one, of_row w.rows dir r there (λ x. grants_of caller x bits.Write ≡ false) f)),
-      (
-        λ f. tell_at index D tells _ j _ at a IsNotAppendOnly (λ r there. (one, of_row w.rows dir r there (λ x. is_append_only x ≡ true) (not-false _ f))),
+  lost : (index : ℕ) (D : Denial → Type 0) (tells : (rule : Rule) (k : ℕ) → Tells w caller request path rule k
+      → D (record { rule = rule; path = index; at = k }))
+      → (dir m : ℕ) (name : List ℕ) (hangs : IsChild w.rows dir name m) (j k : ℕ) → j ≡ k → j + 1 ≡ k + 1
+      → (a : At w.rows caller path dir j) → length a.behind ≤ 1
+      → (c : At w.rows caller path m (j + 1)) → c.behind ≡ [] → (denial : Denial)
+      → first_failing (removing_tests caller index (attrs_at w.rows dir) (attrs_at w.rows m) k) ≡ Some denial
+      → D denial
+  lost index D tells dir m name hangs j k at after a one c last_one =
+      each D (removing_tests caller index (attrs_at w.rows dir) (attrs_at w.rows m) k) (
+        λ f. tell_at index D tells _ j _ at a IsMutable
+            (λ r there. (one, of_row w.rows dir r there (λ x. is_immutable x ≡ true) (not-false _ f))),
         (
-          λ f. tell_at index D tells _ (j + 1) _ after c PassesSticky (λ r there. (
-            last_one,
-            kept w caller r (subst (λ p. BarredBy caller (attrs_at w.rows p) (attrs_of r.file)) (parent_of_row w.rows m r there dir hangs)
-                (of_row w.rows m r there (λ x. BarredBy caller (attrs_at w.rows dir) x) (barred_by caller (attrs_at w.rows dir) (attrs_at w.rows m) (not-false _ f)))),
-          )),
+          λ f. tell_at index D tells _ j _ at a GrantsWrite
+              (λ r there. (one, of_row w.rows dir r there (λ x. grants_of caller x bits.Write ≡ false) f)),
           (
-            λ f. tell_at index D tells _ (j + 1) _ after c IsMutable (λ r there. (nothing_left c.behind last_one, of_row w.rows m r there (λ x. is_immutable x ≡ true) (not-false _ f))),
-            (λ f. tell_at index D tells _ (j + 1) _ after c IsNotAppendOnly (λ r there. (nothing_left c.behind last_one, of_row w.rows m r there (λ x. is_append_only x ≡ true) (not-false _ f))), tt),
+            λ f. tell_at index D tells _ j _ at a IsNotAppendOnly
+                (λ r there. (one, of_row w.rows dir r there (λ x. is_append_only x ≡ true) (not-false _ f))),
+            (
+              λ f. tell_at index D tells _ (j + 1) _ after c PassesSticky (λ r there. (
+                last_one,
+                kept w caller r (subst (λ p. BarredBy caller (attrs_at w.rows p) (attrs_of r.file))
+                    (parent_of_row w.rows m r there dir hangs)
+                    (of_row w.rows m r there (λ x. BarredBy caller (attrs_at w.rows dir) x)
+                    (barred_by caller (attrs_at w.rows dir) (attrs_at w.rows m) (not-false _ f)))),
+              )),
+              (
+                λ f. tell_at index D tells _ (j + 1) _ after c IsMutable
+                    (λ r there. (
+                      nothing_left c.behind last_one,
+                      of_row w.rows m r there (λ x. is_immutable x ≡ true) (not-false _ f),
+                    )),
+                (
+                  λ f. tell_at index D tells _ (j + 1) _ after c IsNotAppendOnly
+                      (λ r there. (
+                        nothing_left c.behind last_one,
+                        of_row w.rows m r there (λ x. is_append_only x ≡ true) (not-false _ f),
+                      )),
+                  tt,
+                ),
+              ),
+            ),
           ),
         ),
-      ),
-    ),
-  )
+      )
 
   -- the tests of taking a name away
-  module _ (D : Denial → Type 0) (tells : (rule : Rule) (k : ℕ) → Tells w caller request path rule k → D (record { rule = rule; path = 0; at = k })) where
+  module _ (D : Denial → Type 0) (tells : (rule : Rule) (k : ℕ) → Tells w caller request path rule k
+      → D (record { rule = rule; path = 0; at = k })) where
     removed : (denial : Denial) → first_failing (removing w.rows caller path) ≡ Some denial → D denial
     removed = fails D (not (length path == 0)) _ _
         (λ none. ok 0 D tells root 0 start IsNotRoot (λ r there. (no_path path none, refl)))
@@ -357,34 +466,47 @@ module _ (w : World) (caller : Caller) (request : Request) (tree : IsTree w.rows
         let end_row = reached w.rows root path in
         let tests = removing_tests caller 0 (attrs_at w.rows dir) (attrs_at w.rows end_row) k in
         fails-append D (walk w.rows caller 0 0 root path) tests
-        (λ denial h. along 0 D tells path [] root 0 start (sym (append-nil path)) [] (λ j e b is. none_fails D) denial (ap first_failing (append-nil (walk w.rows caller 0 0 root path)) ∙ h))
+        (λ denial h. along 0 D tells path [] root 0 start (sym (append-nil path)) [] (λ j e b is. none_fails D) denial
+        (ap first_failing (append-nil (walk w.rows caller 0 0 root path)) ∙ h))
         (λ walks. let step = last_step w.rows caller 0 0 root path filled walks in
         let end = ended 0 (front path) (last path ∷ []) root 0 start (sym (split_last path filled)) step.walks in
         let to = end.is in
         let at : end.to ≡ k = omega (arith, to) in
         let after : end.to + 1 ≡ k + 1 = omega (arith, to) in
         let one = one_left end.at.behind (last path) end.left in
-        let leads : child w.rows dir (last path) ≡ Some end_row = child_there _ _ step.leads (reached_last w.rows root path filled) in
+        let leads : child w.rows dir (last path)
+        ≡ Some end_row = child_there _ _ step.leads (reached_last w.rows root path filled) in
         let hangs = child-is w.rows dir (last path) end_row leads in
         let c = next_at _ end.to end.at (last path) [] end.left (step.directory, step.searches) end_row leads in
         lost 0 D tells dir end_row (last path) hangs _ _ at after end.at one c refl))
 
   -- the tests of the way to another place
-  module _ (D : Denial → Type 0) (tells : (rule : Rule) (k : ℕ) → Tells w caller request path rule k → D (record { rule = rule; path = 1; at = k })) where
+  module _ (D : Denial → Type 0) (tells : (rule : Rule) (k : ℕ) → Tells w caller request path rule k
+      → D (record { rule = rule; path = 1; at = k })) where
     arrived : (denial : Denial) → first_failing (arriving w.rows caller path) ≡ Some denial → D denial
     arrived = fails D (not (length path == 0)) _ _
         (λ none. ok 1 D tells root 0 start IsNotRoot (λ r there. (no_path path none, refl)))
         (λ some. along 1 D tells (front path) (last path ∷ []) root 0 start (sym (split_last path (not-true _ some))) _
         (λ j e b is. let at : j ≡ length (front path) = omega (arith, e) in
         let dir = reached w.rows root (front path) in
-        fails D (is_directory_kind (attrs_at w.rows dir).kind) _ _ (λ none. tell_at 1 D tells _ j _ at b IsDirectory (λ r there. regular_kind r.file.kind (of_row w.rows dir r there (λ x. is_directory_kind x.kind ≡ false) none)))
+        fails D (is_directory_kind (attrs_at w.rows dir).kind) _ _
+        (λ none. tell_at 1 D tells _ j _ at b IsDirectory
+        (λ r there. regular_kind r.file.kind (of_row w.rows dir r there (λ x. is_directory_kind x.kind
+        ≡ false) none)))
         (λ d. fails D (grants_of caller (attrs_at w.rows dir) bits.Search) _ _
-        (λ none. tell_at 1 D tells _ j _ at b GrantsSearch (λ r there. (directory_kind r.file.kind (of_row w.rows dir r there (λ x. is_directory_kind x.kind ≡ true) d), of_row w.rows dir r there (λ x. grants_of caller x bits.Search ≡ false) none)))
+        (λ none. tell_at 1 D tells _ j _ at b GrantsSearch
+        (λ r there. (
+          directory_kind r.file.kind (of_row w.rows dir r there (λ x. is_directory_kind x.kind
+              ≡ true) d),
+          of_row w.rows dir r there (λ x. grants_of caller x bits.Search ≡ false) none,
+        )))
         (λ s. none_fails D))))
 
     -- and of the directory and the row there
-    placed : (moved : ℕ) (o : Option ℕ) → child w.rows (reached w.rows root (front path)) (last path) ≡ o → MayArrive w.rows caller path
-        → (denial : Denial) → first_failing (placing_tests w.rows caller moved (reached w.rows root (front path)) o (length (front path))) ≡ Some denial → D denial
+    placed : (moved : ℕ) (o : Option ℕ) → child w.rows (reached w.rows root (front path)) (last path) ≡ o
+        → MayArrive w.rows caller path
+        → (denial : Denial) → first_failing (placing_tests w.rows caller moved (reached w.rows root (front path)) o
+        (length (front path))) ≡ Some denial → D denial
     placed moved None is into =
         let dir = reached w.rows root (front path) in
         let end = ended 1 (front path) (last path ∷ []) root 0 start (sym (split_last path into.filled)) into.walks in
@@ -392,8 +514,13 @@ module _ (w : World) (caller : Caller) (request : Request) (tree : IsTree w.rows
         let at : end.to ≡ length (front path) = omega (arith, to) in
         let one = one_left end.at.behind (last path) end.left in
         each D (entering_tests caller 1 (attrs_at w.rows dir) (length (front path))) (
-          λ f. tell_at 1 D tells _ end.to _ at end.at IsMutable (λ r there. (one, of_row w.rows dir r there (λ x. is_immutable x ≡ true) (not-false _ f))),
-          (λ f. tell_at 1 D tells _ end.to _ at end.at GrantsWrite (λ r there. (one, of_row w.rows dir r there (λ x. grants_of caller x bits.Write ≡ false) f)), tt),
+          λ f. tell_at 1 D tells _ end.to _ at end.at IsMutable
+              (λ r there. (one, of_row w.rows dir r there (λ x. is_immutable x ≡ true) (not-false _ f))),
+          (
+            λ f. tell_at 1 D tells _ end.to _ at end.at GrantsWrite
+                (λ r there. (one, of_row w.rows dir r there (λ x. grants_of caller x bits.Write ≡ false) f)),
+            tt,
+          ),
         )
     placed moved (Some m) is into =
         let k = length (front path) in
@@ -405,18 +532,34 @@ module _ (w : World) (caller : Caller) (request : Request) (tree : IsTree w.rows
         let one = one_left end.at.behind (last path) end.left in
         let hangs = child-is w.rows dir (last path) m is in
         let c = next_at _ end.to end.at (last path) [] end.left (into.directory, into.searches) m is in
-        fails-append D (removing_tests caller 1 (attrs_at w.rows dir) (attrs_at w.rows m) k) (replaced_tests (length (children w.rows m) == 0) (attrs_at w.rows moved) (attrs_at w.rows m) (k + 1))
+        fails-append D (removing_tests caller 1 (attrs_at w.rows dir) (attrs_at w.rows m) k)
+        (replaced_tests (length (children w.rows m) == 0) (attrs_at w.rows moved) (attrs_at w.rows m) (k + 1))
         (lost 1 D tells dir m (last path) hangs _ _ at after end.at one c refl)
-        (λ first. fails D (not (is_directory_kind (attrs_at w.rows m).kind) || is_directory_kind (attrs_at w.rows moved).kind) _ _
-        (λ f. tell_at 1 D tells _ (end.to + 1) _ after c IsNoDirectory (λ r there. (refl, directory_kind r.file.kind (of_row w.rows m r there (λ x. is_directory_kind x.kind ≡ true) (not-false _ (or_parts _ _ f).0)))))
-        (λ no. fails D (is_directory_kind (attrs_at w.rows m).kind || not (is_directory_kind (attrs_at w.rows moved).kind)) _ _
-        (λ f. tell_at 1 D tells _ (end.to + 1) _ after c IsDirectory (λ r there. regular_kind r.file.kind (of_row w.rows m r there (λ x. is_directory_kind x.kind ≡ false) (or_parts _ _ f).0)))
+        (λ first. fails D (not (is_directory_kind (attrs_at w.rows m).kind) || is_directory_kind
+        (attrs_at w.rows moved).kind) _ _
+        (λ f. tell_at 1 D tells _ (end.to + 1) _ after c IsNoDirectory
+        (λ r there. (
+          refl,
+          directory_kind r.file.kind
+              (of_row w.rows m r there (λ x. is_directory_kind x.kind ≡ true) (not-false _ (or_parts _ _ f).0)),
+        )))
+        (λ no. fails D (is_directory_kind (attrs_at w.rows m).kind || not
+        (is_directory_kind (attrs_at w.rows moved).kind)) _ _
+        (λ f. tell_at 1 D tells _ (end.to + 1) _ after c IsDirectory
+        (λ r there. regular_kind r.file.kind (of_row w.rows m r there (λ x. is_directory_kind x.kind ≡ false)
+        (or_parts _ _ f).0)))
         (λ yes. fails D (length (children w.rows m) == 0) _ _
-        (λ f. tell_at 1 D tells _ (end.to + 1) _ after c IsEmpty (λ r there. (refl, full_directory w.rows caller tree m r there f, λ none. let zero_long = eq-eqb _ 0 (ap (length {A = ℕ}) none) in cc (zero_long, f))))
+        (λ f. tell_at 1 D tells _ (end.to + 1) _ after c IsEmpty
+        (λ r there. (
+          refl,
+          full_directory w.rows caller tree m r there f,
+          λ none. let zero_long = eq-eqb _ 0 (ap (length {A = ℕ}) none) in cc (zero_long, f),
+        )))
         (λ e. none_fails D))))
 
   -- what a call takes away stands at the end of its path
-  taken_end : first_failing (removing w.rows caller path) ≡ None → At w.rows caller path (reached w.rows root path) (length path)
+  taken_end : first_failing (removing w.rows caller path) ≡ None
+      → At w.rows caller path (reached w.rows root path) (length path)
   taken_end h =
       let some = met_first (not (length path == 0)) _ _ h in
       let walks = passes-append (walk w.rows caller 0 0 root path) _ some.1 in
@@ -432,27 +575,42 @@ module _ (w : World) (caller : Caller) (request : Request) (tree : IsTree w.rows
     at : At w.rows caller path n to
     left : at.behind ≢ []
 
-  visit_here : (n moved k : ℕ) (a : At w.rows caller path n k) → a.behind ≢ [] → (b : Bool) → (n == moved) ≡ b → (others : Bool) (p : ℕ) → (b || others) ≡ true
+  visit_here : (n moved k : ℕ) (a : At w.rows caller path n k) → a.behind ≢ [] → (b : Bool) → (n == moved) ≡ b
+      → (others : Bool) (p : ℕ) → (b || others) ≡ true
       → (others ≡ true → Visited moved ((k + 1) + p)) → Visited moved (k + cond b 0 (1 + p))
   visit_here n moved k a left true e others p h on =
       let same = eqb-true n moved e in
       record {
         to = k;
         is = omega arith;
-        at = record { front = a.front; behind = a.behind; split = a.split; counted = a.counted; passes = a.passes; leads = a.leads ∙ ap Some same; there = subst (λ m. IsSome (map.get w.rows m)) same a.there };
+        at = record {
+          front = a.front;
+          behind = a.behind;
+          split = a.split;
+          counted = a.counted;
+          passes = a.passes;
+          leads = a.leads ∙ ap Some same;
+          there = subst (λ m. IsSome (map.get w.rows m)) same a.there;
+        };
         left = left;
       }
-  visit_here n moved k a left false e others p h on = let v = on h in let at = v.is in record { to = v.to; is = omega (arith, at); at = v.at; left = v.left }
+  visit_here n moved k a left false e others p h on = let v = on h in let at = v.is in
+      record { to = v.to; is = omega (arith, at); at = v.at; left = v.left }
 
-  visits : (index : ℕ) (names rest : List (List ℕ)) (n k : ℕ) (a : At w.rows caller path n k) → a.behind ≡ names ++ rest → rest ≢ [] → first_failing (walk w.rows caller index k n names) ≡ None → (moved : ℕ)
-      → list_any (λ m. m == moved) (visited w.rows n names) ≡ true → Visited moved (k + position moved (visited w.rows n names))
-  visits index [] rest n k a is some h moved any = visit_here n moved k a (λ e. some (sym is ∙ e)) (n == moved) refl false 0 any (λ wrong. absurd (cc))
+  visits : (index : ℕ) (names rest : List (List ℕ)) (n k : ℕ) (a : At w.rows caller path n k) → a.behind ≡ names ++ rest
+      → rest ≢ [] → first_failing (walk w.rows caller index k n names) ≡ None → (moved : ℕ)
+      → list_any (λ m. m == moved) (visited w.rows n names) ≡ true
+      → Visited moved (k + position moved (visited w.rows n names))
+  visits index [] rest n k a is some h moved any =
+      visit_here n moved k a (λ e. some (sym is ∙ e)) (n == moved) refl false 0 any (λ wrong. absurd (cc))
   visits index (name ∷ names) rest n k a is some h moved any =
       let d = met_first _ _ _ h in
       let s = met_first _ _ _ d.1 in
       let t = met_first _ _ _ s.1 in
       let b = next_at n k a name (names ++ rest) is (d.0, s.0) (next w.rows n name) (child_there _ _ t.0 refl) in
-      visit_here n moved k a (λ e. cc (sym is ∙ e)) (n == moved) refl (list_any (λ m. m == moved) (visited w.rows (next w.rows n name) names)) (position moved (visited w.rows (next w.rows n name) names)) any
+      visit_here n moved k a (λ e. cc (sym is ∙ e)) (n == moved) refl
+      (list_any (λ m. m == moved) (visited w.rows (next w.rows n name) names))
+      (position moved (visited w.rows (next w.rows n name) names)) any
       (visits index names rest (next w.rows n name) (k + 1) b refl some t.1 moved)
 
 -- ---- each call
@@ -468,7 +626,8 @@ module _ (w : World) (caller : Caller) (tree : IsTree w.rows) where
 
   -- a call of what a path leads to
   by_path : (request : Request) (path : List (List ℕ)) (tests : Attrs → ℕ → List Check)
-      → ((n : ℕ) (a : Object path n) (denial : Denial) → first_failing (tests (attrs_at w.rows n) (length path)) ≡ Some denial
+      → ((n : ℕ) (a : Object path n) (denial : Denial) → first_failing (tests (attrs_at w.rows n) (length path))
+      ≡ Some denial
       → Along request path denial)
       → (denial : Denial) → first_failing (reaching w.rows caller path tests) ≡ Some denial → Along request path denial
   by_path request path tests on = at_path w caller request tree path 0 (Along request path) (λ rule k t. t) tests on
@@ -479,24 +638,48 @@ module _ (w : World) (caller : Caller) (tree : IsTree w.rows) where
 
   -- of the object, at the path's end, this is so
   object : (request : Request) (path : List (List ℕ)) (n : ℕ) (a : Object path n) (rule : Rule)
-      → ((r : Row) → map.get w.rows n ≡ Some r → Says w caller request rule [] n r) → Tells w caller request path rule (length path)
+      → ((r : Row) → map.get w.rows n ≡ Some r → Says w caller request rule [] n r)
+      → Tells w caller request path rule (length path)
   object request path n a rule says =
-      here w caller request tree path n (length path) a rule (λ r there. subst (λ l. Says w caller request rule l n r) (sym (at_last request path n a)) (says r there))
+      here w caller request tree path n (length path) a rule
+      (λ r there. subst (λ l. Says w caller request rule l n r) (sym (at_last request path n a)) (says r there))
 
   change_told : (request : Request) (path : List (List ℕ)) (appends : Bool) (fits : Attrs → Bool)
       → ((r : Row) → fits (attrs_of r.file) ≡ false → IsTooLong request r)
       → (n : ℕ) (a : Object path n) (denial : Denial)
-      → first_failing (change_tests caller appends (attrs_at w.rows n) (length path) ++ (asks (fits (attrs_at w.rows n)) FitsFile 0 (length path) ∷ [])) ≡ Some denial → Along request path denial
+      → first_failing (change_tests caller appends (attrs_at w.rows n) (length path)
+      ++ (asks (fits (attrs_at w.rows n)) FitsFile 0 (length path) ∷ [])) ≡ Some denial → Along request path denial
   change_told request path appends fits long n a =
-      each (Along request path) (change_tests caller appends (attrs_at w.rows n) (length path) ++ (asks (fits (attrs_at w.rows n)) FitsFile 0 (length path) ∷ [])) (
-        λ f. object request path n a IsNoDirectory (λ r there. (refl, directory_kind r.file.kind (of_row w.rows n r there (λ x. is_directory_kind x.kind ≡ true) (not-false _ f)))),
+      each (Along request path) (change_tests caller appends (attrs_at w.rows n) (length path)
+      ++ (asks (fits (attrs_at w.rows n)) FitsFile 0 (length path) ∷ [])) (
+        λ f. object request path n a IsNoDirectory
+            (λ r there. (
+              refl,
+              directory_kind r.file.kind
+                  (of_row w.rows n r there (λ x. is_directory_kind x.kind ≡ true) (not-false _ f)),
+            )),
         (
-          λ f. object request path n a IsMutable (λ r there. (omega arith, of_row w.rows n r there (λ x. is_immutable x ≡ true) (not-false _ f))),
+          λ f. object request path n a IsMutable (λ r there. (
+            omega arith,
+            of_row w.rows n r there (λ x. is_immutable x ≡ true) (not-false _ f),
+          )),
           (
-            λ f. object request path n a GrantsWrite (λ r there. (omega arith, of_row w.rows n r there (λ x. grants_of caller x bits.Write ≡ false) f)),
+            λ f. object request path n a GrantsWrite
+                (λ r there. (omega arith, of_row w.rows n r there (λ x. grants_of caller x bits.Write ≡ false) f)),
             (
-              λ f. object request path n a IsNotAppendOnly (λ r there. (omega arith, of_row w.rows n r there (λ x. is_append_only x ≡ true) (second_of appends _ f))),
-              (λ f. object request path n a FitsFile (λ r there. (refl, long r (of_row w.rows n r there (λ x. fits x ≡ false) f))), tt),
+              λ f. object request path n a IsNotAppendOnly
+                  (λ r there. (
+                    omega arith,
+                    of_row w.rows n r there (λ x. is_append_only x ≡ true)
+                        (second_of appends _ f),
+                  )),
+              (
+                λ f. object request path n a FitsFile (λ r there. (
+                  refl,
+                  long r (of_row w.rows n r there (λ x. fits x ≡ false) f),
+                )),
+                tt,
+              ),
             ),
           ),
         ),
@@ -507,76 +690,118 @@ module _ (w : World) (caller : Caller) (tree : IsTree w.rows) where
 
   beneath : (from to : List (List ℕ)) → first_failing (removing w.rows caller from) ≡ None → MayArrive w.rows caller to
       → list_any (λ n. n == reached w.rows root from) (visited w.rows root (front to)) ≡ true
-      → Tells w caller (Rename from to) to IsNotBeneathItself (position (reached w.rows root from) (visited w.rows root (front to)))
+      → Tells w caller (Rename from to) to IsNotBeneathItself
+      (position (reached w.rows root from) (visited w.rows root (front to)))
   beneath from to out into through =
       let moved = reached w.rows root from in
       let object = taken_end w caller (Rename from to) tree from out in
-      let v = visits w caller (Rename from to) tree to 1 (front to) (last to ∷ []) root 0 (start w caller (Rename from to) tree to) (sym (split_last to into.filled)) (λ e. cc (e)) into.walks moved through in
+      let v = visits w caller (Rename from to) tree to 1 (front to) (last to ∷ []) root 0
+      (start w caller (Rename from to) tree to) (sym (split_last to into.filled))
+      (λ e. cc (e)) into.walks moved through in
       let at = v.is in
       let spot : v.to ≡ position moved (visited w.rows root (front to)) = omega (arith, at) in
-      let leads : led w.rows (Some root) from ≡ Some moved = ap (led w.rows (Some root)) (sym (whole from object.front object.behind object.split (at_last (Rename from to) from moved object))) ∙ object.leads in
-      subst (λ k. Tells w caller (Rename from to) to IsNotBeneathItself k) spot (here w caller (Rename from to) tree to moved v.to v.at IsNotBeneathItself (λ r there. (v.left, leads)))
+      let leads : led w.rows (Some root) from ≡ Some moved =
+      ap (led w.rows (Some root)) (sym (whole from object.front object.behind object.split
+      (at_last (Rename from to) from moved object))) ∙ object.leads in
+      subst (λ k. Tells w caller (Rename from to) to IsNotBeneathItself k) spot
+      (here w caller (Rename from to) tree to moved v.to v.at IsNotBeneathItself (λ r there. (v.left, leads)))
     where
       whole : (path front behind : List (List ℕ)) → front ++ behind ≡ path → behind ≡ [] → front ≡ path
       whole path front behind split none = sym (append-nil front) ∙ ap (λ l. front ++ l) (sym none) ∙ split
 
   -- the denial of a row that gets a place
-  moved_told : (from to : List (List ℕ)) → first_failing (removing w.rows caller from) ≡ None → MayArrive w.rows caller to → (o : Option ℕ)
+  moved_told : (from to : List (List ℕ)) → first_failing (removing w.rows caller from) ≡ None
+      → MayArrive w.rows caller to → (o : Option ℕ)
       → child w.rows (reached w.rows root (front to)) (last to) ≡ o
       → (denial : Denial) → first_failing (moving_tests w.rows caller from to o) ≡ Some denial → ToldOf from to denial
   moved_told from to out into o is =
       let moved = reached w.rows root from in
       let tests = placing_tests w.rows caller moved (reached w.rows root (front to)) o (length (front to)) in
       unless (ToldOf from to) (is_there moved o) (tests ++ last_tests w.rows caller from to)
-      (fails-append (ToldOf from to) tests (last_tests w.rows caller from to) (placed w caller (Rename from to) tree to (ToldOf from to) (λ rule k t. t) moved o is into)
+      (fails-append (ToldOf from to) tests (last_tests w.rows caller from to)
+      (placed w caller (Rename from to) tree to (ToldOf from to) (λ rule k t. t) moved o is into)
       (λ first. each (ToldOf from to) (last_tests w.rows caller from to) (
         λ f. beneath from to out into (not-false _ f),
         (
           λ f. let a = taken_end w caller (Rename from to) tree from out in
               object (Rename from to) from moved a GrantsWrite (λ r there. (
                 omega arith,
-                of_row w.rows moved r there (λ x. grants_of caller x bits.Write ≡ false) (last_of (is_directory_kind (attrs_at w.rows moved).kind) (reached w.rows root (front from) == reached w.rows root (front to)) _ f),
+                of_row w.rows moved r there (λ x. grants_of caller x bits.Write ≡ false)
+                    (last_of (is_directory_kind (attrs_at w.rows moved).kind)
+                    (reached w.rows root (front from) == reached w.rows root (front to)) _ f),
               )),
           tt,
         ),
       )))
 
   -- a Rename's denial is of its first path, or of the way to its second, or of the row that gets the place
-  renamed_told : (from to : List (List ℕ)) (denial : Denial) → decide w caller (Rename from to) ≡ Some denial → ToldOf from to denial
+  renamed_told : (from to : List (List ℕ)) (denial : Denial) → decide w caller (Rename from to) ≡ Some denial
+      → ToldOf from to denial
   renamed_told from to =
       let more = moving_tests w.rows caller from to (child w.rows (reached w.rows root (front to)) (last to)) in
-      fails-append (ToldOf from to) (removing w.rows caller from) (arriving w.rows caller to ++ more) (removed w caller (Rename from to) tree from (ToldOf from to) (λ rule k t. t))
-      (λ out. fails-append (ToldOf from to) (arriving w.rows caller to) more (arrived w caller (Rename from to) tree to (ToldOf from to) (λ rule k t. t))
+      fails-append (ToldOf from to) (removing w.rows caller from) (arriving w.rows caller to ++ more)
+      (removed w caller (Rename from to) tree from (ToldOf from to) (λ rule k t. t))
+      (λ out. fails-append (ToldOf from to) (arriving w.rows caller to) more
+      (arrived w caller (Rename from to) tree to (ToldOf from to) (λ rule k t. t))
       (λ into. moved_told from to out (may_arrive w.rows tree caller to into) _ refl))
 
   told : (request : Request) (denial : Denial) → decide w caller request ≡ Some denial → Told w caller request denial
   told (Stat path) = by_path (Stat path) path stat_tests (λ n a. none_fails (Along (Stat path) path))
-  told (Read path off len) = by_path (Read path off len) path (read_tests caller) (λ n a. each (Along (Read path off len) path) (read_tests caller (attrs_at w.rows n) (length path)) (
-    λ f. object (Read path off len) path n a IsNoDirectory (λ r there. (refl, directory_kind r.file.kind (of_row w.rows n r there (λ x. is_directory_kind x.kind ≡ true) (not-false _ f)))),
-    (λ f. object (Read path off len) path n a GrantsRead (λ r there. (refl, of_row w.rows n r there (λ x. grants_of caller x bits.Read ≡ false) f)), tt),
-  ))
-  told (Names path) = by_path (Names path) path (list_tests caller) (λ n a. each (Along (Names path) path) (list_tests caller (attrs_at w.rows n) (length path)) (
-    λ f. object (Names path) path n a IsDirectory (λ r there. regular_kind r.file.kind (of_row w.rows n r there (λ x. is_directory_kind x.kind ≡ false) f)),
-    (λ f. object (Names path) path n a GrantsRead (λ r there. (refl, of_row w.rows n r there (λ x. grants_of caller x bits.Read ≡ false) f)), tt),
-  ))
+  told (Read path off len) = by_path (Read path off len) path (read_tests caller)
+      (λ n a. each (Along (Read path off len) path) (read_tests caller (attrs_at w.rows n) (length path)) (
+        λ f. object (Read path off len) path n a IsNoDirectory
+            (λ r there. (
+              refl,
+              directory_kind r.file.kind
+                  (of_row w.rows n r there (λ x. is_directory_kind x.kind ≡ true) (not-false _ f)),
+            )),
+        (
+          λ f. object (Read path off len) path n a GrantsRead
+              (λ r there. (refl, of_row w.rows n r there (λ x. grants_of caller x bits.Read ≡ false) f)),
+          tt,
+        ),
+      ))
+  told (Names path) = by_path (Names path) path (list_tests caller)
+      (λ n a. each (Along (Names path) path) (list_tests caller (attrs_at w.rows n) (length path)) (
+        λ f. object (Names path) path n a IsDirectory
+            (λ r there. regular_kind r.file.kind (of_row w.rows n r there (λ x. is_directory_kind x.kind ≡ false) f)),
+        (
+          λ f. object (Names path) path n a GrantsRead
+              (λ r there. (refl, of_row w.rows n r there (λ x. grants_of caller x bits.Read ≡ false) f)),
+          tt,
+        ),
+      ))
   told (Write path place bytes) = by_path (Write path place bytes) path (write_tests caller place (length bytes))
-      (change_told (Write path place bytes) path (is_end place) (λ attrs. nat_le (start_in place attrs.size + length bytes) file_max) (λ r f. not_most _ _ f))
-  told (SetLength path len) = by_path (SetLength path len) path (length_tests caller len) (change_told (SetLength path len) path false (λ attrs. nat_le len file_max) (λ r f. not_most _ _ f))
+      (change_told (Write path place bytes) path (is_end place)
+      (λ attrs. nat_le (start_in place attrs.size + length bytes) file_max) (λ r f. not_most _ _ f))
+  told (SetLength path len) = by_path (SetLength path len) path (length_tests caller len)
+      (change_told (SetLength path len) path false (λ attrs. nat_le len file_max) (λ r f. not_most _ _ f))
   told (Create path mode) = made w caller (Create path mode) tree path (Along (Create path mode) path) (λ rule k t. t)
   told (Mkdir path mode) = made w caller (Mkdir path mode) tree path (Along (Mkdir path mode) path) (λ rule k t. t)
   told (Unlink path) =
       let n = reached w.rows root path in
       let rest = unlink_tests (attrs_at w.rows n) (length path) in
-      fails-append (Along (Unlink path) path) (removing w.rows caller path) rest (removed w caller (Unlink path) tree path (Along (Unlink path) path) (λ rule k t. t))
+      fails-append (Along (Unlink path) path) (removing w.rows caller path) rest
+      (removed w caller (Unlink path) tree path (Along (Unlink path) path) (λ rule k t. t))
       (λ out. let a = taken_end w caller (Unlink path) tree path out in
-      each (Along (Unlink path) path) rest (λ f. object (Unlink path) path n a IsNoDirectory (λ r there. (refl, directory_kind r.file.kind (of_row w.rows n r there (λ x. is_directory_kind x.kind ≡ true) (not-false _ f)))), tt))
+      each (Along (Unlink path) path) rest (
+        λ f. object (Unlink path) path n a IsNoDirectory
+            (λ r there. (
+              refl,
+              directory_kind r.file.kind
+                  (of_row w.rows n r there (λ x. is_directory_kind x.kind ≡ true) (not-false _ f)),
+            )),
+        tt,
+      ))
   told (Rmdir path) =
       let n = reached w.rows root path in
       let rest = rmdir_tests (length (children w.rows n) == 0) (attrs_at w.rows n) (length path) in
-      fails-append (Along (Rmdir path) path) (removing w.rows caller path) rest (removed w caller (Rmdir path) tree path (Along (Rmdir path) path) (λ rule k t. t))
+      fails-append (Along (Rmdir path) path) (removing w.rows caller path) rest
+      (removed w caller (Rmdir path) tree path (Along (Rmdir path) path) (λ rule k t. t))
       (λ out. let a = taken_end w caller (Rmdir path) tree path out in
       fails (Along (Rmdir path) path) (is_directory_kind (attrs_at w.rows n).kind) _ _
-      (λ f. object (Rmdir path) path n a IsDirectory (λ r there. regular_kind r.file.kind (of_row w.rows n r there (λ x. is_directory_kind x.kind ≡ false) f)))
+      (λ f. object (Rmdir path) path n a IsDirectory
+      (λ r there. regular_kind r.file.kind (of_row w.rows n r there (λ x. is_directory_kind x.kind ≡ false) f)))
       (λ d. fails (Along (Rmdir path) path) (length (children w.rows n) == 0) _ _
       (λ f. object (Rmdir path) path n a IsEmpty (λ r there. (
         refl,
@@ -585,38 +810,58 @@ module _ (w : World) (caller : Caller) (tree : IsTree w.rows) where
       )))
       (λ e. none_fails (Along (Rmdir path) path))))
   told (Rename from to) = renamed_told from to
-  told (Chmod path mode) = by_path (Chmod path mode) path (chmod_tests caller) (λ n a. each (Along (Chmod path mode) path) (chmod_tests caller (attrs_at w.rows n) (length path)) (
-    λ f. object (Chmod path mode) path n a IsMutable (λ r there. (omega arith, of_row w.rows n r there (λ x. is_immutable x ≡ true) (not-false _ f))),
-    (
-      λ f. object (Chmod path mode) path n a IsNotAppendOnly (λ r there. (omega arith, of_row w.rows n r there (λ x. is_append_only x ≡ true) (not-false _ f))),
-      (λ f. object (Chmod path mode) path n a IsOwner (λ r there. let b = of_row w.rows n r there (λ x. (caller.uid ≢ 0) × (caller.uid ≢ x.uid)) (neither_owner caller (attrs_at w.rows n) f) in (refl, b.0, b.1)), tt),
-    ),
-  ))
-  told (Chown path uid gid) = by_path (Chown path uid gid) path (chown_tests caller uid gid) (λ n a. each (Along (Chown path uid gid) path) (chown_tests caller uid gid (attrs_at w.rows n) (length path)) (
-    λ f. object (Chown path uid gid) path n a IsMutable (λ r there. (omega arith, of_row w.rows n r there (λ x. is_immutable x ≡ true) (not-false _ f))),
-    (
-      λ f. object (Chown path uid gid) path n a IsNotAppendOnly (λ r there. (omega arith, of_row w.rows n r there (λ x. is_append_only x ≡ true) (not-false _ f))),
-      (
-        λ f. object (Chown path uid gid) path n a MaySetOwner (λ r there. (
-          refl,
-          eqb-false caller.uid 0 (or_parts (caller.uid == 0) _ f).0,
-          given_wrongly caller uid gid r (of_row w.rows n r there (λ x. may_set_owner caller x uid gid ≡ false) f),
-        )),
-        tt,
-      ),
-    ),
-  ))
-  told (Chflags path flags) = by_path (Chflags path flags) path (chflags_tests caller w.level flags) (λ n a. each (Along (Chflags path flags) path) (chflags_tests caller w.level flags (attrs_at w.rows n) (length path)) (
-    λ f. object (Chflags path flags) path n a IsOwner (λ r there. let b = of_row w.rows n r there (λ x. (caller.uid ≢ 0) × (caller.uid ≢ x.uid)) (neither_owner caller (attrs_at w.rows n) f) in (refl, b.0, b.1)),
-    (
-      λ f. object (Chflags path flags) path n a MaySetFlags (λ r there. (
-        refl,
-        eqb-false caller.uid 0 (or_parts (caller.uid == 0) _ f).0,
-        second_of (caller.uid == 0) _ (of_row w.rows n r there (λ x. may_set_flags caller x.flags flags ≡ false) f),
-      )),
-      (λ f. object (Chflags path flags) path n a KeepsSystemLocks (λ r there. let b = both_of (is_above_zero w.level) _ (of_row w.rows n r there (λ x. keeps_system_locks w.level x.flags flags ≡ false) f) in (refl, b.0, b.1)), tt),
-    ),
-  ))
+  told (Chmod path mode) = by_path (Chmod path mode) path (chmod_tests caller)
+      (λ n a. each (Along (Chmod path mode) path) (chmod_tests caller (attrs_at w.rows n) (length path)) (
+        λ f. object (Chmod path mode) path n a IsMutable
+            (λ r there. (omega arith, of_row w.rows n r there (λ x. is_immutable x ≡ true) (not-false _ f))),
+        (
+          λ f. object (Chmod path mode) path n a IsNotAppendOnly
+              (λ r there. (omega arith, of_row w.rows n r there (λ x. is_append_only x ≡ true) (not-false _ f))),
+          (
+            λ f. object (Chmod path mode) path n a IsOwner
+                (λ r there. let b = of_row w.rows n r there (λ x. (caller.uid ≢ 0) × (caller.uid ≢ x.uid))
+                (neither_owner caller (attrs_at w.rows n) f) in (refl, b.0, b.1)),
+            tt,
+          ),
+        ),
+      ))
+  told (Chown path uid gid) = by_path (Chown path uid gid) path (chown_tests caller uid gid)
+      (λ n a. each (Along (Chown path uid gid) path) (chown_tests caller uid gid (attrs_at w.rows n) (length path)) (
+        λ f. object (Chown path uid gid) path n a IsMutable
+            (λ r there. (omega arith, of_row w.rows n r there (λ x. is_immutable x ≡ true) (not-false _ f))),
+        (
+          λ f. object (Chown path uid gid) path n a IsNotAppendOnly
+              (λ r there. (omega arith, of_row w.rows n r there (λ x. is_append_only x ≡ true) (not-false _ f))),
+          (
+            λ f. object (Chown path uid gid) path n a MaySetOwner (λ r there. (
+              refl,
+              eqb-false caller.uid 0 (or_parts (caller.uid == 0) _ f).0,
+              given_wrongly caller uid gid r (of_row w.rows n r there (λ x. may_set_owner caller x uid gid ≡ false) f),
+            )),
+            tt,
+          ),
+        ),
+      ))
+  told (Chflags path flags) = by_path (Chflags path flags) path (chflags_tests caller w.level flags)
+      (λ n a. each (Along (Chflags path flags) path)
+      (chflags_tests caller w.level flags (attrs_at w.rows n) (length path)) (
+        λ f. object (Chflags path flags) path n a IsOwner
+            (λ r there. let b = of_row w.rows n r there (λ x. (caller.uid ≢ 0) × (caller.uid ≢ x.uid))
+            (neither_owner caller (attrs_at w.rows n) f) in (refl, b.0, b.1)),
+        (
+          λ f. object (Chflags path flags) path n a MaySetFlags (λ r there. (
+            refl,
+            eqb-false caller.uid 0 (or_parts (caller.uid == 0) _ f).0,
+            second_of (caller.uid == 0) _ (of_row w.rows n r there (λ x. may_set_flags caller x.flags flags ≡ false) f),
+          )),
+          (
+            λ f. object (Chflags path flags) path n a KeepsSystemLocks
+                (λ r there. let b = both_of (is_above_zero w.level) _
+                (of_row w.rows n r there (λ x. keeps_system_locks w.level x.flags flags ≡ false) f) in (refl, b.0, b.1)),
+            tt,
+          ),
+        ),
+      ))
   told (SetLevel level) = each (Told w caller (SetLevel level)) (level_tests caller w.level level) (
     λ f. (refl, refl, eqb-false caller.uid 0 f),
     (λ f. let b = both_of (is_lower level w.level) _ f in (refl, refl, (b.0, not-true _ b.1)), tt),

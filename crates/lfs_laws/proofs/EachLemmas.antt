@@ -1,5 +1,6 @@
 -- Each entry of a legal list stands lawfully between the worlds around it.
-use Rattle.std.proofs.Common.{◌≡◌, ◌≤◌, ℕ, List, [], ◌∷◌, ◌++◌, length, Option, None, Some, refl, sym, ap, subst, ⊎_elim, arith}
+use Rattle.std.proofs.Common.{◌≡◌, ◌≤◌, ℕ, List, [], ◌∷◌, ◌++◌, length, Option, None, Some, refl, sym, ap, subst}
+use Rattle.std.proofs.Common.{⊎_elim, arith}
 use Rattle.std.specs.FinMap as map
 use Rattle.lfs_types.specs.Caller.{Caller}
 use Rattle.lfs_types.specs.Tree.{Row, World}
@@ -26,21 +27,28 @@ use Rattle.lfs_model.proofs.RunLemmas.{only_root, opening_tree}
 abbrev Fits : Rows → Type 0
 Fits rows = (n : ℕ) (r : Row) → map.get rows n ≡ Some r → length r.file.bytes ≤ file_max
 
-row_fits : (numbers : ℕ) (w : World) (caller : Caller) (request : Request) (answer : Answer) → IsSound w.rows → IsAnswer numbers w caller request answer → (n : ℕ) (s : Row)
-    → map.get (after_answer numbers w caller request answer).rows n ≡ Some s → (o : Option Row) → map.get w.rows n ≡ o → length s.file.bytes ≤ file_max
+row_fits : (numbers : ℕ) (w : World) (caller : Caller) (request : Request) (answer : Answer) → IsSound w.rows
+    → IsAnswer numbers w caller request answer → (n : ℕ) (s : Row)
+    → map.get (after_answer numbers w caller request answer).rows n ≡ Some s → (o : Option Row) → map.get w.rows n ≡ o
+    → length s.file.bytes ≤ file_max
 row_fits numbers w caller request answer sound is n s at None old =
     let none = ap (λ (l : List ℕ). length l) (new_law numbers w caller request answer sound.tree is n s old at).bytes in
     omega (arith, none)
 row_fits numbers w caller request answer sound is n s at (Some r) old = ⊎_elim
-    (λ same. let long = ap (λ (l : List ℕ). length l) same in let fits = sound.fits n r old in omega (arith, long, fits))
-    (λ differs. (rewritten_law numbers w caller request answer sound.tree is n r s old at differs).fits (sound.fits n r old))
+    (λ same. let long = ap (λ (l : List ℕ). length l) same in let fits = sound.fits n r old in
+    omega (arith, long, fits))
+    (λ differs. (rewritten_law numbers w caller request answer sound.tree is n r s old at differs).fits
+    (sound.fits n r old))
     (cases_bytes s.file.bytes r.file.bytes)
 
-fits_after : (numbers segments : ℕ) (w : World) (caller : Caller) (event : Event) → IsSound w.rows → IsEvent numbers segments w caller event → Fits (after_event numbers w caller event).rows
-fits_after numbers segments w caller (User request answer) sound is n s at = row_fits numbers w caller request answer sound is n s at (map.get w.rows n) refl
+fits_after : (numbers segments : ℕ) (w : World) (caller : Caller) (event : Event) → IsSound w.rows
+    → IsEvent numbers segments w caller event → Fits (after_event numbers w caller event).rows
+fits_after numbers segments w caller (User request answer) sound is n s at =
+    row_fits numbers w caller request answer sound is n s at (map.get w.rows n) refl
 fits_after numbers segments w caller (Cleaner kind outcome) sound is n s at = sound.fits n s at
 
-sound_after : (numbers segments : ℕ) (w : World) (caller : Caller) (event : Event) → IsSound w.rows → IsEvent numbers segments w caller event → IsSound (after_event numbers w caller event).rows
+sound_after : (numbers segments : ℕ) (w : World) (caller : Caller) (event : Event) → IsSound w.rows
+    → IsEvent numbers segments w caller event → IsSound (after_event numbers w caller event).rows
 sound_after numbers segments w caller event sound is = record {
   tree = event_tree numbers segments w caller event sound.tree is;
   fits = fits_after numbers segments w caller event sound is;
@@ -49,7 +57,8 @@ sound_after numbers segments w caller event sound is = record {
 pub opening_sound : OpensSound
 opening_sound = record {
   tree = opening_tree;
-  fits = λ n r at. let root = only_root n r at in let none = ap (λ (x : Row). length x.file.bytes) (sym root.1) in omega (arith, none);
+  fits = λ n r at. let root = only_root n r at in let none = ap (λ (x : Row). length x.file.bytes) (sym root.1) in
+      omega (arith, none);
 }
 
 -- ---- each entry
@@ -58,14 +67,17 @@ record Standing (numbers segments : ℕ) (before : List Entry) (entry : Entry) (
   sound : IsSound (world_after numbers before w).rows
   may : IsEvent numbers segments (world_after numbers before w) entry.cred entry.event
 
-standing : (numbers segments : ℕ) (before : List Entry) (entry : Entry) (later : List Entry) (w : World) → IsSound w.rows → IsLegal numbers segments (before ++ entry ∷ later) w
+standing : (numbers segments : ℕ) (before : List Entry) (entry : Entry) (later : List Entry) (w : World)
+    → IsSound w.rows → IsLegal numbers segments (before ++ entry ∷ later) w
     → Standing numbers segments before entry w
 standing numbers segments [] entry later w sound legal = record { sound = sound; may = legal.0 }
 standing numbers segments (e ∷ before) entry later w sound legal =
-    let rest = standing numbers segments before entry later (after_event numbers w e.cred e.event) (sound_after numbers segments w e.cred e.event sound legal.0) legal.1 in
+    let rest = standing numbers segments before entry later (after_event numbers w e.cred e.event)
+    (sound_after numbers segments w e.cred e.event sound legal.0) legal.1 in
     record { sound = rest.sound; may = rest.may }
 
-meets : (numbers : ℕ) (w : World) (caller : Caller) (request : Request) (answer : Answer) → IsSound w.rows → IsAnswer numbers w caller request answer
+meets : (numbers : ℕ) (w : World) (caller : Caller) (request : Request) (answer : Answer) → IsSound w.rows
+    → IsAnswer numbers w caller request answer
     → MeetsLaws numbers w caller request answer (after_answer numbers w caller request answer)
 meets numbers w caller request answer sound is = record {
   may = answered_as_may numbers w caller request answer sound.tree is;
@@ -82,8 +94,10 @@ meets numbers w caller request answer sound is = record {
   shown = shown_law numbers w caller request answer sound.tree is;
 }
 
-module _ (numbers segments : ℕ) (w : World) (entry : Entry) (sound : IsSound w.rows) (may : IsEvent numbers segments w entry.cred entry.event) where
-  by_user : (request : Request) (answer : Answer) → entry.event ≡ User request answer → MeetsLaws numbers w entry.cred request answer (after_event numbers w entry.cred entry.event)
+module _ (numbers segments : ℕ) (w : World) (entry : Entry) (sound : IsSound w.rows)
+    (may : IsEvent numbers segments w entry.cred entry.event) where
+  by_user : (request : Request) (answer : Answer) → entry.event ≡ User request answer
+      → MeetsLaws numbers w entry.cred request answer (after_event numbers w entry.cred entry.event)
   by_user request answer is =
       subst (λ (x : Event). MeetsLaws numbers w entry.cred request answer (after_event numbers w entry.cred x)) (sym is)
       (meets numbers w entry.cred request answer sound (subst (IsEvent numbers segments w entry.cred) is may))

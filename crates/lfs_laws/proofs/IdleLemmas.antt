@@ -1,5 +1,6 @@
 -- What decides nothing.
-use Rattle.std.proofs.Common.{◌≡◌, ◌≢◌, ◌↔◌, ℕ, ◌/◌, ◌==◌, ◌&&◌, ◌||◌, not, Bool, true, cond, List, Option, None, Some, refl, sym, ap, ◌∙◌, ⊎_elim, eq-eqb, eqb-true}
+use Rattle.std.proofs.Common.{◌≡◌, ◌≢◌, ◌↔◌, ℕ, ◌/◌, ◌==◌, ◌&&◌, ◌||◌, not, Bool, true, cond, List, Option, None, Some}
+use Rattle.std.proofs.Common.{refl, sym, ap, ◌∙◌, ⊎_elim, eq-eqb, eqb-true}
 use Rattle.std.proofs.lemmas.Bool.{cases_eq}
 use Rattle.std.proofs.lemmas.Bool.Decides.{same_from_decides, Decides-like}
 use Rattle.std.proofs.lemmas.Map.Made.{is_member-Decides}
@@ -22,7 +23,8 @@ use Rattle.lfs_rules.specs.Securelevel.{is_above_zero}
 use Rattle.lfs_rules.specs.Sticky.{is_barred}
 use Rattle.lfs_model.specs.World.{Rows, child, children, file_at, hangs_as, hangs_in}
 use Rattle.lfs_model.specs.Rules.{attrs_at, decide, is_directory_row, level_tests, row_grants}
-use Rattle.lfs_laws.specs.LawIdle.{CallersAlike, DifferInMarks, HasSameLocks, HaveSameSystemFlags, IsChflags, IsSetLevel, LevelsAlike, MarksAlike, NumberHasSameLocks}
+use Rattle.lfs_laws.specs.LawIdle.{CallersAlike, DifferInMarks, HasSameLocks, HaveSameSystemFlags, IsChflags}
+use Rattle.lfs_laws.specs.LawIdle.{IsSetLevel, LevelsAlike, MarksAlike, NumberHasSameLocks}
 use Rattle.lfs_laws.proofs.SameKeys.{same_keys}
 use Rattle.lfs_laws.proofs.SameTests.{SameRest, SameTests, decided_same}
 
@@ -37,11 +39,15 @@ levels_alike rows caller request h = (refl, refl)
 pub number_decides : (a b : ℕ) → Decides (b == a) (a ≡ b)
 number_decides a b = (λ h. sym (eqb-true b a h), λ e. eq-eqb b a (sym e))
 
-member_same : (gs hs : List ℕ) → ((g : ℕ) → Contains gs g ↔ Contains hs g) → (g : ℕ) → list_any (λ x. x == g) gs ≡ list_any (λ x. x == g) hs
+member_same : (gs hs : List ℕ) → ((g : ℕ) → Contains gs g ↔ Contains hs g) → (g : ℕ) → list_any (λ x. x == g) gs
+    ≡ list_any (λ x. x == g) hs
 member_same gs hs same g =
-    same_from_decides _ _ (Decides-like _ (same g).0 (same g).1 (is_member-Decides number_decides gs g)) (is_member-Decides number_decides hs g)
+    same_from_decides _ _ (Decides-like _ (same g).0 (same g).1 (is_member-Decides number_decides gs g))
+    (is_member-Decides number_decides hs g)
 
-module _ (uid : ℕ) (gs hs : List ℕ) (i j : Bool) (member : (g : ℕ) → is_in_group (record { uid = uid; groups = gs; init = i }) g ≡ is_in_group (record { uid = uid; groups = hs; init = j }) g) where
+module _ (uid : ℕ) (gs hs : List ℕ) (i j : Bool) (member : (g : ℕ)
+    → is_in_group (record { uid = uid; groups = gs; init = i }) g
+    ≡ is_in_group (record { uid = uid; groups = hs; init = j }) g) where
   abbrev one : Caller
   one = record { uid = uid; groups = gs; init = i }
 
@@ -69,12 +75,15 @@ module _ (uid : ℕ) (gs hs : List ℕ) (i j : Bool) (member : (g : ℕ) → is_
     append_only = refl;
     barred = refl;
     owner = refl;
-    gives = λ u g k n. let a = attrs_at rows n in (uid == 0) || ((uid == a.uid) && (u == a.uid) && ((g == a.gid) || member g k));
+    gives = λ u g k n. let a = attrs_at rows n in
+        (uid == 0) || ((uid == a.uid) && (u == a.uid) && ((g == a.gid) || member g k));
   }
 
-  rest_alike : (w : World) (request : Request) → (IsSetLevel request → i ≡ j) → SameRest w w one two (tests_alike w.rows) request
+  rest_alike : (w : World) (request : Request) → (IsSetLevel request → i ≡ j)
+      → SameRest w w one two (tests_alike w.rows) request
   rest_alike w (Chflags path flags) init = (refl, refl)
-  rest_alike w (SetLevel level) init = λ k. level_tests (record { uid = uid; groups = gs; init = init tt k }) w.level level
+  rest_alike w (SetLevel level) init = λ k. level_tests
+      (record { uid = uid; groups = gs; init = init tt k }) w.level level
   rest_alike w request init = tt
 
   alike : (w : World) (request : Request) → (IsSetLevel request → i ≡ j) → decide w one request ≡ decide w two request
@@ -90,22 +99,26 @@ callers_alike w caller other request same init =
 
 -- what doesn't ask of other flags says the same of rows that have the same locks
 by_locks : {A : Type 0} (T : Option Row → A)
-    → ((r s : Row) → HasSameLocks r s → T (Some r) ≡ T (Some (record r { file = record r.file { flags = s.file.flags } })))
+    → ((r s : Row) → HasSameLocks r s → T (Some r)
+    ≡ T (Some (record r { file = record r.file { flags = s.file.flags } })))
     → (o p : Option Row) → NumberHasSameLocks o p → T o ≡ T p
 by_locks T h None None same = refl
 by_locks T h None (Some s) same = absurd same
 by_locks T h (Some r) None same = absurd same
 by_locks T h (Some r) (Some s) same = h r s same ∙ ap (λ x. T (Some x)) (sym same.rest)
 
-immutable_alike : (r s : Row) → HasSameLocks r s → is_immutable (attrs_of r.file) ≡ is_immutable (attrs_of (record r.file { flags = s.file.flags }))
+immutable_alike : (r s : Row) → HasSameLocks r s → is_immutable (attrs_of r.file)
+    ≡ is_immutable (attrs_of (record r.file { flags = s.file.flags }))
 immutable_alike r s h = λ i. (h.user_immutable i == 1) || (h.system_immutable i == 1)
 
-append_alike : (r s : Row) → HasSameLocks r s → is_append_only (attrs_of r.file) ≡ is_append_only (attrs_of (record r.file { flags = s.file.flags }))
+append_alike : (r s : Row) → HasSameLocks r s → is_append_only (attrs_of r.file)
+    ≡ is_append_only (attrs_of (record r.file { flags = s.file.flags }))
 append_alike r s h = λ i. (h.user_append i == 1) || (h.system_append i == 1)
 
 module _ (w v : World) (caller : Caller) (differ : DifferInMarks w v) where
   by_number : {A : Type 0} (T : Option Row → A)
-      → ((r s : Row) → HasSameLocks r s → T (Some r) ≡ T (Some (record r { file = record r.file { flags = s.file.flags } })))
+      → ((r s : Row) → HasSameLocks r s → T (Some r)
+      ≡ T (Some (record r { file = record r.file { flags = s.file.flags } })))
       → (n : ℕ) → T (map.get w.rows n) ≡ T (map.get v.rows n)
   by_number T h n = by_locks T h (map.get w.rows n) (map.get v.rows n) (differ.rows n)
 
@@ -120,7 +133,8 @@ module _ (w v : World) (caller : Caller) (differ : DifferInMarks w v) where
   unfolding children
   children_same = λ i parent. filter (λ n. by_number (hangs_in parent n) (λ r s h. refl) n i) (keys_same i)
 
-  barred_alike : (m n : ℕ) → is_barred caller (attrs_at w.rows m) (attrs_at w.rows n) ≡ is_barred caller (attrs_at v.rows m) (attrs_at v.rows n)
+  barred_alike : (m n : ℕ) → is_barred caller (attrs_at w.rows m) (attrs_at w.rows n)
+      ≡ is_barred caller (attrs_at v.rows m) (attrs_at v.rows n)
   barred_alike m n =
       by_number (λ o. is_barred caller (attrs_of (file_at o)) (attrs_at w.rows n)) (λ r s h. refl) m
       ∙ by_number (λ o. is_barred caller (attrs_at v.rows m) (attrs_of (file_at o))) (λ r s h. refl) n
@@ -144,10 +158,13 @@ module _ (w v : World) (caller : Caller) (differ : DifferInMarks w v) where
   -- ---- flags that are set
 
   keeps_alike : (flags n : ℕ)
-      → keeps_system_locks w.level (attrs_at w.rows n).flags flags ≡ keeps_system_locks v.level (attrs_at v.rows n).flags flags
+      → keeps_system_locks w.level (attrs_at w.rows n).flags flags
+      ≡ keeps_system_locks v.level (attrs_at v.rows n).flags flags
   keeps_alike flags n =
       by_number (λ o. keeps_system_locks w.level (file_at o).flags flags)
-      (λ r s h i. not (is_above_zero w.level && (((h.system_immutable i == 1) && not (has_bit flags 0x2_0000)) || ((h.system_append i == 1) && not (has_bit flags 0x4_0000))))) n
+      (λ r s h i. not (is_above_zero w.level &&
+      (((h.system_immutable i == 1) && not (has_bit flags 0x2_0000)) ||
+      ((h.system_append i == 1) && not (has_bit flags 0x4_0000))))) n
       ∙ ap (λ level. keeps_system_locks level (attrs_at v.rows n).flags flags) differ.level
 
   may_by : (flags : ℕ) (o p : Option Row) → NumberHasSameLocks o p
@@ -158,10 +175,12 @@ module _ (w v : World) (caller : Caller) (differ : DifferInMarks w v) where
   may_by flags (Some r) None h same = absurd h
   may_by flags (Some r) (Some s) h same =
       let upper = same r s refl refl in
-      λ i. (caller.uid == 0) || not (not (upper i == flags / 0x1_0000) || ((h.system_immutable i == 1) || (h.system_append i == 1)))
+      λ i. (caller.uid == 0) || not (not (upper i == flags / 0x1_0000) ||
+      ((h.system_immutable i == 1) || (h.system_append i == 1)))
 
   super_may : (flags old : ℕ) → caller.uid ≡ 0 → may_set_flags caller old flags ≡ true
-  super_may flags old super = ap (λ u. (u == 0) || not (not (old / 0x1_0000 == flags / 0x1_0000) || (has_bit old 0x2_0000 || has_bit old 0x4_0000))) super
+  super_may flags old super = ap (λ u. (u == 0) || not
+      (not (old / 0x1_0000 == flags / 0x1_0000) || (has_bit old 0x2_0000 || has_bit old 0x4_0000))) super
 
   may_alike : (flags : ℕ) → (caller.uid ≢ 0 → HaveSameSystemFlags w v) → (n : ℕ)
       → may_set_flags caller (attrs_at w.rows n).flags flags ≡ may_set_flags caller (attrs_at v.rows n).flags flags
@@ -170,10 +189,12 @@ module _ (w v : World) (caller : Caller) (differ : DifferInMarks w v) where
       (λ other. may_by flags (map.get w.rows n) (map.get v.rows n) (differ.rows n) (λ r s. system other n r s))
       (cases_eq caller.uid 0)
 
-  marks_rest : (request : Request) → (IsChflags request → caller.uid ≢ 0 → HaveSameSystemFlags w v) → SameRest w v caller caller marks_tests request
+  marks_rest : (request : Request) → (IsChflags request → caller.uid ≢ 0 → HaveSameSystemFlags w v)
+      → SameRest w v caller caller marks_tests request
   marks_rest (Chflags path flags) system = (λ i n. may_alike flags (system tt) n i, λ i n. keeps_alike flags n i)
   marks_rest (SetLevel level) system = ap (λ old. level_tests caller old level) differ.level
   marks_rest request system = tt
 
 pub marks_alike : MarksAlike
-marks_alike w v caller request differ system = decided_same w v caller caller (marks_tests w v caller differ) request (marks_rest w v caller differ request system)
+marks_alike w v caller request differ system =
+    decided_same w v caller caller (marks_tests w v caller differ) request (marks_rest w v caller differ request system)

@@ -1,5 +1,6 @@
 -- Worlds that differ in unread bytes alone: every test and every answer is the same in both.
-use Rattle.std.proofs.Common.{◌≡◌, ℕ, ◌≤◌, ◌+◌, ◌==◌, not, Bool, true, List, [], ◌∷◌, ◌++◌, length, Option, None, Some, refl, sym, ap, subst, ◌∙◌, arith}
+use Rattle.std.proofs.Common.{◌≡◌, ℕ, ◌≤◌, ◌+◌, ◌==◌, not, Bool, true, List, [], ◌∷◌, ◌++◌, length, Option, None, Some}
+use Rattle.std.proofs.Common.{refl, sym, ap, subst, ◌∙◌, arith}
 use Rattle.std.specs.Prelude.{find, filter, min, nat_le, unwrap_or, is_some, is_none, IsSome}
 use Rattle.std.specs.Prelude as lists
 use Rattle.std.specs.List.{list_any}
@@ -11,17 +12,26 @@ use Rattle.lfs_types.specs.Tree.{Row, World, root, attrs_of}
 use Rattle.lfs_types.specs.declared.answer.Answer.{Answer}
 use Rattle.lfs_types.specs.declared.answer.Answer.TheVariants.{Served, Denied, Refused}
 use Rattle.lfs_types.specs.declared.answer.Resource.{Resource}
-use Rattle.lfs_types.specs.declared.answer.Resource.TheVariants.{NoMemory, NoSpace, NoInodes, DirectoryFull, JournalFull}
+use Rattle.lfs_types.specs.declared.answer.Resource.TheVariants.{NoMemory, NoSpace, NoInodes, DirectoryFull}
+use Rattle.lfs_types.specs.declared.answer.Resource.TheVariants.{JournalFull}
 use Rattle.lfs_types.specs.declared.answer.Served.TheVariants as served
 use Rattle.lfs_types.specs.declared.attrs.Attrs.{Attrs}
 use Rattle.lfs_types.specs.declared.attrs.Bit.{Bit}
 use Rattle.lfs_types.specs.declared.attrs.Bit.TheVariants as bits
 use Rattle.lfs_types.specs.declared.request.Request.{Request}
-use Rattle.lfs_types.specs.declared.request.Request.TheVariants.{Stat, Read, Write, List as Names, SetLength, Create, Mkdir, Unlink, Rmdir, Rename, Chmod, Chown, Chflags, SetLevel, Sync}
-use Rattle.lfs_types.specs.declared.rule.Rule.TheVariants.{IsDirectory, GrantsSearch, NameThere, NameFree, IsNotRoot, IsNotBeneathItself}
+use Rattle.lfs_types.specs.declared.request.Request.TheVariants.{Stat, Read, Write, List as Names, SetLength, Create}
+use Rattle.lfs_types.specs.declared.request.Request.TheVariants.{Mkdir, Unlink, Rmdir, Rename, Chmod, Chown, Chflags}
+use Rattle.lfs_types.specs.declared.request.Request.TheVariants.{SetLevel, Sync}
+use Rattle.lfs_types.specs.declared.rule.Rule.TheVariants.{IsDirectory, GrantsSearch, NameThere, NameFree, IsNotRoot}
+use Rattle.lfs_types.specs.declared.rule.Rule.TheVariants.{IsNotBeneathItself}
 use Rattle.lfs_rules.specs.Grants.{grants_of}
 use Rattle.lfs_model.specs.World.{IsTree, Rows, hangs_in, hangs_as, child, children, name_of, file_at}
-use Rattle.lfs_model.specs.Rules.{first_failing, asks, is_directory_row, row_grants, attrs_at, next, reached, front, last, Check, walk, visited, making, making_tests, removing, removing_tests, arriving, searching_tests, entering_tests, replaced_tests, moving_tests, last_tests, leaves_test, position, unlink_tests, rmdir_tests, leaves_test, position, reaching, stat_tests, read_tests, list_tests, write_tests, length_tests, chmod_tests, chown_tests, chflags_tests, level_tests, rule_table, decide}
+use Rattle.lfs_model.specs.Rules.{first_failing, asks, is_directory_row, row_grants, attrs_at, next, reached, front}
+use Rattle.lfs_model.specs.Rules.{last, Check, walk, visited, making, making_tests, removing, removing_tests, arriving}
+use Rattle.lfs_model.specs.Rules.{searching_tests, entering_tests, replaced_tests, moving_tests, last_tests}
+use Rattle.lfs_model.specs.Rules.{leaves_test, position, unlink_tests, rmdir_tests, leaves_test, position, reaching}
+use Rattle.lfs_model.specs.Rules.{stat_tests, read_tests, list_tests, write_tests, length_tests, chmod_tests}
+use Rattle.lfs_model.specs.Rules.{chown_tests, chflags_tests, level_tests, rule_table, decide}
 use Rattle.lfs_model.specs.Effects.{read_max, in_byte_order, answer_of}
 use Rattle.lfs_laws.specs.LawUnread.{NumberLooksAlike, DifferUnread}
 use Rattle.lfs_laws.specs.Rights.{Reaches}
@@ -52,7 +62,8 @@ module _ (caller : Caller) (reaches : Type 0) where
   alike_directory (Some r) None h = absurd h
   alike_directory (Some r) (Some s) h = ap (λ (a : Attrs). is_directory_kind a.kind) h.attrs
 
-  alike_grants : (bit : Bit) (o p : Option Row) → NumberLooksAlike caller reaches o p → row_grants caller bit o ≡ row_grants caller bit p
+  alike_grants : (bit : Bit) (o p : Option Row) → NumberLooksAlike caller reaches o p → row_grants caller bit o
+      ≡ row_grants caller bit p
   alike_grants bit None None h = refl
   alike_grants bit None (Some s) h = absurd h
   alike_grants bit (Some r) None h = absurd h
@@ -64,19 +75,23 @@ module _ (caller : Caller) (reaches : Type 0) where
   alike_name (Some r) None h = absurd h
   alike_name (Some r) (Some s) h = h.names
 
-  alike_in : (parent n : ℕ) (o p : Option Row) → NumberLooksAlike caller reaches o p → hangs_in parent n o ≡ hangs_in parent n p
+  alike_in : (parent n : ℕ) (o p : Option Row) → NumberLooksAlike caller reaches o p → hangs_in parent n o
+      ≡ hangs_in parent n p
   alike_in parent n None None h = refl
   alike_in parent n None (Some s) h = absurd h
   alike_in parent n (Some r) None h = absurd h
   alike_in parent n (Some r) (Some s) h = ap (λ q. lists.◌&&◌ (not (n == root)) (q == parent)) h.parents
 
-  alike_as : (parent : ℕ) (name : List ℕ) (n : ℕ) (o p : Option Row) → NumberLooksAlike caller reaches o p → hangs_as parent name n o ≡ hangs_as parent name n p
+  alike_as : (parent : ℕ) (name : List ℕ) (n : ℕ) (o p : Option Row) → NumberLooksAlike caller reaches o p
+      → hangs_as parent name n o ≡ hangs_as parent name n p
   alike_as parent name n None None h = refl
   alike_as parent name n None (Some s) h = absurd h
   alike_as parent name n (Some r) None h = absurd h
-  alike_as parent name n (Some r) (Some s) h = λ i. lists.◌&&◌ (lists.◌&&◌ (not (n == root)) (h.parents i == parent)) (lists.bytes_eq (h.names i) name)
+  alike_as parent name n (Some r) (Some s) h =
+      λ i. lists.◌&&◌ (lists.◌&&◌ (not (n == root)) (h.parents i == parent)) (lists.bytes_eq (h.names i) name)
 
-  alike_bytes : (o p : Option Row) → NumberLooksAlike caller reaches o p → grants_of caller (attrs_of (file_at o)) bits.Read ≡ true → reaches → (file_at o).bytes ≡ (file_at p).bytes
+  alike_bytes : (o p : Option Row) → NumberLooksAlike caller reaches o p
+      → grants_of caller (attrs_of (file_at o)) bits.Read ≡ true → reaches → (file_at o).bytes ≡ (file_at p).bytes
   alike_bytes None None h g up = refl
   alike_bytes None (Some s) h g up = absurd h
   alike_bytes (Some r) None h g up = absurd h
@@ -105,20 +120,24 @@ module _ (caller : Caller) (w v : World) (tree : IsTree w.rows) (differ : Differ
 
   pub child_same : child w.rows ≡ child v.rows
   unfolding child
-  child_same = λ i parent name. find (λ n. alike_as caller (Reaches w.rows caller n) parent name n _ _ (differ.rows n) i) (numbers_same i)
+  child_same = λ i parent name. find (λ n. alike_as caller (Reaches w.rows caller n) parent name n _ _
+      (differ.rows n) i) (numbers_same i)
 
   children_same : children w.rows ≡ children v.rows
   unfolding children
-  children_same = λ i parent. filter (λ n. alike_in caller (Reaches w.rows caller n) parent n _ _ (differ.rows n) i) (numbers_same i)
+  children_same = λ i parent. filter (λ n. alike_in caller (Reaches w.rows caller n) parent n _ _ (differ.rows n) i)
+      (numbers_same i)
 
   pub reached_at : (at : ℕ) (names : List (List ℕ)) → reached w.rows at names ≡ reached v.rows at names
   reached_at at [] = refl
-  reached_at at (name ∷ names) = reached_at (next w.rows at name) names ∙ ap (λ o. reached v.rows (unwrap_or o 0) names) (λ i. child_same i at name)
+  reached_at at (name ∷ names) = reached_at (next w.rows at name) names
+      ∙ ap (λ o. reached v.rows (unwrap_or o 0) names) (λ i. child_same i at name)
 
   reached_same : reached w.rows ≡ reached v.rows
   reached_same = λ i at names. reached_at at names i
 
-  walk_at : (path k at : ℕ) (names : List (List ℕ)) → walk w.rows caller path k at names ≡ walk v.rows caller path k at names
+  walk_at : (path k at : ℕ) (names : List (List ℕ)) → walk w.rows caller path k at names
+      ≡ walk v.rows caller path k at names
   walk_at path k at [] = refl
   walk_at path k at (name ∷ names) =
       (λ i. asks (directories i at) IsDirectory path k
@@ -132,13 +151,15 @@ module _ (caller : Caller) (w v : World) (tree : IsTree w.rows) (differ : Differ
 
   visited_at : (at : ℕ) (names : List (List ℕ)) → visited w.rows at names ≡ visited v.rows at names
   visited_at at [] = refl
-  visited_at at (name ∷ names) = ap (λ ns. at ∷ ns) (visited_at (next w.rows at name) names ∙ ap (λ o. visited v.rows (unwrap_or o 0) names) (λ i. child_same i at name))
+  visited_at at (name ∷ names) = ap (λ ns. at ∷ ns) (visited_at (next w.rows at name) names
+      ∙ ap (λ o. visited v.rows (unwrap_or o 0) names) (λ i. child_same i at name))
 
   making_same : (names : List (List ℕ)) → making w.rows caller names ≡ making v.rows caller names
   making_same names = λ i.
       let dir = reached_same i root (front names) in
       asks (not (length names == 0)) NameFree 0 0
-      ∷ walk_at 0 0 root (front names) i ++ making_tests caller (is_none (child_same i dir (last names))) (attributes i dir) (length (front names))
+      ∷ walk_at 0 0 root (front names) i ++ making_tests caller (is_none (child_same i dir (last names)))
+      (attributes i dir) (length (front names))
 
   removing_same : (names : List (List ℕ)) → removing w.rows caller names ≡ removing v.rows caller names
   removing_same names = λ i.
@@ -150,10 +171,12 @@ module _ (caller : Caller) (w v : World) (tree : IsTree w.rows) (differ : Differ
   arriving_same : (names : List (List ℕ)) → arriving w.rows caller names ≡ arriving v.rows caller names
   arriving_same names = λ i.
       asks (not (length names == 0)) IsNotRoot 1 0
-      ∷ walk_at 1 0 root (front names) i ++ searching_tests caller 1 (attributes i (reached_same i root (front names))) (length (front names))
+      ∷ walk_at 1 0 root (front names) i ++ searching_tests caller 1 (attributes i (reached_same i root (front names)))
+      (length (front names))
 
   -- what has the last name
-  named_same : (names : List (List ℕ)) → child w.rows (reached w.rows root (front names)) (last names) ≡ child v.rows (reached v.rows root (front names)) (last names)
+  named_same : (names : List (List ℕ)) → child w.rows (reached w.rows root (front names)) (last names)
+      ≡ child v.rows (reached v.rows root (front names)) (last names)
   named_same names = λ i. child_same i (reached_same i root (front names)) (last names)
 
   last_same : (from to : List (List ℕ)) → last_tests w.rows caller from to ≡ last_tests v.rows caller from to
@@ -165,18 +188,23 @@ module _ (caller : Caller) (w v : World) (tree : IsTree w.rows) (differ : Differ
       ∷ leaves_test caller stays (attributes i moved) (length from)
       ∷ []
 
-  moving_at : (from to : List (List ℕ)) (o : Option ℕ) → moving_tests w.rows caller from to o ≡ moving_tests v.rows caller from to o
+  moving_at : (from to : List (List ℕ)) (o : Option ℕ) → moving_tests w.rows caller from to o
+      ≡ moving_tests v.rows caller from to o
   moving_at from to None = λ i.
       entering_tests caller 1 (attributes i (reached_same i root (front to))) (length (front to)) ++ last_same from to i
   moving_at from to (Some m) = λ i.
       let moved = reached_same i root from in
       let k = length (front to) in
-      lists.cond (m == moved) [] ((removing_tests caller 1 (attributes i (reached_same i root (front to))) (attributes i m) k
-      ++ replaced_tests (length (children_same i m) == 0) (attributes i moved) (attributes i m) (k + 1)) ++ last_same from to i)
+      lists.cond (m == moved) [] ((removing_tests caller 1 (attributes i (reached_same i root (front to)))
+      (attributes i m) k
+      ++ replaced_tests (length (children_same i m) == 0) (attributes i moved) (attributes i m) (k + 1))
+      ++ last_same from to i)
 
   -- what a path leads to has the same attributes
-  reaching_same : (path : List (List ℕ)) (tests : Attrs → ℕ → List Check) → reaching w.rows caller path tests ≡ reaching v.rows caller path tests
-  reaching_same path tests = λ i. walk_at 0 0 root path i ++ tests (attributes i (reached_same i root path)) (length path)
+  reaching_same : (path : List (List ℕ)) (tests : Attrs → ℕ → List Check) → reaching w.rows caller path tests
+      ≡ reaching v.rows caller path tests
+  reaching_same path tests = λ i. walk_at 0 0 root path i
+      ++ tests (attributes i (reached_same i root path)) (length path)
 
   table_same : (request : Request) → rule_table w caller request ≡ rule_table v caller request
   table_same (Stat path) = reaching_same path stat_tests
@@ -194,7 +222,8 @@ module _ (caller : Caller) (w v : World) (tree : IsTree w.rows) (differ : Differ
   table_same (Rename from to) =
       let dir = reached w.rows root (front to) in
       (λ i. removing_same from i ++ (arriving_same to i ++ moving_at from to (child w.rows dir (last to)) i))
-      ∙ ap (λ o. removing v.rows caller from ++ (arriving v.rows caller to ++ moving_tests v.rows caller from to o)) (named_same to)
+      ∙ ap (λ o. removing v.rows caller from ++ (arriving v.rows caller to ++ moving_tests v.rows caller from to o))
+      (named_same to)
   table_same (Chmod path mode) = reaching_same path (chmod_tests caller)
   table_same (Chown path uid gid) = reaching_same path (chown_tests caller uid gid)
   table_same (Chflags path flags) =
@@ -209,19 +238,28 @@ module _ (caller : Caller) (w v : World) (tree : IsTree w.rows) (differ : Differ
 
   -- ---- the answers
 
-  read_granted : (path : List (List ℕ)) (off len : ℕ) → decide w caller (Read path off len) ≡ None → grants_of caller (attrs_at w.rows (reached w.rows root path)) bits.Read ≡ true
-  read_granted path off len h = (met_first _ _ _ (met_first _ _ _ (passes-append (walk w.rows caller 0 0 root path) _ h).1).1).0
+  read_granted : (path : List (List ℕ)) (off len : ℕ) → decide w caller (Read path off len) ≡ None
+      → grants_of caller (attrs_at w.rows (reached w.rows root path)) bits.Read ≡ true
+  read_granted path off len h = (met_first _ _ _
+      (met_first _ _ _ (passes-append (walk w.rows caller 0 0 root path) _ h).1).1).0
 
   -- a call that they allow shows the same
   answer_same : (request : Request) → decide w caller request ≡ None → answer_of w request ≡ answer_of v request
   answer_same (Stat path) h = λ i. served.Stat (reached_same i root path) (attributes i (reached_same i root path))
   answer_same (Read path off len) h =
       let n = reached w.rows root path in
-      let s = shown_law 0 w caller (Read path off len) (Served (answer_of w (Read path off len))) tree (h, (λ x. x), refl) in
+      let s = shown_law 0 w caller (Read path off len) (Served (answer_of w (Read path off len))) tree (
+        h,
+        (λ x. x),
+        refl,
+      ) in
       let up = subst (Reaches w.rows caller) (sym s.named) s.reaches in
       let here = alike_bytes caller (Reaches w.rows caller n) _ _ (differ.rows n) (read_granted path off len h) up in
-      ap (λ bytes. served.Bytes (slice_of bytes off (min len read_max))) (here ∙ ap (λ m. (file_at (map.get v.rows m)).bytes) (reached_at root path))
-  answer_same (Names path) h = λ i. served.Names (in_byte_order (lists.map (λ n. alike_name caller (Reaches w.rows caller n) _ _ (differ.rows n) i) (children_same i (reached_same i root path))))
+      ap (λ bytes. served.Bytes (slice_of bytes off (min len read_max))) (here
+      ∙ ap (λ m. (file_at (map.get v.rows m)).bytes) (reached_at root path))
+  answer_same (Names path) h = λ i. served.Names
+      (in_byte_order (lists.map (λ n. alike_name caller (Reaches w.rows caller n) _ _ (differ.rows n) i)
+      (children_same i (reached_same i root path))))
   answer_same (Write path place bytes) h = refl
   answer_same (SetLength path len) h = refl
   answer_same (Create path mode) h = refl
@@ -289,9 +327,12 @@ module _ (caller : Caller) (w v : World) (tree : IsTree w.rows) (differ : Differ
   lacks_back numbers (SetLevel level) h = h
   lacks_back numbers Sync h = h
 
-  many_same : (path : List (List ℕ)) → FILE_BLOCKS ≤ length (children w.rows (reached w.rows root (front path))) → FILE_BLOCKS ≤ length (children v.rows (reached v.rows root (front path)))
+  many_same : (path : List (List ℕ)) → FILE_BLOCKS ≤ length (children w.rows (reached w.rows root (front path)))
+      → FILE_BLOCKS ≤ length (children v.rows (reached v.rows root (front path)))
   many_same path h =
-      let count : length (children w.rows (reached w.rows root (front path))) ≡ length (children v.rows (reached v.rows root (front path))) = λ i. length (children_same i (reached_same i root (front path))) in
+      let count : length (children w.rows (reached w.rows root (front path)))
+      ≡ length (children v.rows (reached v.rows root (front path))) =
+      λ i. length (children_same i (reached_same i root (front path))) in
       omega (arith, count, h)
 
   crowded_same : (request : Request) → IsCrowded w request → IsCrowded v request
@@ -311,15 +352,24 @@ module _ (caller : Caller) (w v : World) (tree : IsTree w.rows) (differ : Differ
   crowded_same (SetLevel level) h = h
   crowded_same Sync h = h
 
-  lack_same : (numbers : ℕ) (request : Request) (resource : Resource) → MayLack numbers w request resource → MayLack numbers v request resource
+  lack_same : (numbers : ℕ) (request : Request) (resource : Resource) → MayLack numbers w request resource
+      → MayLack numbers v request resource
   lack_same numbers request NoInodes h = lacks_same numbers request h
-  lack_same numbers request DirectoryFull h = (λ lacks. h.0 (lacks_back numbers request lacks), crowded_same request h.1)
+  lack_same numbers request DirectoryFull h =
+      (λ lacks. h.0 (lacks_back numbers request lacks), crowded_same request h.1)
   lack_same numbers request NoSpace h = (λ lacks. h.0 (lacks_back numbers request lacks), h.1)
   lack_same numbers request NoMemory h = h
   lack_same numbers request JournalFull h = h
 
   -- an answer that a call may have in one it may have in the other
-  pub answers_alike : (numbers : ℕ) (request : Request) (answer : Answer) → IsAnswer numbers w caller request answer → IsAnswer numbers v caller request answer
-  answers_alike numbers request (Served shown) is = (sym (decide_same request) ∙ is.0, λ lacks. is.1 (lacks_back numbers request lacks), is.2 ∙ answer_same request is.0)
+  pub answers_alike : (numbers : ℕ) (request : Request) (answer : Answer) → IsAnswer numbers w caller request answer
+      → IsAnswer numbers v caller request answer
+  answers_alike numbers request (Served shown) is = (
+    sym (decide_same request) ∙ is.0,
+    λ lacks. is.1 (lacks_back numbers request lacks),
+    is.2
+        ∙ answer_same request is.0,
+  )
   answers_alike numbers request (Denied denial) is = sym (decide_same request) ∙ is
-  answers_alike numbers request (Refused resource) is = (sym (decide_same request) ∙ is.0, lack_same numbers request resource is.1)
+  answers_alike numbers request (Refused resource) is =
+      (sym (decide_same request) ∙ is.0, lack_same numbers request resource is.1)

@@ -14,7 +14,8 @@ abbrev nobody : Caller
 nobody = record { uid = 0; groups = []; init = false }
 
 module _ (rows : Rows) (tree : IsTree rows) where
-  the_child : (at : ℕ) (name : List ℕ) (m : ℕ) → IsChild rows at name m → (o : Option ℕ) → child rows at name ≡ o → child rows at name ≡ Some m
+  the_child : (at : ℕ) (name : List ℕ) (m : ℕ) → IsChild rows at name m → (o : Option ℕ) → child rows at name ≡ o
+      → child rows at name ≡ Some m
   the_child at name m hangs None e = absurd (child-none rows at name e m hangs)
   the_child at name m hangs (Some k) e = e ∙ ap Some (tree.unique at name k m (child-is rows at name k e) hangs)
 
@@ -22,7 +23,8 @@ module _ (rows : Rows) (tree : IsTree rows) where
   pub child_of_hangs : (at : ℕ) (name : List ℕ) (m : ℕ) → IsChild rows at name m → child rows at name ≡ Some m
   child_of_hangs at name m hangs = the_child at name m hangs _ refl
 
-  leads_on : (at n : ℕ) (name : List ℕ) (names : List (List ℕ)) → ((m : ℕ) → led rows (Some m) names ≡ Some n → Leads rows m names n) → (o : Option ℕ)
+  leads_on : (at n : ℕ) (name : List ℕ) (names : List (List ℕ))
+      → ((m : ℕ) → led rows (Some m) names ≡ Some n → Leads rows m names n) → (o : Option ℕ)
       → child rows at name ≡ o
       → led rows o names ≡ Some n → Leads rows at (name ∷ names) n
   leads_on at n name names rest None e h = absurd (cc (sym (led_none rows nobody tree names) ∙ h))
@@ -41,5 +43,6 @@ leads_by_names w path n tree = (leads_of w.rows tree root n path, led_of w.rows 
 
 pub shows_by_names : ShowsByNames
 shows_by_names w path n r tree leads there =
-    ap (λ m. served.Stat m (attrs_at w.rows m)) (led_reached w.rows nobody tree root n path (led_of w.rows tree root n path leads))
+    ap (λ m. served.Stat m (attrs_at w.rows m))
+    (led_reached w.rows nobody tree root n path (led_of w.rows tree root n path leads))
     ∙ ap (λ o. served.Stat n (attrs_of (file_at o))) there

@@ -1,5 +1,6 @@
 -- What becomes of a path by one call.
-use Rattle.std.proofs.Common.{◌≡◌, ◌⊎◌, ℕ, true, List, [], ◌∷◌, Option, None, Some, refl, sym, ap, subst, ◌∙◌, ⊎_elim, inl, inr}
+use Rattle.std.proofs.Common.{◌≡◌, ◌⊎◌, ℕ, true, List, [], ◌∷◌, Option, None, Some, refl, sym, ap, subst, ◌∙◌, ⊎_elim}
+use Rattle.std.proofs.Common.{inl, inr}
 use Rattle.std.proofs.lemmas.Bool.{or_right}
 use Rattle.std.specs.Prelude.{IsSomeAnd}
 use Rattle.std.specs.FinMap as map
@@ -63,7 +64,8 @@ place_fate : (w v : World) (caller : Caller) (request : Request) (n : ℕ) (r : 
     → Kept v n r ⊎ Left w v caller request n r ⊎ Went w v caller request n r
 place_fate w v caller request n r (Stays e) = inl (record { row = r; is = e; hangs = here r r refl refl })
 place_fate w v caller request n r (Goes e x over) = inr (inl (record { none = e; by = x; over = over }))
-place_fate w v caller request n r (Moves parent name e x) = inr (inr (record { parent = parent; name = name; is = e; by = x }))
+place_fate w v caller request n r (Moves parent name e x) =
+    inr (inr (record { parent = parent; name = name; is = e; by = x }))
 place_fate w v caller request n r (Changes bytes e x) = inl (record { row = _; is = e; hangs = here r _ refl refl })
 place_fate w v caller request n r (Remodes mode e x) = inl (record { row = _; is = e; hangs = here r _ refl refl })
 place_fate w v caller request n r (Gives uid gid e x) = inl (record { row = _; is = e; hangs = here r _ refl refl })
@@ -82,7 +84,8 @@ whole w v caller from to n r s is (Reflags flags e x) = absurd x.asked
 
 -- ---- one served call
 
-module _ (numbers : ℕ) (w : World) (caller : Caller) (tree : IsTree w.rows) (request : Request) (allowed : decide w caller request ≡ None) (room : LacksInodes numbers w request → ⊥) where
+module _ (numbers : ℕ) (w : World) (caller : Caller) (tree : IsTree w.rows) (request : Request)
+    (allowed : decide w caller request ≡ None) (room : LacksInodes numbers w request → ⊥) where
   abbrev v : World
   v = effect numbers w caller request
 
@@ -95,14 +98,23 @@ module _ (numbers : ℕ) (w : World) (caller : Caller) (tree : IsTree w.rows) (r
   tree_after : IsTree v.rows
   tree_after = effect_tree numbers w caller tree request allowed room
 
-  place_of : (n : ℕ) (r : Row) → map.get w.rows n ≡ Some r → Kept v n r ⊎ Left w v caller request n r ⊎ Went w v caller request n r
+  place_of : (n : ℕ) (r : Row) → map.get w.rows n ≡ Some r → Kept v n r ⊎ Left w v caller request n r
+      ⊎ Went w v caller request n r
   place_of n r there = place_fate w v caller request n r (fate numbers w caller tree n r there request answer is)
 
   -- what kept its place hangs there still, and hung there before
   hangs_on : (at : ℕ) (name : List ℕ) (k : ℕ) (c : IsChild w.rows at name k) → Kept v k c.row → IsChild v.rows at name k
-  hangs_on at name k c kept = record { row = kept.row; there = kept.is; below = c.below; hangs = kept.hangs.parents ∙ c.hangs; named = kept.hangs.names ∙ c.named }
+  hangs_on at name k c kept = record {
+    row = kept.row;
+    there = kept.is;
+    below = c.below;
+    hangs = kept.hangs.parents
+        ∙ c.hangs;
+    named = kept.hangs.names ∙ c.named;
+  }
 
-  hung : (at : ℕ) (name : List ℕ) (k : ℕ) (c : IsChild v.rows at name k) (r : Row) → map.get w.rows k ≡ Some r → Kept v k r → IsChild w.rows at name k
+  hung : (at : ℕ) (name : List ℕ) (k : ℕ) (c : IsChild v.rows at name k) (r : Row) → map.get w.rows k ≡ Some r
+      → Kept v k r → IsChild w.rows at name k
   hung at name k c r there kept =
       let row : c.row ≡ kept.row = cc (c.there, kept.is) in
       record {
@@ -150,7 +162,8 @@ cut_further w at name names n (Rmdir other) h = h
 cut_further w at name names n (Rename from to) h = or_right _ _ h
 cut_further w at name names n request h = h
 
-cut_whole : (w : World) (path : List (List ℕ)) (n : ℕ) (request : Request) → CutFrom w root path n request → CutsOff w path n request
+cut_whole : (w : World) (path : List (List ℕ)) (n : ℕ) (request : Request) → CutFrom w root path n request
+    → CutsOff w path n request
 cut_whole w path n (Unlink other) h = h
 cut_whole w path n (Rmdir other) h = h
 cut_whole w path n (Rename from to) h = h
@@ -173,9 +186,11 @@ further w v request at name names n e = ⊎_elim
     (λ other. inr (inr (other.0, ap (λ o. led v.rows o names) e ∙ other.1, other.2)))
     more)
 
-module _ (numbers : ℕ) (w : World) (caller : Caller) (tree : IsTree w.rows) (at : ℕ) (name : List ℕ) (k : ℕ) (c : IsChild w.rows at name k) where
+module _ (numbers : ℕ) (w : World) (caller : Caller) (tree : IsTree w.rows) (at : ℕ) (name : List ℕ) (k : ℕ)
+    (c : IsChild w.rows at name k) where
   -- what replaced a row hangs in its place, whole
-  taken : (from to : List (List ℕ)) (allowed : decide w caller (Rename from to) ≡ None) (room : LacksInodes numbers w (Rename from to) → ⊥)
+  taken : (from to : List (List ℕ)) (allowed : decide w caller (Rename from to) ≡ None)
+      (room : LacksInodes numbers w (Rename from to) → ⊥)
       → reached w.rows root to ≡ k
       → gone.TakesOver w (effect numbers w caller (Rename from to)) (Rename from to) c.row
       → Outcome w (effect numbers w caller (Rename from to)) (Rename from to) at (name ∷ []) k
@@ -184,35 +199,55 @@ module _ (numbers : ℕ) (w : World) (caller : Caller) (tree : IsTree w.rows) (a
       let moved = (may_remove w.rows caller from (passes-append (removing w.rows caller from) _ allowed).0).hangs in
       let s = some_and _ _ over in
       let hangs : IsChild after.rows at name (reached w.rows root from) =
-      record { row = s.value; there = s.is; below = moved.below; hangs = s.holds.0 ∙ c.hangs; named = s.holds.1 ∙ c.named } in
+      record {
+        row = s.value;
+        there = s.is;
+        below = moved.below;
+        hangs = s.holds.0 ∙ c.hangs;
+        named = s.holds.1
+            ∙ c.named;
+      } in
       inr (inr (
         reached w.rows root from,
-        child_of_hangs after.rows (tree_after numbers w caller tree (Rename from to) allowed room) at name (reached w.rows root from) hangs,
+        child_of_hangs after.rows (tree_after numbers w caller tree (Rename from to) allowed room) at name
+            (reached w.rows root from) hangs,
         (
           onto,
           refl,
           is_some_and (λ r. IsSomeAnd (map.get after.rows (reached w.rows root from)) (DiffersInPlace r)) moved.there
               (whole w after caller from to (reached w.rows root from) moved.row s.value s.is
-              (fate numbers w caller tree (reached w.rows root from) moved.row moved.there (Rename from to) (answer numbers w caller tree (Rename from to) allowed room) (allowed, room, refl))),
+              (fate numbers w caller tree (reached w.rows root from) moved.row moved.there (Rename from to)
+              (answer numbers w caller tree (Rename from to) allowed room) (allowed, room, refl))),
         ),
       ))
 
   -- a row that was removed: the name leads nowhere, or to what replaced it
-  gone_case : (request : Request) (allowed : decide w caller request ≡ None) (room : LacksInodes numbers w request → ⊥) (kind : Kind)
+  gone_case : (request : Request) (allowed : decide w caller request ≡ None) (room : LacksInodes numbers w request → ⊥)
+      (kind : Kind)
       → gone.Removes w k kind request
-      → gone.TakesOver w (effect numbers w caller request) request c.row → map.get (effect numbers w caller request).rows k ≡ None
+      → gone.TakesOver w (effect numbers w caller request) request c.row
+      → map.get (effect numbers w caller request).rows k ≡ None
       → Outcome w (effect numbers w caller request) request at (name ∷ []) k
   gone_case (Unlink path) allowed room Regular asked over none =
-      inr (inl (empty numbers w caller tree (Unlink path) allowed room at name k c (λ s h. h) (λ m p t h. absurd h) (λ d. none_there _ d.row none d.there), asked))
+      inr (inl (
+        empty numbers w caller tree (Unlink path) allowed room at name k c (λ s h. h) (λ m p t h. absurd h)
+            (λ d. none_there _ d.row none d.there),
+        asked,
+      ))
   gone_case (Rmdir path) allowed room Directory asked over none =
-      inr (inl (empty numbers w caller tree (Rmdir path) allowed room at name k c (λ s h. h) (λ m p t h. absurd h) (λ d. none_there _ d.row none d.there), asked))
+      inr (inl (
+        empty numbers w caller tree (Rmdir path) allowed room at name k c (λ s h. h) (λ m p t h. absurd h)
+            (λ d. none_there _ d.row none d.there),
+        asked,
+      ))
   gone_case (Rename from to) allowed room Regular asked over none = taken from to allowed room asked.0 over
   gone_case (Rename from to) allowed room Directory asked over none = taken from to allowed room asked.0 over
   gone_case request allowed room Regular asked over none = absurd asked
   gone_case request allowed room Directory asked over none = absurd asked
 
   -- a row that was moved: the name leads nowhere
-  went_case : (request : Request) (allowed : decide w caller request ≡ None) (room : LacksInodes numbers w request → ⊥) (names : List (List ℕ)) (n : ℕ)
+  went_case : (request : Request) (allowed : decide w caller request ≡ None) (room : LacksInodes numbers w request → ⊥)
+      (names : List (List ℕ)) (n : ℕ)
       → k ≡ next w.rows at name
       → (parent : ℕ) (title : List ℕ) → Renames w k parent title request
       → map.get (effect numbers w caller request).rows k ≡ Some (record c.row { parent = parent; name = title })
@@ -222,31 +257,39 @@ module _ (numbers : ℕ) (w : World) (caller : Caller) (tree : IsTree w.rows) (a
       let after = effect numbers w caller (Rename from to) in
       let away = λ (d : IsChild after.rows at name k).
       let row : d.row ≡ record c.row { parent = parent; name = title } = cc (d.there, is) in
-      apart (here c.row _ (ap (λ (x : Row). x.parent) (sym row) ∙ d.hangs ∙ sym c.hangs) (ap (λ (x : Row). x.name) (sym row) ∙ d.named ∙ sym c.named)) in
-      let none = empty numbers w caller tree (Rename from to) allowed room at name k c (λ s h. h) (λ m p t h. sym h.0 ∙ asked.0) away in
+      apart (here c.row _ (ap (λ (x : Row). x.parent) (sym row) ∙ d.hangs ∙ sym c.hangs)
+      (ap (λ (x : Row). x.name) (sym row) ∙ d.named ∙ sym c.named)) in
+      let none = empty numbers w caller tree (Rename from to) allowed room at name k c (λ s h. h) (λ m p t h. sym h.0
+      ∙ asked.0) away in
       inr (inl (
         ap (λ o. led after.rows o names) none ∙ led_none after.rows names,
-        or_right _ _ (subst (λ m. passes w.rows (next w.rows at name) names m ≡ true) (sym (asked.0 ∙ next_is)) (passes_first w.rows (next w.rows at name) names)),
+        or_right _ _ (subst (λ m. passes w.rows (next w.rows at name) names m ≡ true) (sym (asked.0 ∙ next_is))
+            (passes_first w.rows (next w.rows at name) names)),
       ))
   went_case request allowed room names n next_is parent title asked is apart = absurd asked
 
-module _ (numbers : ℕ) (w : World) (caller : Caller) (tree : IsTree w.rows) (request : Request) (allowed : decide w caller request ≡ None) (room : LacksInodes numbers w request → ⊥) where
+module _ (numbers : ℕ) (w : World) (caller : Caller) (tree : IsTree w.rows) (request : Request)
+    (allowed : decide w caller request ≡ None) (room : LacksInodes numbers w request → ⊥) where
   abbrev after_it : World
   after_it = effect numbers w caller request
 
   -- nothing leads on from a row in which nothing hangs
-  last_case : (at : ℕ) (name : List ℕ) (names : List (List ℕ)) (n : ℕ) (c : IsChild w.rows at name (next w.rows at name))
+  last_case : (at : ℕ) (name : List ℕ) (names : List (List ℕ)) (n : ℕ)
+      (c : IsChild w.rows at name (next w.rows at name))
       → led w.rows (Some (next w.rows at name)) names ≡ Some n
       → Left w after_it caller request (next w.rows at name) c.row → Outcome w after_it request at (name ∷ names) n
   last_case at name [] n c h left =
       let same : next w.rows at name ≡ n = cc in
       subst (Outcome w after_it request at (name ∷ [])) same
-      (gone_case numbers w caller tree at name (next w.rows at name) c request allowed room c.row.file.kind left.by.asked left.over left.none)
+      (gone_case numbers w caller tree at name
+      (next w.rows at name) c request allowed room c.row.file.kind left.by.asked left.over left.none)
   last_case at name (x ∷ xs) n c h left =
       let s = step w.rows (next w.rows at name) x xs n h in
-      absurd (left.by.childless x (next w.rows (next w.rows at name) x) (child-is w.rows (next w.rows at name) x _ s.child))
+      absurd (left.by.childless x (next w.rows (next w.rows at name) x)
+      (child-is w.rows (next w.rows at name) x _ s.child))
 
-  outcome : (names : List (List ℕ)) (at n : ℕ) → led w.rows (Some at) names ≡ Some n → Outcome w after_it request at names n
+  outcome : (names : List (List ℕ)) (at n : ℕ) → led w.rows (Some at) names ≡ Some n
+      → Outcome w after_it request at names n
   outcome [] at n h = inl h
   outcome (name ∷ names) at n h =
       let s = step w.rows at name names n h in
@@ -254,14 +297,16 @@ module _ (numbers : ℕ) (w : World) (caller : Caller) (tree : IsTree w.rows) (r
       let c = child-is w.rows at name k s.child in
       let on = λ (kept : Kept after_it k c.row).
       further w after_it request at name names n
-      (child_of_hangs after_it.rows (tree_after numbers w caller tree request allowed room) at name k (hangs_on numbers w caller tree request allowed room at name k c kept))
+      (child_of_hangs after_it.rows (tree_after numbers w caller tree request allowed room) at name k
+      (hangs_on numbers w caller tree request allowed room at name k c kept))
       (outcome names k n s.rest) in
       ⊎_elim on
       (λ more. ⊎_elim
       (λ left. last_case at name names n c s.rest left)
       (λ went. ⊎_elim
       (λ still. on (record { row = _; is = went.is; hangs = still }))
-      (λ apart. went_case numbers w caller tree at name k c request allowed room names n refl went.parent went.name went.by.asked went.is apart)
+      (λ apart. went_case numbers w caller tree at name k c request allowed room names n refl went.parent went.name
+      went.by.asked went.is apart)
       (cases_place c.row (record c.row { parent = went.parent; name = went.name })))
       more) (place_of numbers w caller tree request allowed room k c.row c.there)
 
@@ -274,20 +319,25 @@ module _ (numbers : ℕ) (w : World) (caller : Caller) (tree : IsTree w.rows) (r
 
 -- ---- events and runs
 
-by_event : (numbers segments : ℕ) (w : World) (caller : Caller) (event : Event) (path : List (List ℕ)) (n : ℕ) → IsTree w.rows
+by_event : (numbers segments : ℕ) (w : World) (caller : Caller) (event : Event) (path : List (List ℕ)) (n : ℕ)
+    → IsTree w.rows
     → IsEvent numbers segments w caller event
     → led w.rows (Some root) path ≡ Some n → LeadsAfter w path n event (after_event numbers w caller event)
-by_event numbers segments w caller (User request (Served shown)) path n tree may h = leads_after numbers w caller tree request may.0 may.1 path n h
+by_event numbers segments w caller (User request (Served shown)) path n tree may h =
+    leads_after numbers w caller tree request may.0 may.1 path n h
 by_event numbers segments w caller (User request (Denied denial)) path n tree may h = inl h
 by_event numbers segments w caller (User request (Refused resource)) path n tree may h = inl h
 by_event numbers segments w caller (Cleaner kind outcome) path n tree may h = inl h
 
 pub path_leads_on : PathLeadsOn
-path_leads_on numbers segments [] entry later w path n tree legal h = by_event numbers segments w entry.cred entry.event path n tree legal.0 h
+path_leads_on numbers segments [] entry later w path n tree legal h =
+    by_event numbers segments w entry.cred entry.event path n tree legal.0 h
 path_leads_on numbers segments (e ∷ es) entry later w path n tree legal h =
-    path_leads_on numbers segments es entry later (after_event numbers w e.cred e.event) path n (event_tree numbers segments w e.cred e.event tree legal.0) legal.1 h
+    path_leads_on numbers segments es entry later (after_event numbers w e.cred e.event) path n
+    (event_tree numbers segments w e.cred e.event tree legal.0) legal.1 h
 
-cut_now : (w : World) (caller : Caller) (path : List (List ℕ)) (n : ℕ) (event : Event) → led w.rows (Some root) path ≡ Some n
+cut_now : (w : World) (caller : Caller) (path : List (List ℕ)) (n : ℕ) (event : Event) → led w.rows (Some root) path
+    ≡ Some n
     → IsServed (CutsOff w path n) event → IsServed (CutsOffNow path w caller) event
 cut_now w caller path n (User request (Served shown)) h cut = (n, h, cut)
 cut_now w caller path n (User request (Denied denial)) h cut = cut

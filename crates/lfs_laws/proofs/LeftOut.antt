@@ -9,7 +9,8 @@ use Rattle.lfs_model.specs.declared.journal.Event.TheVariants.{User, Cleaner}
 use Rattle.lfs_model.specs.Steps.{IsLegal, after_event, world_after}
 use Rattle.lfs_laws.specs.LawsRuns.{IdleLeftOut, IsIdle}
 
-stays : (numbers : ℕ) (w : World) (caller : Caller) (event : Event) → IsIdle event → after_event numbers w caller event ≡ w
+stays : (numbers : ℕ) (w : World) (caller : Caller) (event : Event) → IsIdle event → after_event numbers w caller event
+    ≡ w
 stays numbers w caller (Cleaner kind outcome) idle = refl
 stays numbers w caller (User Sync (Served shown)) idle = refl
 stays numbers w caller (User Sync (Denied denial)) idle = refl

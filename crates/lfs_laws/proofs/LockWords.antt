@@ -1,5 +1,6 @@
 -- What flags lock, and who sets them and the level, in bits and numbers.
-use Rattle.std.proofs.Common.{◌≡◌, ◌≢◌, ◌⊎◌, ◌<◌, ◌≤◌, ℕ, ◌+◌, ◌/◌, ◌==◌, ◌&&◌, ◌||◌, not, Bool, true, false, refl, ap, ⊎_elim, arith, inl, inr, ne_eqb}
+use Rattle.std.proofs.Common.{◌≡◌, ◌≢◌, ◌⊎◌, ◌<◌, ◌≤◌, ℕ, ◌+◌, ◌/◌, ◌==◌, ◌&&◌, ◌||◌, not, Bool, true, false, refl, ap}
+use Rattle.std.proofs.Common.{⊎_elim, arith, inl, inr, ne_eqb}
 use Rattle.std.proofs.lemmas.Bool.Decides.{Decides-at, Decides-eqb, Decides-like}
 use Rattle.std.specs.Prelude.{Decides, nat_le}
 use Rattle.lfs_types.specs.Caller.{Caller}
@@ -20,7 +21,8 @@ use Rattle.lfs_laws.specs.LawLocks.{AppendByFlags, IsUnlocked, MakeByFlags, Mode
 use Rattle.lfs_laws.specs.LawSeen.{IsOff, IsOn}
 use Rattle.lfs_laws.proofs.Fates.{le-true}
 use Rattle.lfs_laws.proofs.ServedLemmas.{at_most}
-use Rattle.lfs_laws.proofs.WordLemmas.{a_directory, a_file, decided, granted, made, met_always, met_before, met_by, met_last, neither, off, on, owner, said}
+use Rattle.lfs_laws.proofs.WordLemmas.{a_directory, a_file, decided, granted, made, met_always, met_before, met_by}
+use Rattle.lfs_laws.proofs.WordLemmas.{met_last, neither, off, on, owner, said}
 
 -- what holds is decided by nothing
 pub yes : (b : Bool) → b ≡ true → Decides b (Unit {0})
@@ -59,13 +61,15 @@ pub make_by_flags : MakeByFlags
 make_by_flags w caller path name n mode attrs sees super dir unused =
     said _ (λ p. p.1.0) (λ p. (tt, (p, tt)))
     (made w caller path n attrs sees (a_directory attrs dir) name unused
-    (yes _ (granted_all caller attrs bits.Search super)) (unlocked attrs) (yes _ (granted_all caller attrs bits.Write super)))
+    (yes _ (granted_all caller attrs bits.Search super)) (unlocked attrs)
+    (yes _ (granted_all caller attrs bits.Write super)))
 
 pub mode_by_flags : ModeByFlags
 mode_by_flags w caller path n mode attrs sees super =
     said _ (λ p. (p.0, p.1.0)) (λ p. (p.0, (p.1, tt)))
     (decided w caller path n attrs sees (chmod_tests caller)
-    (met_by _ _ _ (unlocked attrs) (met_by _ _ _ (appendable attrs) (met_last _ _ (yes _ ((owner caller attrs).1 (inl super)))))))
+    (met_by _ _ _ (unlocked attrs) (met_by _ _ _ (appendable attrs)
+    (met_last _ _ (yes _ ((owner caller attrs).1 (inl super)))))))
 
 -- ---- levels
 
@@ -95,7 +99,10 @@ above HighlySecure = (λ h. omega arith, λ h. refl)
 
 unless_init : (l init : Bool) (m n : ℕ) → Decides l (m < n) → Decides (not (l && not init)) ((init ≡ true) ⊎ (n ≤ m))
 unless_init true true m n d = (λ h. inl refl, λ h. refl)
-unless_init true false m n d = (λ h. absurd (cc), λ h. let less = d.0 refl in ⊎_elim (λ e. absurd (cc)) (λ e. absurd (omega (arith, less, e))) h)
+unless_init true false m n d = (
+  λ h. absurd (cc),
+  λ h. let less = d.0 refl in ⊎_elim (λ e. absurd (cc)) (λ e. absurd (omega (arith, less, e))) h,
+)
 unless_init false init m n d = (λ h. inr (not_less m n (λ less. cc (d.1 less))), λ h. refl)
   where
     not_less : (m n : ℕ) → (m < n → ⊥) → n ≤ m
@@ -103,7 +110,8 @@ unless_init false init m n d = (λ h. inr (not_less m n (λ less. cc (d.1 less))
 
 pub level_by_number : LevelByNumber
 level_by_number w caller level =
-    met_by _ _ _ (Decides-eqb caller.uid 0) (met_last _ _ (unless_init (is_lower level w.level) caller.init (height level) (height w.level) (lower level w.level)))
+    met_by _ _ _ (Decides-eqb caller.uid 0) (met_last _ _
+    (unless_init (is_lower level w.level) caller.init (height level) (height w.level) (lower level w.level)))
 
 -- ---- flags
 
@@ -114,8 +122,15 @@ stays_set false y dx dy = (λ h. inl (dx.0 refl), λ h. refl)
 
 unless_above : {C D : Type 0} (a c d : Bool) (n : ℕ) → Decides a (1 < n) → Decides (not c) C → Decides (not d) D
     → Decides (not (a && (c || d))) ((n ≤ 1) ⊎ (C × D))
-unless_above true true d n da dc dd = (λ h. absurd (cc), λ h. let high = da.0 refl in ⊎_elim (λ e. absurd (omega (arith, high, e))) (λ p. absurd (cc (dc.1 p.0))) h)
-unless_above true false true n da dc dd = (λ h. absurd (cc), λ h. let high = da.0 refl in ⊎_elim (λ e. absurd (omega (arith, high, e))) (λ p. absurd (cc (dd.1 p.1))) h)
+unless_above true true d n da dc dd = (
+  λ h. absurd (cc),
+  λ h. let high = da.0 refl in ⊎_elim (λ e. absurd (omega (arith, high, e))) (λ p. absurd (cc (dc.1 p.0))) h,
+)
+unless_above true false true n da dc dd = (
+  λ h. absurd (cc),
+  λ h. let high = da.0 refl in
+      ⊎_elim (λ e. absurd (omega (arith, high, e))) (λ p. absurd (cc (dd.1 p.1))) h,
+)
 unless_above true false false n da dc dd = (λ h. inr (dc.0 refl, dd.0 refl), λ h. refl)
 unless_above false c d n da dc dd = (λ h. inl (not_high n (λ high. cc (da.1 high))), λ h. refl)
   where
@@ -123,7 +138,8 @@ unless_above false c d n da dc dd = (λ h. inl (not_high n (λ high. cc (da.1 hi
     not_high n h = omega (arith, h)
 
 keeps : (level : Level) (old new : ℕ)
-    → Decides (keeps_system_locks level old new) ((height level ≤ 1) ⊎ ((IsOff old 0x2_0000 ⊎ IsOn new 0x2_0000) × (IsOff old 0x4_0000 ⊎ IsOn new 0x4_0000)))
+    → Decides (keeps_system_locks level old new) ((height level ≤ 1)
+    ⊎ ((IsOff old 0x2_0000 ⊎ IsOn new 0x2_0000) × (IsOff old 0x4_0000 ⊎ IsOn new 0x4_0000)))
 keeps level old new =
     unless_above (is_above_zero level) _ _ (height level) (above level)
     (stays_set _ _ (off old 0x2_0000) (on new 0x2_0000))
@@ -138,13 +154,17 @@ same_upper m n = twice (m == n) (Decides-eqb m n)
 
 -- who isn't user 0 may set these
 others_flags : (caller : Caller) (old new : ℕ) → caller.uid ≢ 0
-    → Decides (may_set_flags caller old new) ((old / 0x1_0000 ≡ new / 0x1_0000) × (IsOff old 0x2_0000 × IsOff old 0x4_0000))
+    → Decides (may_set_flags caller old new) ((old / 0x1_0000 ≡ new / 0x1_0000)
+    × (IsOff old 0x2_0000 × IsOff old 0x4_0000))
 others_flags caller old new other =
-    Decides-at _ _ (ap (λ b. b || not (not (old / 0x1_0000 == new / 0x1_0000) || (has_bit old 0x2_0000 || has_bit old 0x4_0000))) (ne_eqb caller.uid 0 other))
+    Decides-at _ _ (ap (λ b. b || not (not (old / 0x1_0000 == new / 0x1_0000) ||
+    (has_bit old 0x2_0000 || has_bit old 0x4_0000))) (ne_eqb caller.uid 0 other))
     (neither _ _ (same_upper (old / 0x1_0000) (new / 0x1_0000)) (neither _ _ (off old 0x2_0000) (off old 0x4_0000)))
 
-others_owner : (caller : Caller) (attrs : Attrs) → caller.uid ≢ 0 → Decides (is_owner_or_superuser caller attrs) (caller.uid ≡ attrs.uid)
-others_owner caller attrs other = Decides-like _ (λ h. ⊎_elim (λ e. absurd (other e)) (λ e. e) h) (λ e. inr e) (owner caller attrs)
+others_owner : (caller : Caller) (attrs : Attrs) → caller.uid ≢ 0
+    → Decides (is_owner_or_superuser caller attrs) (caller.uid ≡ attrs.uid)
+others_owner caller attrs other = Decides-like _ (λ h. ⊎_elim (λ e. absurd (other e)) (λ e. e) h) (λ e. inr e)
+    (owner caller attrs)
 
 pub flags_by_owner : FlagsByOwner
 flags_by_owner w caller path n flags attrs sees other =
@@ -155,7 +175,8 @@ flags_by_owner w caller path n flags attrs sees other =
     (met_last _ _ (keeps w.level attrs.flags flags)))))
 
 super_flags : (caller : Caller) (old new : ℕ) → caller.uid ≡ 0 → may_set_flags caller old new ≡ true
-super_flags caller old new super = ap (λ u. (u == 0) || not (not (old / 0x1_0000 == new / 0x1_0000) || (has_bit old 0x2_0000 || has_bit old 0x4_0000))) super
+super_flags caller old new super = ap (λ u. (u == 0) || not
+    (not (old / 0x1_0000 == new / 0x1_0000) || (has_bit old 0x2_0000 || has_bit old 0x4_0000))) super
 
 pub flags_by_level : FlagsByLevel
 flags_by_level w caller path n flags attrs sees super =

@@ -17,15 +17,18 @@ use Rattle.lfs_model.proofs.Members.{names_in-apart, names_in-hang, names_in-has
 
 -- names in order are the same names
 in_order-has : (names : List (List ℕ)) (q : List ℕ) → Contains names q → Contains (in_byte_order names) q
-in_order-has names q c = (is_member-Decides same_name-Decides (in_byte_order names) q).0 (any-in_byte_order (same_name q) names ∙ (is_member-Decides same_name-Decides names q).1 c)
+in_order-has names q c = (is_member-Decides same_name-Decides (in_byte_order names) q).0
+    (any-in_byte_order (same_name q) names ∙ (is_member-Decides same_name-Decides names q).1 c)
 
 in_order-from : (names : List (List ℕ)) (q : List ℕ) → Contains (in_byte_order names) q → Contains names q
-in_order-from names q c = (is_member-Decides same_name-Decides names q).0 (sym (any-in_byte_order (same_name q) names) ∙ (is_member-Decides same_name-Decides (in_byte_order names) q).1 c)
+in_order-from names q c = (is_member-Decides same_name-Decides names q).0 (sym (any-in_byte_order (same_name q) names)
+    ∙ (is_member-Decides same_name-Decides (in_byte_order names) q).1 c)
 
 -- what a List shows are the names in its directory
 pub are_names : (rows : Rows) → IsTree rows → (dir : ℕ) → AreNames rows dir (in_byte_order (names_in rows dir))
 are_names rows tree dir = record {
-  ordered = sorted-in_byte_order (names_in rows dir) (IsDistinct-from_AllPairs same_name-Decides (names_in rows dir) (names_in-apart rows dir tree.unique));
+  ordered = sorted-in_byte_order (names_in rows dir)
+      (IsDistinct-from_AllPairs same_name-Decides (names_in rows dir) (names_in-apart rows dir tree.unique));
   each = λ name. (
     λ c. names_in-hang rows dir name (in_order-from (names_in rows dir) name c),
     λ child. in_order-has (names_in rows dir) name (names_in-has rows dir name child.0 child.1),
@@ -33,8 +36,10 @@ are_names rows tree dir = record {
 }
 
 -- sorted lists of the same names are one
-one_list : (names others : List (List ℕ)) → IsStrictlySortedBy (slice_cmp nat_cmp) names → IsStrictlySortedBy (slice_cmp nat_cmp) others
-    → ((q : List ℕ) → Contains names q → Contains others q) → ((q : List ℕ) → Contains others q → Contains names q) → names ≡ others
+one_list : (names others : List (List ℕ)) → IsStrictlySortedBy (slice_cmp nat_cmp) names
+    → IsStrictlySortedBy (slice_cmp nat_cmp) others
+    → ((q : List ℕ) → Contains names q → Contains others q) → ((q : List ℕ) → Contains others q → Contains names q)
+    → names ≡ others
 one_list names others sorted ordered there back =
     btree_set_from_contains nat_list_cmp_total (record { keys = names }) (record { keys = others }) sorted ordered
     (λ q. same_from_decides (list_any (same_name q) names) (list_any (same_name q) others)

@@ -1,5 +1,6 @@
 -- Places, limits, the opening world and the set-id bits, by number.
-use Rattle.std.proofs.Common.{◌≡◌, ◌≢◌, ℕ, ◌+◌, ◌-◌, [], ◌∷◌, length, get_or, take, drop, min, Option, None, Some, refl, sym, ap, ◌∙◌, ⊎_elim, arith}
+use Rattle.std.proofs.Common.{◌≡◌, ◌≢◌, ℕ, ◌+◌, ◌-◌, [], ◌∷◌, length, get_or, take, drop, min, Option, None, Some, refl}
+use Rattle.std.proofs.Common.{sym, ap, ◌∙◌, ⊎_elim, arith}
 use Rattle.std.proofs.lemmas.Bool.{not_from_false}
 use Rattle.std.proofs.lemmas.List.{get_or-drop, get_or-take, length-drop, length-take}
 use Rattle.std.specs.FinMap as map
@@ -30,7 +31,11 @@ use Rattle.lfs_types.proofs.Maps.{get-insert_same}
 pub writes_at : WritesAt
 writes_at numbers w caller path start [] n attrs s k sees allowed is h = absurd (omega (arith, h))
 writes_at numbers w caller path start (b ∷ bs) n attrs s k sees allowed is h =
-    let did = done_law numbers w caller (Write path (At start) (b ∷ bs)) (Served served.Done) sees.tree (allowed, (λ x. x), refl) in
+    let did = done_law numbers w caller (Write path (At start) (b ∷ bs)) (Served served.Done) sees.tree (
+      allowed,
+      (λ x. x),
+      refl,
+    ) in
     let at = number w caller path n attrs sees in
     let row : s ≡ did.new = cc (is, did.is) in
     ap (λ (x : Row). get_or x.file.bytes (start + k) 0) row
@@ -39,22 +44,36 @@ writes_at numbers w caller path start (b ∷ bs) n attrs s k sees allowed is h =
 pub writes_at_end : WritesAtEnd
 writes_at_end numbers w caller path [] n attrs s k sees allowed is h = absurd (omega (arith, h))
 writes_at_end numbers w caller path (b ∷ bs) n attrs s k sees allowed is h =
-    let did = done_law numbers w caller (Write path End (b ∷ bs)) (Served served.Done) sees.tree (allowed, (λ x. x), refl) in
+    let did = done_law numbers w caller (Write path End (b ∷ bs)) (Served served.Done) sees.tree (
+      allowed,
+      (λ x. x),
+      refl,
+    ) in
     let at = number w caller path n attrs sees in
     let row : s ≡ did.new = cc (is, did.is) in
-    let size : attrs.size ≡ length did.old.file.bytes = ap (λ (a : Attrs). a.size) (sym (shown w caller path n attrs sees) ∙ ap (λ o. attrs_of (file_at o)) did.was) in
+    let size : attrs.size ≡ length did.old.file.bytes =
+    ap (λ (a : Attrs). a.size) (sym (shown w caller path n attrs sees) ∙ ap (λ o. attrs_of (file_at o)) did.was) in
     ap (λ (x : Row). get_or x.file.bytes (attrs.size + k) 0) row
-    ∙ did.holds.1 (attrs.size + k) (get_or (b ∷ bs) k 0) (record { k = k; inside = h; at = ap (λ m. m + k) (sym size); is = refl })
+    ∙ did.holds.1 (attrs.size + k) (get_or (b ∷ bs) k 0)
+    (record { k = k; inside = h; at = ap (λ m. m + k) (sym size); is = refl })
 
 pub reads_from : ReadsFrom
 reads_from w caller path off len n attrs r bytes sees there is =
     let at = number w caller path n attrs sees in
-    let row : (file_at (map.get w.rows (reached w.rows root path))).bytes ≡ r.file.bytes = ap (λ m. (file_at (map.get w.rows m)).bytes) at ∙ ap (λ o. (file_at o).bytes) there in
-    let same : bytes ≡ take (min len 4_096) (drop off (file_at (map.get w.rows (reached w.rows root path))).bytes) = cc in
-    let piece : bytes ≡ take (min len 4_096) (drop off r.file.bytes) = same ∙ ap (λ l. take (min len 4_096) (drop off l)) row in
+    let row : (file_at (map.get w.rows (reached w.rows root path))).bytes
+    ≡ r.file.bytes = ap (λ m. (file_at (map.get w.rows m)).bytes) at ∙ ap (λ o. (file_at o).bytes) there in
+    let same : bytes ≡ take (min len 4_096) (drop off (file_at (map.get w.rows (reached w.rows root path))).bytes) =
+    cc in
+    let piece : bytes ≡ take (min len 4_096) (drop off r.file.bytes) = same
+    ∙ ap (λ l. take (min len 4_096) (drop off l)) row in
     let long : length bytes ≡ min (min len 4_096) (length r.file.bytes - off) =
-    ap (length {A = ℕ}) piece ∙ length-take (min len 4_096) (drop off r.file.bytes) ∙ ap (λ m. min (min len 4_096) m) (length-drop off r.file.bytes) in
-    (long, λ i inside. ap (λ l. get_or l i 0) piece ∙ get_or-take (min len 4_096) (drop off r.file.bytes) i 0 (omega (arith, long, inside)) ∙ get_or-drop off r.file.bytes i 0)
+    ap (length {A = ℕ}) piece ∙ length-take (min len 4_096) (drop off r.file.bytes)
+    ∙ ap (λ m. min (min len 4_096) m) (length-drop off r.file.bytes) in (
+      long,
+      λ i inside. ap (λ l. get_or l i 0) piece
+          ∙ get_or-take (min len 4_096) (drop off r.file.bytes) i 0 (omega (arith, long, inside))
+          ∙ get_or-drop off r.file.bytes i 0,
+    )
 
 -- ---- limits
 

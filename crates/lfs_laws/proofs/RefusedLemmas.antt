@@ -8,10 +8,13 @@ use Rattle.lfs_types.specs.Caller.{Caller}
 use Rattle.lfs_types.specs.Tree.{World, root}
 use Rattle.lfs_types.specs.declared.answer.Answer.TheVariants.{Refused}
 use Rattle.lfs_types.specs.declared.answer.Resource.{Resource}
-use Rattle.lfs_types.specs.declared.answer.Resource.TheVariants.{NoMemory, NoSpace, NoInodes, DirectoryFull, JournalFull}
+use Rattle.lfs_types.specs.declared.answer.Resource.TheVariants.{NoMemory, NoSpace, NoInodes, DirectoryFull}
+use Rattle.lfs_types.specs.declared.answer.Resource.TheVariants.{JournalFull}
 use Rattle.lfs_types.specs.declared.limits.TheConstants.{FILE_BLOCKS}
 use Rattle.lfs_types.specs.declared.request.Request.{Request}
-use Rattle.lfs_types.specs.declared.request.Request.TheVariants.{Stat, Read, Write, List as Names, SetLength, Create, Mkdir, Unlink, Rmdir, Rename, Chmod, Chown, Chflags, SetLevel, Sync}
+use Rattle.lfs_types.specs.declared.request.Request.TheVariants.{Stat, Read, Write, List as Names, SetLength, Create}
+use Rattle.lfs_types.specs.declared.request.Request.TheVariants.{Mkdir, Unlink, Rmdir, Rename, Chmod, Chown, Chflags}
+use Rattle.lfs_types.specs.declared.request.Request.TheVariants.{SetLevel, Sync}
 use Rattle.lfs_model.specs.World.{Rows, child, children, name_of, IsTree}
 use Rattle.lfs_model.specs.Rules.{decide, first_failing, front, last, making, reached, removing, arriving}
 use Rattle.lfs_model.specs.Effects.{in_byte_order, names_in, put_in_order}
@@ -34,7 +37,8 @@ unfolding put_in_order
 length-put name [] = refl
 length-put name (x ∷ xs) =
     let rest = length-put name xs in
-    length_either (is_lt (slice_cmp nat_cmp x name)) (x ∷ put_in_order name xs) (name ∷ x ∷ xs) _ (omega (arith, rest)) (omega arith)
+    length_either (is_lt (slice_cmp nat_cmp x name)) (x ∷ put_in_order name xs) (name ∷ x ∷ xs) _ (omega (arith, rest))
+    (omega arith)
 
 -- names in order are as many
 length-in_byte_order : (names : List (List ℕ)) → length (in_byte_order names) ≡ length names
@@ -47,12 +51,14 @@ length-in_byte_order (name ∷ names) =
 
 -- a List shows as many names as rows hang in the directory
 names-many : (rows : Rows) (dir : ℕ) → length (in_byte_order (names_in rows dir)) ≡ length (children rows dir)
-names-many rows dir = length-in_byte_order (names_in rows dir) ∙ length-map (children rows dir) (λ n. name_of (map.get rows n))
+names-many rows dir = length-in_byte_order (names_in rows dir)
+    ∙ length-map (children rows dir) (λ n. name_of (map.get rows n))
 
 module _ (w : World) (caller : Caller) (tree : IsTree w.rows) where
   -- a directory with so many rows in it has so many names
   is_full : (path : List (List ℕ)) → LeadsTo w.rows path (reached w.rows root (front path)) (last path)
-      → child w.rows (reached w.rows root (front path)) (last path) ≡ None → FILE_BLOCKS ≤ length (children w.rows (reached w.rows root (front path)))
+      → child w.rows (reached w.rows root (front path)) (last path) ≡ None
+      → FILE_BLOCKS ≤ length (children w.rows (reached w.rows root (front path)))
       → IsFull w.rows path
   is_full path leads free many =
       let dir = reached w.rows root (front path) in
@@ -93,7 +99,8 @@ module _ (w : World) (caller : Caller) (tree : IsTree w.rows) where
   fills_up (SetLevel level) allowed h = h
   fills_up Sync allowed h = h
 
-lacks_number : (numbers : ℕ) (w : World) (request : Request) → LacksInodes numbers w request → Lacked numbers w request NoInodes
+lacks_number : (numbers : ℕ) (w : World) (request : Request) → LacksInodes numbers w request
+    → Lacked numbers w request NoInodes
 lacks_number numbers w (Create path mode) h = (tt, h)
 lacks_number numbers w (Mkdir path mode) h = (tt, h)
 lacks_number numbers w request h = absurd h
@@ -105,7 +112,8 @@ writes (Names path) h = h
 writes (SetLevel level) h = h
 writes request h = h
 
-lacked : (numbers : ℕ) (w : World) (caller : Caller) (request : Request) (resource : Resource) → IsTree w.rows → decide w caller request ≡ None
+lacked : (numbers : ℕ) (w : World) (caller : Caller) (request : Request) (resource : Resource) → IsTree w.rows
+    → decide w caller request ≡ None
     → MayLack numbers w request resource
     → Lacked numbers w request resource
 lacked numbers w caller request NoInodes tree allowed h = lacks_number numbers w request h
@@ -115,5 +123,7 @@ lacked numbers w caller request NoMemory tree allowed h = h
 lacked numbers w caller request JournalFull tree allowed h = h
 
 pub refused_truly : RefusedTruly
-refused_truly numbers segments w caller request resource tree is =
-    (answered_as_may numbers w caller request (Refused resource) tree is, lacked numbers w caller request resource tree is.0 is.1)
+refused_truly numbers segments w caller request resource tree is = (
+  answered_as_may numbers w caller request (Refused resource) tree is,
+  lacked numbers w caller request resource tree is.0 is.1,
+)

@@ -1,5 +1,6 @@
 -- Maps by number that have the same numbers list them alike.
-use Rattle.std.proofs.Common.{◌≡◌, ℕ, true, false, cond, T, List, [], ◌∷◌, map, Option, None, Some, refl, sym, ap, subst, ◌∙◌}
+use Rattle.std.proofs.Common.{◌≡◌, ℕ, true, false, cond, T, List, [], ◌∷◌, map, Option, None, Some, refl, sym, ap}
+use Rattle.std.proofs.Common.{subst, ◌∙◌}
 use Rattle.std.specs.Prelude.{◌&&◌, is_some, option_map}
 use Rattle.std.specs.Ordering.{nat_cmp, is_lt, eq_by_cmp}
 use Rattle.std.specs.Cmp.{nat_cmp_total}
@@ -24,10 +25,11 @@ module _ {X : Type 0} where
   find-bare : (q : ℕ) (es : List (ℕ × X)) → find nat_cmp q (bare es) ≡ bare_option (find nat_cmp q es)
   unfolding bare_option
   find-bare q [] = refl
-  find-bare q (e ∷ es) = elim (eq_by_cmp nat_cmp q e.0) as (λ b. cond b (Some tt) (find nat_cmp q (bare es)) ≡ bare_option (cond b (Some e.1) (find nat_cmp q es))) [
-    | true ↦ refl
-    | false ↦ find-bare q es
-  ]
+  find-bare q (e ∷ es) = elim (eq_by_cmp nat_cmp q e.0) as (λ b. cond b (Some tt) (find nat_cmp q (bare es))
+      ≡ bare_option (cond b (Some e.1) (find nat_cmp q es))) [
+        | true ↦ refl
+        | false ↦ find-bare q es
+      ]
 
   keys-bare : (es : List (ℕ × X)) → map (λ e. e.0) (bare es) ≡ map (λ e. e.0) es
   keys-bare [] = refl
@@ -43,8 +45,12 @@ module _ {X : Type 0} where
   -- two such maps have one list of numbers
   pub same_keys : (m n : FinMap nat_cmp X) → ((q : ℕ) → is_some (get m q) ≡ is_some (get n q)) → keys m ≡ keys n
   same_keys m n h =
-      let found = λ (q : ℕ). find-bare q (entries m) ∙ same_bare _ _ (sym (ap is_some (get-entries m q)) ∙ h q ∙ ap is_some (get-entries n q)) ∙ sym (find-bare q (entries n)) in
+      let found = λ (q : ℕ). find-bare q (entries m)
+      ∙ same_bare _ _ (sym (ap is_some (get-entries m q)) ∙ h q ∙ ap is_some (get-entries n q))
+      ∙ sym (find-bare q (entries n)) in
       sym (keys-bare (entries m))
-      ∙ ap (map (λ e. e.0)) (same_entries nat_cmp nat_cmp_total nat_cmp-IsAntisymmetric (bare (entries m)) (bare (entries n))
-      (subst T (sym (sorted-bare (entries m))) (entries_sorted m)) (subst T (sym (sorted-bare (entries n))) (entries_sorted n)) found)
+      ∙ ap (map (λ e. e.0)) (same_entries nat_cmp nat_cmp_total nat_cmp-IsAntisymmetric (bare (entries m))
+      (bare (entries n))
+      (subst T (sym (sorted-bare (entries m))) (entries_sorted m))
+      (subst T (sym (sorted-bare (entries n))) (entries_sorted n)) found)
       ∙ keys-bare (entries n)

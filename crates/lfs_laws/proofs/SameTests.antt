@@ -1,5 +1,6 @@
 -- Two worlds and two callers of whom each test says the same decide alike.
-use Rattle.std.proofs.Common.{◌≡◌, ℕ, ◌+◌, ◌==◌, not, Bool, List, [], ◌∷◌, ◌++◌, length, cond, Option, None, Some, refl, ap, ◌∙◌}
+use Rattle.std.proofs.Common.{◌≡◌, ℕ, ◌+◌, ◌==◌, not, Bool, List, [], ◌∷◌, ◌++◌, length, cond, Option, None, Some, refl}
+use Rattle.std.proofs.Common.{ap, ◌∙◌}
 use Rattle.std.specs.Prelude as lists
 use Rattle.std.specs.Prelude.{◌||◌, is_some, is_none, nat_le, unwrap_or}
 use Rattle.std.specs.List.{list_any}
@@ -10,14 +11,23 @@ use Rattle.lfs_types.specs.Tree.{World, root}
 use Rattle.lfs_types.specs.declared.attrs.Bit.{Bit}
 use Rattle.lfs_types.specs.declared.attrs.Bit.TheVariants as bits
 use Rattle.lfs_types.specs.declared.request.Request.{Request}
-use Rattle.lfs_types.specs.declared.request.Request.TheVariants.{Stat, Read, Write, List as Names, SetLength, Create, Mkdir, Unlink, Rmdir, Rename, Chmod, Chown, Chflags, SetLevel, Sync}
-use Rattle.lfs_types.specs.declared.rule.Rule.TheVariants.{IsDirectory, GrantsSearch, NameThere, NameFree, IsNoDirectory, IsEmpty, IsNotRoot, IsNotBeneathItself, IsMutable, IsNotAppendOnly, GrantsRead, GrantsWrite, PassesSticky, IsOwner, MaySetOwner, MaySetFlags, KeepsSystemLocks, FitsFile}
+use Rattle.lfs_types.specs.declared.request.Request.TheVariants.{Stat, Read, Write, List as Names, SetLength, Create}
+use Rattle.lfs_types.specs.declared.request.Request.TheVariants.{Mkdir, Unlink, Rmdir, Rename, Chmod, Chown, Chflags}
+use Rattle.lfs_types.specs.declared.request.Request.TheVariants.{SetLevel, Sync}
+use Rattle.lfs_types.specs.declared.rule.Rule.TheVariants.{IsDirectory, GrantsSearch, NameThere, NameFree}
+use Rattle.lfs_types.specs.declared.rule.Rule.TheVariants.{IsNoDirectory, IsEmpty, IsNotRoot, IsNotBeneathItself}
+use Rattle.lfs_types.specs.declared.rule.Rule.TheVariants.{IsMutable, IsNotAppendOnly, GrantsRead, GrantsWrite}
+use Rattle.lfs_types.specs.declared.rule.Rule.TheVariants.{PassesSticky, IsOwner, MaySetOwner, MaySetFlags}
+use Rattle.lfs_types.specs.declared.rule.Rule.TheVariants.{KeepsSystemLocks, FitsFile}
 use Rattle.lfs_rules.specs.Grants.{grants_of}
 use Rattle.lfs_rules.specs.Locks.{is_immutable, is_append_only, keeps_system_locks, may_set_flags}
 use Rattle.lfs_rules.specs.Owners.{is_owner_or_superuser, may_set_owner}
 use Rattle.lfs_rules.specs.Sticky.{is_barred}
 use Rattle.lfs_model.specs.World.{Rows, child, children}
-use Rattle.lfs_model.specs.Rules.{Check, arriving, asks, attrs_at, decide, file_max, first_failing, front, is_directory_row, is_end, last, last_tests, level_tests, making, moving_tests, next, position, reached, removing, removing_tests, row_grants, rule_table, start_in, visited, walk}
+use Rattle.lfs_model.specs.Rules.{Check, arriving, asks, attrs_at, decide, file_max, first_failing, front}
+use Rattle.lfs_model.specs.Rules.{is_directory_row, is_end, last, last_tests, level_tests, making, moving_tests, next}
+use Rattle.lfs_model.specs.Rules.{position, reached, removing, removing_tests, row_grants, rule_table, start_in}
+use Rattle.lfs_model.specs.Rules.{visited, walk}
 
 -- two tests of numbers say the same
 abbrev pub Alike : (ℕ → Bool) → (ℕ → Bool) → Type 0
@@ -37,20 +47,24 @@ pub record SameTests (rows other : Rows) (c d : Caller) : Type 0 where
   pub child : child rows ≡ child other
   pub children : children rows ≡ children other
   pub is_directory : Alike (λ n. is_directory_row (map.get rows n)) (λ n. is_directory_row (map.get other n))
-  pub searches : Alike (λ n. row_grants c bits.Search (map.get rows n)) (λ n. row_grants d bits.Search (map.get other n))
+  pub searches : Alike (λ n. row_grants c bits.Search (map.get rows n))
+      (λ n. row_grants d bits.Search (map.get other n))
   pub directory : Alike (λ n. is_directory_kind (attrs_at rows n).kind) (λ n. is_directory_kind (attrs_at other n).kind)
   pub size : AlikeNumbers (λ n. (attrs_at rows n).size) (λ n. (attrs_at other n).size)
   pub grants : (bit : Bit) → Alike (λ n. grants_of c (attrs_at rows n) bit) (λ n. grants_of d (attrs_at other n) bit)
   pub immutable : Alike (λ n. is_immutable (attrs_at rows n)) (λ n. is_immutable (attrs_at other n))
   pub append_only : Alike (λ n. is_append_only (attrs_at rows n)) (λ n. is_append_only (attrs_at other n))
-  pub barred : AlikeOfTwo (λ m n. is_barred c (attrs_at rows m) (attrs_at rows n)) (λ m n. is_barred d (attrs_at other m) (attrs_at other n))
+  pub barred : AlikeOfTwo (λ m n. is_barred c (attrs_at rows m) (attrs_at rows n))
+      (λ m n. is_barred d (attrs_at other m) (attrs_at other n))
   pub owner : Alike (λ n. is_owner_or_superuser c (attrs_at rows n)) (λ n. is_owner_or_superuser d (attrs_at other n))
-  pub gives : (uid gid : ℕ) → Alike (λ n. may_set_owner c (attrs_at rows n) uid gid) (λ n. may_set_owner d (attrs_at other n) uid gid)
+  pub gives : (uid gid : ℕ) → Alike (λ n. may_set_owner c (attrs_at rows n) uid gid)
+      (λ n. may_set_owner d (attrs_at other n) uid gid)
 
 module _ (w v : World) (c d : Caller) (same : SameTests w.rows v.rows c d) where
   reached_at : (at : ℕ) (names : List (List ℕ)) → reached w.rows at names ≡ reached v.rows at names
   reached_at at [] = refl
-  reached_at at (name ∷ names) = reached_at (next w.rows at name) names ∙ ap (λ o. reached v.rows (unwrap_or o 0) names) (λ i. same.child i at name)
+  reached_at at (name ∷ names) = reached_at (next w.rows at name) names
+      ∙ ap (λ o. reached v.rows (unwrap_or o 0) names) (λ i. same.child i at name)
 
   reached_same : reached w.rows ≡ reached v.rows
   reached_same = λ i at names. reached_at at names i
@@ -69,7 +83,8 @@ module _ (w v : World) (c d : Caller) (same : SameTests w.rows v.rows c d) where
 
   visited_at : (at : ℕ) (names : List (List ℕ)) → visited w.rows at names ≡ visited v.rows at names
   visited_at at [] = refl
-  visited_at at (name ∷ names) = ap (λ ns. at ∷ ns) (visited_at (next w.rows at name) names ∙ ap (λ o. visited v.rows (unwrap_or o 0) names) (λ i. same.child i at name))
+  visited_at at (name ∷ names) = ap (λ ns. at ∷ ns) (visited_at (next w.rows at name) names
+      ∙ ap (λ o. visited v.rows (unwrap_or o 0) names) (λ i. same.child i at name))
 
   -- ---- parts of calls
 
@@ -87,7 +102,8 @@ module _ (w v : World) (c d : Caller) (same : SameTests w.rows v.rows c d) where
       ∷ [])
 
   removing_tests_at : (path k : ℕ)
-      → AlikeTests (λ dir file. removing_tests c path (attrs_at w.rows dir) (attrs_at w.rows file) k) (λ dir file. removing_tests d path (attrs_at v.rows dir) (attrs_at v.rows file) k)
+      → AlikeTests (λ dir file. removing_tests c path (attrs_at w.rows dir) (attrs_at w.rows file) k)
+      (λ dir file. removing_tests d path (attrs_at v.rows dir) (attrs_at v.rows file) k)
   removing_tests_at path k = λ i dir file.
       asks (not (same.immutable i dir)) IsMutable path k
       ∷ asks (same.grants bits.Write i dir) GrantsWrite path k
@@ -100,7 +116,8 @@ module _ (w v : World) (c d : Caller) (same : SameTests w.rows v.rows c d) where
   removing_same : (names : List (List ℕ)) → removing w.rows c names ≡ removing v.rows d names
   removing_same names = λ i.
       asks (not (length names == 0)) IsNotRoot 0 0
-      ∷ walk_at 0 0 root names i ++ removing_tests_at 0 (length (front names)) i (reached_same i root (front names)) (reached_same i root names)
+      ∷ walk_at 0 0 root names i ++ removing_tests_at 0 (length (front names)) i (reached_same i root (front names))
+      (reached_same i root names)
 
   arriving_same : (names : List (List ℕ)) → arriving w.rows c names ≡ arriving v.rows d names
   arriving_same names = λ i.
@@ -121,7 +138,8 @@ module _ (w v : World) (c d : Caller) (same : SameTests w.rows v.rows c d) where
       ∷ asks (not (same.directory i moved) || stays || same.grants bits.Write i moved) GrantsWrite 0 (length from)
       ∷ []
 
-  moving_at : (from to : List (List ℕ)) (o : Option ℕ) → moving_tests w.rows c from to o ≡ moving_tests v.rows d from to o
+  moving_at : (from to : List (List ℕ)) (o : Option ℕ) → moving_tests w.rows c from to o
+      ≡ moving_tests v.rows d from to o
   moving_at from to None = λ i.
       let dir = reached_same i root (front to) in
       let k = length (front to) in
@@ -138,14 +156,17 @@ module _ (w v : World) (c d : Caller) (same : SameTests w.rows v.rows c d) where
       ∷ [])) ++ last_same from to i)
 
   named_same : (names : List (List ℕ))
-      → child w.rows (reached w.rows root (front names)) (last names) ≡ child v.rows (reached v.rows root (front names)) (last names)
+      → child w.rows (reached w.rows root (front names)) (last names)
+      ≡ child v.rows (reached v.rows root (front names)) (last names)
   named_same names = λ i. same.child i (reached_same i root (front names)) (last names)
 
   -- what is asked behind the walk of a Chflags, and of a SetLevel
   abbrev pub SameRest : Request → Type 0
   SameRest (Chflags path flags) =
-      Alike (λ n. may_set_flags c (attrs_at w.rows n).flags flags) (λ n. may_set_flags d (attrs_at v.rows n).flags flags)
-      × Alike (λ n. keeps_system_locks w.level (attrs_at w.rows n).flags flags) (λ n. keeps_system_locks v.level (attrs_at v.rows n).flags flags)
+      Alike (λ n. may_set_flags c (attrs_at w.rows n).flags flags)
+      (λ n. may_set_flags d (attrs_at v.rows n).flags flags)
+      × Alike (λ n. keeps_system_locks w.level (attrs_at w.rows n).flags flags)
+      (λ n. keeps_system_locks v.level (attrs_at v.rows n).flags flags)
   SameRest (SetLevel level) = level_tests c w.level level ≡ level_tests d v.level level
   SameRest request = Unit {0}
 
@@ -154,11 +175,13 @@ module _ (w v : World) (c d : Caller) (same : SameTests w.rows v.rows c d) where
   table_same (Read path off len) rest = λ i.
       let n = reached_same i root path in
       let k = length path in
-      walk_at 0 0 root path i ++ (asks (not (same.directory i n)) IsNoDirectory 0 k ∷ asks (same.grants bits.Read i n) GrantsRead 0 k ∷ [])
+      walk_at 0 0 root path i ++ (asks (not (same.directory i n)) IsNoDirectory 0 k
+      ∷ asks (same.grants bits.Read i n) GrantsRead 0 k ∷ [])
   table_same (Names path) rest = λ i.
       let n = reached_same i root path in
       let k = length path in
-      walk_at 0 0 root path i ++ (asks (same.directory i n) IsDirectory 0 k ∷ asks (same.grants bits.Read i n) GrantsRead 0 k ∷ [])
+      walk_at 0 0 root path i ++ (asks (same.directory i n) IsDirectory 0 k
+      ∷ asks (same.grants bits.Read i n) GrantsRead 0 k ∷ [])
   table_same (Write path place bytes) rest = λ i.
       let n = reached_same i root path in
       let k = length path in
@@ -182,7 +205,8 @@ module _ (w v : World) (c d : Caller) (same : SameTests w.rows v.rows c d) where
   table_same (Create path mode) rest = making_same path
   table_same (Mkdir path mode) rest = making_same path
   table_same (Unlink path) rest = λ i.
-      removing_same path i ++ (asks (not (same.directory i (reached_same i root path))) IsNoDirectory 0 (length path) ∷ [])
+      removing_same path i ++ (asks (not (same.directory i (reached_same i root path))) IsNoDirectory 0 (length path)
+      ∷ [])
   table_same (Rmdir path) rest = λ i.
       let dir = reached_same i root path in
       removing_same path i ++

@@ -1,5 +1,6 @@
 -- Set-id bits since a row was written or given.
-use Rattle.std.proofs.Common.{◌≡◌, ◌≢◌, ◌<◌, ℕ, cond, List, [], ◌∷◌, None, Some, refl, sym, ap, subst, ◌∙◌, arith, ne_eqb}
+use Rattle.std.proofs.Common.{◌≡◌, ◌≢◌, ◌<◌, ℕ, cond, List, [], ◌∷◌, None, Some, refl, sym, ap, subst, ◌∙◌, arith}
+use Rattle.std.proofs.Common.{ne_eqb}
 use Rattle.std.specs.FinMap as map
 use Rattle.lfs_types.specs.Caller.{Caller}
 use Rattle.lfs_types.specs.Tree.{File, Row, World, root}
@@ -22,7 +23,8 @@ use Rattle.lfs_laws.proofs.LegalTrees.{event_tree}
 
 worn_mode : (caller : Caller) (mode : ℕ) → caller.uid ≢ 0 → mode_after caller mode < 0o2000
 worn_mode caller mode other =
-    let e : mode_after caller mode ≡ set_id_cleared mode = ap (λ b. cond b mode (set_id_cleared mode)) (ne_eqb caller.uid 0 other) in
+    let e : mode_after caller mode ≡ set_id_cleared mode =
+    ap (λ b. cond b mode (set_id_cleared mode)) (ne_eqb caller.uid 0 other) in
     omega (arith, e)
 
 -- a row without set-id bits
@@ -32,8 +34,10 @@ record Worn (v : World) (n : ℕ) : Type 0 where
   low : row.file.mode < 0o2000
 
 module _ (numbers : ℕ) (w : World) (caller : Caller) (n : ℕ) (other : caller.uid ≢ 0) where
-  worn_by : (path : List (List ℕ)) (change : File → File) → ((f : File) → (change f).mode ≡ mode_after caller f.mode) → reached w.rows root path ≡ n → (old : Row)
-      → map.get w.rows (reached w.rows root path) ≡ Some old → Worn (with_file (map.get w.rows (reached w.rows root path)) (reached w.rows root path) change w) n
+  worn_by : (path : List (List ℕ)) (change : File → File) → ((f : File) → (change f).mode ≡ mode_after caller f.mode)
+      → reached w.rows root path ≡ n → (old : Row)
+      → map.get w.rows (reached w.rows root path) ≡ Some old
+      → Worn (with_file (map.get w.rows (reached w.rows root path)) (reached w.rows root path) change w) n
   worn_by path change modes at old was =
       let low = worn_mode caller old.file.mode other in
       let mode = modes old.file in
@@ -43,9 +47,14 @@ module _ (numbers : ℕ) (w : World) (caller : Caller) (n : ℕ) (other : caller
         low = omega (arith, low, mode);
       }
 
-  worn : (request : Request) → IsTree w.rows → decide w caller request ≡ None → Wears w n request → Worn (effect numbers w caller request) n
+  worn : (request : Request) → IsTree w.rows → decide w caller request ≡ None → Wears w n request
+      → Worn (effect numbers w caller request) n
   worn (Write path place (b ∷ bs)) tree allowed at =
-      let did = done_law numbers w caller (Write path place (b ∷ bs)) (Served served.Done) tree (allowed, (λ x. x), refl) in
+      let did = done_law numbers w caller (Write path place (b ∷ bs)) (Served served.Done) tree (
+        allowed,
+        (λ x. x),
+        refl,
+      ) in
       worn_by path (written caller place (b ∷ bs)) (λ f. refl) at did.old did.was
   worn (SetLength path len) tree allowed at =
       let did = done_law numbers w caller (SetLength path len) (Served served.Done) tree (allowed, (λ x. x), refl) in
@@ -57,7 +66,8 @@ module _ (numbers : ℕ) (w : World) (caller : Caller) (n : ℕ) (other : caller
 
 pub set_ids_are_fresh : SetIdsAreFresh
 set_ids_are_fresh numbers segments [] entry later w request shown n s tree legal is other wears there high =
-    let may : IsEvent numbers segments w entry.cred (User request (Served shown)) = subst (IsEvent numbers segments w entry.cred) is legal.0 in
+    let may : IsEvent numbers segments w entry.cred (User request (Served shown)) =
+    subst (IsEvent numbers segments w entry.cred) is legal.0 in
     let bare = worn numbers w entry.cred n other request tree may.0 wears in
     let row : map.get (after_event numbers w entry.cred entry.event).rows n ≡ Some bare.row =
     subst (λ (x : Event). map.get (after_event numbers w entry.cred x).rows n ≡ Some bare.row) (sym is) bare.is in

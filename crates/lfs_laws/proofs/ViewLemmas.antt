@@ -1,5 +1,6 @@
 -- What a caller sees along names is enough for the tests of a walk.
-use Rattle.std.proofs.Common.{◌≡◌, ℕ, ◌+◌, Bool, true, false, cond, List, [], ◌∷◌, ◌++◌, Option, None, Some, refl, sym, ap, subst, ◌∙◌}
+use Rattle.std.proofs.Common.{◌≡◌, ℕ, ◌+◌, Bool, true, false, cond, List, [], ◌∷◌, ◌++◌, Option, None, Some, refl, sym}
+use Rattle.std.proofs.Common.{ap, subst, ◌∙◌}
 use Rattle.std.proofs.lemmas.Bool.{and_from}
 use Rattle.std.specs.Prelude.{is_some, unwrap_or, option_map, IsSome}
 use Rattle.std.specs.FinMap as map
@@ -12,7 +13,8 @@ use Rattle.lfs_types.specs.declared.attrs.Bit.TheVariants as bits
 use Rattle.lfs_types.specs.declared.rule.Denial.{Denial}
 use Rattle.lfs_rules.specs.Grants.{grants_of}
 use Rattle.lfs_model.specs.World.{Rows, child, file_at}
-use Rattle.lfs_model.specs.Rules.{Check, attrs_at, first_failing, is_directory_row, next, reached, row_grants, visited, walk}
+use Rattle.lfs_model.specs.Rules.{Check, attrs_at, first_failing, is_directory_row, next, reached, row_grants, visited}
+use Rattle.lfs_model.specs.Rules.{walk}
 use Rattle.lfs_laws.specs.LawView.{may_enter, sight, sights}
 use Rattle.lfs_model.proofs.Allowed.{child_there}
 use Rattle.lfs_model.proofs.Children.{child-is}
@@ -22,22 +24,29 @@ use Rattle.lfs_types.proofs.Somewhere.{present}
 -- ---- lists of tests
 
 -- tests of which the first is the same, and the others where it is met
-pub alike_cons : (b c : Bool) (d : Denial) (x y : Option Denial) → b ≡ c → (b ≡ true → x ≡ y) → cond b x (Some d) ≡ cond c y (Some d)
+pub alike_cons : (b c : Bool) (d : Denial) (x y : Option Denial) → b ≡ c → (b ≡ true → x ≡ y) → cond b x (Some d)
+    ≡ cond c y (Some d)
 alike_cons true true d x y e on = on refl
 alike_cons true false d x y e on = absurd (cc)
 alike_cons false true d x y e on = absurd (cc)
 alike_cons false false d x y e on = refl
 
-append_by : (P : Option Denial → Option Denial → Type 0) → ((d : Denial) → P (Some d) (Some d)) → (xs zs ys us : List Check) (o : Option Denial) → first_failing xs ≡ o
-    → first_failing zs ≡ o → (first_failing xs ≡ None → P (first_failing ys) (first_failing us)) → P (first_failing (xs ++ ys)) (first_failing (zs ++ us))
+append_by : (P : Option Denial → Option Denial → Type 0) → ((d : Denial) → P (Some d) (Some d))
+    → (xs zs ys us : List Check) (o : Option Denial) → first_failing xs ≡ o
+    → first_failing zs ≡ o → (first_failing xs ≡ None → P (first_failing ys) (first_failing us))
+    → P (first_failing (xs ++ ys)) (first_failing (zs ++ us))
 append_by P same xs zs ys us None e f on =
-    subst (λ q. P q (first_failing (zs ++ us))) (sym (failing-behind xs ys e)) (subst (P (first_failing ys)) (sym (failing-behind zs us f)) (on e))
+    subst (λ q. P q (first_failing (zs ++ us))) (sym (failing-behind xs ys e))
+    (subst (P (first_failing ys)) (sym (failing-behind zs us f)) (on e))
 append_by P same xs zs ys us (Some d) e f on =
-    subst (λ q. P q (first_failing (zs ++ us))) (sym (failing-front xs ys d e)) (subst (P (Some d)) (sym (failing-front zs us d f)) (same d))
+    subst (λ q. P q (first_failing (zs ++ us))) (sym (failing-front xs ys d e))
+    (subst (P (Some d)) (sym (failing-front zs us d f)) (same d))
 
 -- tests behind others that come to the same
-pub alike_behind : (P : Option Denial → Option Denial → Type 0) → ((d : Denial) → P (Some d) (Some d)) → (xs zs ys us : List Check) → first_failing xs ≡ first_failing zs
-    → (first_failing xs ≡ None → P (first_failing ys) (first_failing us)) → P (first_failing (xs ++ ys)) (first_failing (zs ++ us))
+pub alike_behind : (P : Option Denial → Option Denial → Type 0) → ((d : Denial) → P (Some d) (Some d))
+    → (xs zs ys us : List Check) → first_failing xs ≡ first_failing zs
+    → (first_failing xs ≡ None → P (first_failing ys) (first_failing us))
+    → P (first_failing (xs ++ ys)) (first_failing (zs ++ us))
 alike_behind P same xs zs ys us e on = append_by P same xs zs ys us (first_failing xs) refl (sym e) on
 
 -- ---- rows of which the same is seen
@@ -69,7 +78,8 @@ directory_shown : (n : ℕ) (o : Option Row) → is_directory_row o ≡ director
 directory_shown n None = refl
 directory_shown n (Some r) = refl
 
-grants_shown : (caller : Caller) (bit : Bit) (n : ℕ) (o : Option Row) → row_grants caller bit o ≡ grants_in caller bit (shown n o)
+grants_shown : (caller : Caller) (bit : Bit) (n : ℕ) (o : Option Row) → row_grants caller bit o
+    ≡ grants_in caller bit (shown n o)
 grants_shown caller bit n None = refl
 grants_shown caller bit n (Some r) = refl
 
@@ -87,20 +97,26 @@ module _ (rows others : Rows) where
   pub attrs_alike : (n : ℕ) → sight rows (Some n) ≡ sight others (Some n) → attrs_at rows n ≡ attrs_at others n
   attrs_alike n e = attrs_shown n (map.get rows n) ∙ ap attrs_in e ∙ sym (attrs_shown n (map.get others n))
 
-  pub directory_alike : (n : ℕ) → sight rows (Some n) ≡ sight others (Some n) → is_directory_row (map.get rows n) ≡ is_directory_row (map.get others n)
-  directory_alike n e = directory_shown n (map.get rows n) ∙ ap directory_in e ∙ sym (directory_shown n (map.get others n))
+  pub directory_alike : (n : ℕ) → sight rows (Some n) ≡ sight others (Some n) → is_directory_row (map.get rows n)
+      ≡ is_directory_row (map.get others n)
+  directory_alike n e = directory_shown n (map.get rows n) ∙ ap directory_in e
+      ∙ sym (directory_shown n (map.get others n))
 
   pub grants_alike : (caller : Caller) (bit : Bit) (n : ℕ) → sight rows (Some n) ≡ sight others (Some n)
       → row_grants caller bit (map.get rows n) ≡ row_grants caller bit (map.get others n)
-  grants_alike caller bit n e = grants_shown caller bit n (map.get rows n) ∙ ap (grants_in caller bit) e ∙ sym (grants_shown caller bit n (map.get others n))
+  grants_alike caller bit n e = grants_shown caller bit n (map.get rows n) ∙ ap (grants_in caller bit) e
+      ∙ sym (grants_shown caller bit n (map.get others n))
 
-  same_number : (o p : Option ℕ) → ((n : ℕ) → o ≡ Some n → IsSome (map.get rows n)) → ((n : ℕ) → p ≡ Some n → IsSome (map.get others n)) → sight rows o ≡ sight others p → o ≡ p
+  same_number : (o p : Option ℕ) → ((n : ℕ) → o ≡ Some n → IsSome (map.get rows n))
+      → ((n : ℕ) → p ≡ Some n → IsSome (map.get others n)) → sight rows o ≡ sight others p → o ≡ p
   same_number None None h g e = refl
   same_number None (Some m) h g e = absurd (none_shown m (map.get others m) (g m refl) e)
   same_number (Some n) None h g e = absurd (none_shown n (map.get rows n) (h n refl) (sym e))
-  same_number (Some n) (Some m) h g e = ap Some (number_shown n m (map.get rows n) (map.get others m) (h n refl) (g m refl) e)
+  same_number (Some n) (Some m) h g e = ap Some
+      (number_shown n m (map.get rows n) (map.get others m) (h n refl) (g m refl) e)
 
-  same_child : (at : ℕ) (name : List ℕ) → sight rows (child rows at name) ≡ sight others (child others at name) → child rows at name ≡ child others at name
+  same_child : (at : ℕ) (name : List ℕ) → sight rows (child rows at name) ≡ sight others (child others at name)
+      → child rows at name ≡ child others at name
   same_child at name e = same_number (child rows at name) (child others at name)
       (λ n is. present (child-is rows at name n is).there) (λ n is. present (child-is others at name n is).there) e
 
@@ -112,7 +128,8 @@ first_same a b xs ys e = cc
 pub second_same : {A : Type 0} (a b c d : A) → a ∷ b ∷ [] ≡ c ∷ d ∷ [] → b ≡ d
 second_same a b c d e = cc
 
-rest_same : {A : Type 0} (a b : A) (p q : Bool) (xs ys : List A) → p ≡ true → q ≡ true → a ∷ cond p xs [] ≡ b ∷ cond q ys [] → xs ≡ ys
+rest_same : {A : Type 0} (a b : A) (p q : Bool) (xs ys : List A) → p ≡ true → q ≡ true → a ∷ cond p xs [] ≡ b
+    ∷ cond q ys [] → xs ≡ ys
 rest_same a b true true xs ys h g e = cc
 rest_same a b true false xs ys h g e = absurd (cc)
 rest_same a b false q xs ys h g e = absurd (cc)
@@ -122,7 +139,8 @@ module _ (rows others : Rows) (caller : Caller) where
   abbrev pub Sees : Option ℕ → List (List ℕ) → Type 0
   Sees o names = sights rows caller o names ≡ sights others caller o names
 
-  seen_first : (o p : Option ℕ) (names : List (List ℕ)) → sights rows caller o names ≡ sights others caller p names → sight rows o ≡ sight others p
+  seen_first : (o p : Option ℕ) (names : List (List ℕ)) → sights rows caller o names ≡ sights others caller p names
+      → sight rows o ≡ sight others p
   unfolding sights
   seen_first o p [] e = first_same _ _ _ _ e
   seen_first o p (name ∷ names) e = first_same _ _ _ _ e
@@ -131,7 +149,8 @@ module _ (rows others : Rows) (caller : Caller) where
   pub sees_first : (n : ℕ) (names : List (List ℕ)) → Sees (Some n) names → sight rows (Some n) ≡ sight others (Some n)
   sees_first n names e = seen_first (Some n) (Some n) names e
 
-  seen_rest : (at : ℕ) (name : List ℕ) (names : List (List ℕ)) → Sees (Some at) (name ∷ names) → may_enter rows caller (Some at) ≡ true → may_enter others caller (Some at) ≡ true
+  seen_rest : (at : ℕ) (name : List ℕ) (names : List (List ℕ)) → Sees (Some at) (name ∷ names)
+      → may_enter rows caller (Some at) ≡ true → may_enter others caller (Some at) ≡ true
       → sights rows caller (child rows at name) names ≡ sights others caller (child others at name) names
   unfolding sights
   seen_rest at name names e h g = rest_same _ _ _ _ _ _ h g e
@@ -141,20 +160,29 @@ module _ (rows others : Rows) (caller : Caller) where
     pub leads : child rows at name ≡ child others at name
     pub sees : Sees (child rows at name) names
 
-  pub sees_step : (at : ℕ) (name : List ℕ) (names : List (List ℕ)) → Sees (Some at) (name ∷ names) → is_directory_row (map.get rows at) ≡ true → row_grants caller bits.Search (map.get rows at) ≡ true
+  pub sees_step : (at : ℕ) (name : List ℕ) (names : List (List ℕ)) → Sees (Some at) (name ∷ names)
+      → is_directory_row (map.get rows at) ≡ true → row_grants caller bits.Search (map.get rows at) ≡ true
       → Step at name names
   sees_step at name names e d s =
       let here = sees_first at (name ∷ names) e in
       let rest = seen_rest at name names e (and_from _ _ d s)
-      (and_from _ _ (sym (directory_alike rows others at here) ∙ d) (sym (grants_alike rows others caller bits.Search at here) ∙ s)) in
+      (and_from _ _ (sym (directory_alike rows others at here) ∙ d)
+      (sym (grants_alike rows others caller bits.Search at here) ∙ s)) in
       let same = same_child rows others at name (seen_first (child rows at name) (child others at name) names rest) in
-      record { leads = same; sees = subst (λ o. sights rows caller (child rows at name) names ≡ sights others caller o names) (sym same) rest }
+      record {
+        leads = same;
+        sees = subst (λ o. sights rows caller (child rows at name) names
+            ≡ sights others caller o names) (sym same) rest;
+      }
 
   -- and the name is there
-  sees_next : (at : ℕ) (name : List ℕ) (names : List (List ℕ)) → Step at name names → is_some (child rows at name) ≡ true → Sees (Some (next rows at name)) names
-  sees_next at name names step there = subst (λ o. Sees o names) (child_there (child rows at name) (next rows at name) there refl) step.sees
+  sees_next : (at : ℕ) (name : List ℕ) (names : List (List ℕ)) → Step at name names → is_some (child rows at name)
+      ≡ true → Sees (Some (next rows at name)) names
+  sees_next at name names step there = subst (λ o. Sees o names)
+      (child_there (child rows at name) (next rows at name) there refl) step.sees
 
-  next_same : (at : ℕ) (name : List ℕ) (names : List (List ℕ)) → Step at name names → next rows at name ≡ next others at name
+  next_same : (at : ℕ) (name : List ℕ) (names : List (List ℕ)) → Step at name names → next rows at name
+      ≡ next others at name
   next_same at name names step = ap (λ o. unwrap_or o 0) step.leads
 
   -- the tests of a walk come to the same
@@ -176,7 +204,8 @@ module _ (rows others : Rows) (caller : Caller) where
     pub way : visited rows at names ≡ visited others at names
     pub sees : Sees (Some (reached rows at names)) more
 
-  pub walk_ends : (names more : List (List ℕ)) (path k at : ℕ) → Sees (Some at) (names ++ more) → first_failing (walk rows caller path k at names) ≡ None → Ends names more at
+  pub walk_ends : (names more : List (List ℕ)) (path k at : ℕ) → Sees (Some at) (names ++ more)
+      → first_failing (walk rows caller path k at names) ≡ None → Ends names more at
   walk_ends [] more path k at e h = record { same = refl; way = refl; sees = e }
   walk_ends (name ∷ names) more path k at e h =
       let d = met_first _ _ _ h in

@@ -17,7 +17,8 @@ pub reaches_root : (rows : Rows) (caller : Caller) → IsTree rows → Reaches r
 reaches_root rows caller tree k below = absurd (below (root_above rows tree k))
 
 -- a caller reaches what hangs in a directory that he reaches and may search
-pub reaches_below : (rows : Rows) (caller : Caller) (n : ℕ) (r : Row) → map.get rows n ≡ Some r → Reaches rows caller r.parent
+pub reaches_below : (rows : Rows) (caller : Caller) (n : ℕ) (r : Row) → map.get rows n ≡ Some r
+    → Reaches rows caller r.parent
     → row_grants caller bits.Search (map.get rows r.parent) ≡ true → Reaches rows caller n
 unfolding ancestor
 reaches_below rows caller n r there up search zero below =

@@ -91,7 +91,8 @@ SetIdBetween = Between
     (λ n w caller request row new. IsChmod w caller request n row new)
 
 -- One of the entries is a user's call that was served, and of which this holds in the worlds around it.
-pub record IsDoneBy (numbers : ℕ) (entries : List Entry) (w : World) (P : World → Caller → Request → World → Type 0) : Type 0 where
+pub record IsDoneBy (numbers : ℕ) (entries : List Entry) (w : World) (P : World → Caller → Request → World
+    → Type 0) : Type 0 where
   pub before : List Entry
   pub entry : Entry
   pub later : List Entry
@@ -109,7 +110,8 @@ LevelBetween =
     → IsTree w.rows
     → IsLegal numbers segments entries w
     → (world_after numbers entries w).level ≢ w.level
-    → IsDoneBy numbers entries w (λ v caller request after. (after.level ≢ v.level) × MayRelevel caller request v.level after.level)
+    → IsDoneBy numbers entries w (λ v caller request after. (after.level ≢ v.level)
+    × MayRelevel caller request v.level after.level)
 
 -- a row that wasn't there and is at a later point: one of the entries made it, of whoever might then
 abbrev pub MadeBetween : Type 0
@@ -119,7 +121,8 @@ MadeBetween =
     → IsLegal numbers segments entries w
     → map.get w.rows n ≡ None
     → map.get (world_after numbers entries w).rows n ≡ Some s
-    → IsDoneBy numbers entries w (λ v caller request after. IsSomeAnd (map.get after.rows n) (MayMake numbers v caller request n))
+    → IsDoneBy numbers entries w (λ v caller request after. IsSomeAnd (map.get after.rows n)
+    (MayMake numbers v caller request n))
 
 -- one that was there and isn't: one of the entries removed it, of whoever might then
 abbrev pub GoneBetween : Type 0

@@ -4,7 +4,8 @@ use Rattle.lfs_types.specs.Caller.{Caller}
 use Rattle.lfs_types.specs.Tree.{World, root}
 use Rattle.lfs_types.specs.declared.request.Place.{Place}
 use Rattle.lfs_types.specs.declared.request.Request.{Request}
-use Rattle.lfs_types.specs.declared.request.Request.TheVariants.{Read, Write, SetLength, Create, Mkdir, Chmod, Chown, Chflags}
+use Rattle.lfs_types.specs.declared.request.Request.TheVariants.{Read, Write, SetLength, Create, Mkdir, Chmod, Chown}
+use Rattle.lfs_types.specs.declared.request.Request.TheVariants.{Chflags}
 use Rattle.lfs_rules.specs.Owners.{is_in_group}
 use Rattle.lfs_model.specs.Rules.{attrs_at, decide, file_max, is_end, reached, start_in}
 

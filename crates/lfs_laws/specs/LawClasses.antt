@@ -9,7 +9,8 @@ use Rattle.lfs_model.specs.World.{IsChild}
 use Rattle.lfs_model.specs.Rules.{decide}
 use Rattle.lfs_laws.specs.LawSeen.{IsOn, Sees}
 
--- User 0 is granted all. The owner is by the first of three bits alone; else who is in the group, by the second alone; else, by
+-- User 0 is granted all. The owner is by the first of three bits alone; else who is in the group, by the second alone;
+-- else, by
 -- the third.
 abbrev pub IsGranted : Caller → Attrs → ℕ → ℕ → ℕ → Type 0
 IsGranted caller attrs owner group others =

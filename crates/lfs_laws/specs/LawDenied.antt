@@ -1,6 +1,8 @@
--- A denial tells the truth, and tells only of a row on the call's path that the caller may ask for: every row before it is
+-- A denial tells the truth, and tells only of a row on the call's path that the caller may ask for: every row before it
+-- is
 -- a directory that he may search.
-use Rattle.std.specs.Prelude.{◌≡◌, ◌≢◌, ◌<◌, ◌≤◌, ◌||◌, ℕ, ◌+◌, true, false, List, [], ◌∷◌, ◌++◌, length, slice_get, Option, None, Some, IsSomeAnd}
+use Rattle.std.specs.Prelude.{◌≡◌, ◌≢◌, ◌<◌, ◌≤◌, ◌||◌, ℕ, ◌+◌, true, false, List, [], ◌∷◌, ◌++◌, length, slice_get}
+use Rattle.std.specs.Prelude.{Option, None, Some, IsSomeAnd}
 use Rattle.std.specs.FinMap as map
 use Rattle.lfs_types.specs.Caller.{Caller}
 use Rattle.lfs_types.specs.Tree.{Row, World, root, attrs_of}
@@ -11,10 +13,15 @@ use Rattle.lfs_types.specs.declared.request.Request.{Request}
 use Rattle.lfs_types.specs.declared.request.Request.TheVariants.{Write, SetLength, Rename, Chown, Chflags, SetLevel}
 use Rattle.lfs_types.specs.declared.rule.Denial.{Denial}
 use Rattle.lfs_types.specs.declared.rule.Rule.{Rule}
-use Rattle.lfs_types.specs.declared.rule.Rule.TheVariants.{IsDirectory, GrantsSearch, NameThere, NameFree, IsNoDirectory, IsEmpty, IsNotRoot, IsNotBeneathItself, IsMutable, IsNotAppendOnly, GrantsRead, GrantsWrite, PassesSticky, IsOwner, MaySetOwner, IsSuperuser, MaySetFlags, KeepsSystemLocks, MaySetLevel, FitsFile}
+use Rattle.lfs_types.specs.declared.rule.Rule.TheVariants.{IsDirectory, GrantsSearch, NameThere, NameFree}
+use Rattle.lfs_types.specs.declared.rule.Rule.TheVariants.{IsNoDirectory, IsEmpty, IsNotRoot, IsNotBeneathItself}
+use Rattle.lfs_types.specs.declared.rule.Rule.TheVariants.{IsMutable, IsNotAppendOnly, GrantsRead, GrantsWrite}
+use Rattle.lfs_types.specs.declared.rule.Rule.TheVariants.{PassesSticky, IsOwner, MaySetOwner, IsSuperuser, MaySetFlags}
+use Rattle.lfs_types.specs.declared.rule.Rule.TheVariants.{KeepsSystemLocks, MaySetLevel, FitsFile}
 use Rattle.lfs_rules.specs.Bits.{has_bit}
 use Rattle.lfs_rules.specs.Grants.{grants_of}
-use Rattle.lfs_rules.specs.Locks.{is_immutable, is_append_only, changes_system_flags, clears_system_lock, has_system_lock}
+use Rattle.lfs_rules.specs.Locks.{is_immutable, is_append_only, changes_system_flags, clears_system_lock}
+use Rattle.lfs_rules.specs.Locks.{has_system_lock}
 use Rattle.lfs_rules.specs.Securelevel.{is_above_zero, is_lower}
 use Rattle.lfs_model.specs.World.{Rows, child, children, IsTree}
 use Rattle.lfs_model.specs.Rules.{attrs_at, decide, file_max, is_directory_row, row_grants, start_in}
@@ -53,7 +60,8 @@ IsGivenWrongly caller request r = ⊥
 
 -- the call is to change system flags of a row, or flags beside a system lock
 abbrev pub TouchesSystemFlags : Request → Row → Type 0
-TouchesSystemFlags (Chflags path flags) r = (changes_system_flags r.file.flags flags || has_system_lock r.file.flags) ≡ true
+TouchesSystemFlags (Chflags path flags) r = (changes_system_flags r.file.flags flags || has_system_lock r.file.flags)
+    ≡ true
 TouchesSystemFlags request r = ⊥
 
 -- the call is to turn off a system lock of a row
@@ -79,7 +87,8 @@ pub record IsKept (w : World) (caller : Caller) (r : Row) : Type 0 where
 -- its parent's.
 abbrev pub Says : World → Caller → Request → Rule → List (List ℕ) → ℕ → Row → Type 0
 Says w caller request IsDirectory behind n r = r.file.kind ≡ Regular
-Says w caller request GrantsSearch behind n r = (r.file.kind ≡ Directory) × (grants_of caller (attrs_of r.file) bits.Search ≡ false)
+Says w caller request GrantsSearch behind n r = (r.file.kind ≡ Directory)
+    × (grants_of caller (attrs_of r.file) bits.Search ≡ false)
 Says w caller request NameThere behind n r = ⊥
 Says w caller request NameFree behind n r = behind ≡ []
 Says w caller request IsNoDirectory behind n r = (behind ≡ []) × (r.file.kind ≡ Directory)
@@ -89,12 +98,14 @@ Says w caller request IsNotBeneathItself behind n r = (behind ≢ []) × IsMoved
 Says w caller request IsMutable behind n r = (length behind ≤ 1) × (is_immutable (attrs_of r.file) ≡ true)
 Says w caller request IsNotAppendOnly behind n r = (length behind ≤ 1) × (is_append_only (attrs_of r.file) ≡ true)
 Says w caller request GrantsRead behind n r = (behind ≡ []) × (grants_of caller (attrs_of r.file) bits.Read ≡ false)
-Says w caller request GrantsWrite behind n r = (length behind ≤ 1) × (grants_of caller (attrs_of r.file) bits.Write ≡ false)
+Says w caller request GrantsWrite behind n r = (length behind ≤ 1)
+    × (grants_of caller (attrs_of r.file) bits.Write ≡ false)
 Says w caller request PassesSticky behind n r = (behind ≡ []) × IsKept w caller r
 Says w caller request IsOwner behind n r = (behind ≡ []) × (caller.uid ≢ 0) × (caller.uid ≢ r.file.uid)
 Says w caller request MaySetOwner behind n r = (behind ≡ []) × (caller.uid ≢ 0) × IsGivenWrongly caller request r
 Says w caller request MaySetFlags behind n r = (behind ≡ []) × (caller.uid ≢ 0) × TouchesSystemFlags request r
-Says w caller request KeepsSystemLocks behind n r = (behind ≡ []) × (is_above_zero w.level ≡ true) × TurnsOffLock request r
+Says w caller request KeepsSystemLocks behind n r = (behind ≡ []) × (is_above_zero w.level ≡ true)
+    × TurnsOffLock request r
 Says w caller request FitsFile behind n r = (behind ≡ []) × IsTooLong request r
 Says w caller request IsSuperuser behind n r = ⊥
 Says w caller request MaySetLevel behind n r = ⊥
@@ -109,7 +120,8 @@ abbrev pub SaysAt : World → Caller → Request → Rule → List (List ℕ) �
 SaysAt w caller request rule behind None = IsOfNone rule
 SaysAt w caller request rule behind (Some n) = IsSomeAnd (map.get w.rows n) (Says w caller request rule behind n)
 
--- A denial by a rule at a component of a path: the caller may pass the names before it, and the rule is broken by the row
+-- A denial by a rule at a component of a path: the caller may pass the names before it, and the rule is broken by the
+-- row
 -- there.
 pub record Tells (w : World) (caller : Caller) (request : Request) (path : List (List ℕ)) (rule : Rule) (at : ℕ)
     : Type 0 where
@@ -120,7 +132,8 @@ pub record Tells (w : World) (caller : Caller) (request : Request) (path : List 
   pub passes : MayPass w.rows caller (Some root) front
   pub says : SaysAt w caller request rule behind (led w.rows (Some root) front)
 
--- what a denial of a SetLevel says, which has no path: the caller isn't the superuser, or not init where the level would
+-- what a denial of a SetLevel says, which has no path: the caller isn't the superuser, or not init where the level
+-- would
 -- fall
 abbrev pub SaysOfLevel : World → Caller → Level → Rule → Type 0
 SaysOfLevel w caller level IsSuperuser = caller.uid ≢ 0

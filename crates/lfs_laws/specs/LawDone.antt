@@ -5,7 +5,8 @@ use Rattle.lfs_types.specs.Caller.{Caller}
 use Rattle.lfs_types.specs.Tree.{Row, World, root}
 use Rattle.lfs_types.specs.declared.answer.Answer.TheVariants.{Served, Denied, Refused}
 use Rattle.lfs_types.specs.declared.request.Request.{Request}
-use Rattle.lfs_types.specs.declared.request.Request.TheVariants.{Write, SetLength, Create, Mkdir, Unlink, Rmdir, Rename, Chmod, Chown, Chflags, SetLevel}
+use Rattle.lfs_types.specs.declared.request.Request.TheVariants.{Write, SetLength, Create, Mkdir, Unlink, Rmdir, Rename}
+use Rattle.lfs_types.specs.declared.request.Request.TheVariants.{Chmod, Chown, Chflags, SetLevel}
 use Rattle.lfs_rules.specs.Bits.{has_bit}
 use Rattle.lfs_laws.specs.LawsBytes.{Covers}
 use Rattle.lfs_model.specs.World.{IsChild}
@@ -43,16 +44,20 @@ Did w caller (Write path place (b ∷ bs)) after = Became w after (reached w.row
     (length s.file.bytes ≡ max (length r.file.bytes) (start_in place (length r.file.bytes) + length (b ∷ bs)))
     × ((i value : ℕ) → Covers (start_in place (length r.file.bytes)) (b ∷ bs) i value → get_or s.file.bytes i 0 ≡ value)
     × HasNoSetIds caller s)
-Did w caller (SetLength path len) after = Became w after (reached w.rows root path) (λ r s. (length s.file.bytes ≡ len) × HasNoSetIds caller s)
-Did w caller (Create path mode) after = Appeared w after (λ s. (s.parent ≡ reached w.rows root (front path)) × (s.name ≡ last path))
-Did w caller (Mkdir path mode) after = Appeared w after (λ s. (s.parent ≡ reached w.rows root (front path)) × (s.name ≡ last path))
+Did w caller (SetLength path len) after =
+    Became w after (reached w.rows root path) (λ r s. (length s.file.bytes ≡ len) × HasNoSetIds caller s)
+Did w caller (Create path mode) after = Appeared w after (λ s. (s.parent ≡ reached w.rows root (front path))
+    × (s.name ≡ last path))
+Did w caller (Mkdir path mode) after = Appeared w after (λ s. (s.parent ≡ reached w.rows root (front path))
+    × (s.name ≡ last path))
 Did w caller (Unlink path) after = map.get after.rows (reached w.rows root path) ≡ None
 Did w caller (Rmdir path) after = map.get after.rows (reached w.rows root path) ≡ None
 Did w caller (Rename from to) after =
     Became w after (reached w.rows root from) (λ r s. (s.parent ≡ reached w.rows root (front to)) × (s.name ≡ last to))
     × GaveWay w after (reached w.rows root from) (reached w.rows root (front to)) (last to)
 Did w caller (Chmod path mode) after = Became w after (reached w.rows root path) (λ r s. s.file.mode ≡ mode)
-Did w caller (Chown path uid gid) after = Became w after (reached w.rows root path) (λ r s. (s.file.uid ≡ uid) × (s.file.gid ≡ gid) × HasNoSetIds caller s)
+Did w caller (Chown path uid gid) after =
+    Became w after (reached w.rows root path) (λ r s. (s.file.uid ≡ uid) × (s.file.gid ≡ gid) × HasNoSetIds caller s)
 Did w caller (Chflags path flags) after = Became w after (reached w.rows root path) (λ r s. s.file.flags ≡ flags)
 Did w caller (SetLevel level) after = after.level ≡ level
 Did w caller request after = after ≡ w

@@ -11,9 +11,11 @@ use Rattle.lfs_model.specs.declared.journal.Event.TheVariants.{User, Cleaner}
 use Rattle.lfs_model.specs.World.{ancestor, IsTree}
 use Rattle.lfs_model.specs.Steps.{IsLegal, world_after}
 
--- a user's call is made by one whom the directory doesn't grant search, and who doesn't own it; the superuser is granted all
+-- a user's call is made by one whom the directory doesn't grant search, and who doesn't own it; the superuser is
+-- granted all
 abbrev pub IsOutside : Row → Caller → Event → Type 0
-IsOutside dir caller (User request answer) = (grants_of caller (attrs_of dir.file) bits.Search ≡ false) × (caller.uid ≢ dir.file.uid)
+IsOutside dir caller (User request answer) = (grants_of caller (attrs_of dir.file) bits.Search ≡ false)
+    × (caller.uid ≢ dir.file.uid)
 IsOutside dir caller (Cleaner kind outcome) = Unit {0}
 
 -- so is each

@@ -1,4 +1,5 @@
--- A closed door hides: what stands beneath a directory that doesn't grant a caller search makes no difference to his calls.
+-- A closed door hides: what stands beneath a directory that doesn't grant a caller search makes no difference to his
+-- calls.
 use Rattle.std.specs.Prelude.{◌≡◌, ◌≢◌, ◌⊎◌, ◌↔◌, ℕ, suc, is_some, true, false, List, [], ◌∷◌, None, Some}
 use Rattle.std.specs.FinMap as map
 use Rattle.lfs_types.specs.Caller.{Caller}
@@ -29,7 +30,8 @@ IsBeneath rows d n = (k : ℕ) × (ancestor rows (suc k) n ≡ d)
 abbrev pub IsHidden : Rows → ℕ → ℕ → Type 0
 IsHidden rows d n = (map.get rows n ≡ None) ⊎ IsBeneath rows d n
 
--- Two worlds differ only beneath a directory: in how many rows stand there, under which numbers and names, with what kinds,
+-- Two worlds differ only beneath a directory: in how many rows stand there, under which numbers and names, with what
+-- kinds,
 -- attributes and bytes. The level, the directory itself and all other rows are the same.
 pub record DifferBeneath (d : ℕ) (dir : Row) (w v : World) : Type 0 where
   pub level : w.level ≡ v.level
@@ -52,8 +54,10 @@ IsOnto w d (Rmdir path) = reached w.rows root path ≡ d
 IsOnto w d (Rename from to) = reached w.rows root to ≡ d
 IsOnto w d request = ⊥
 
--- Such worlds decide alike the call of one whom the directory doesn't grant search, but that a Rmdir of the directory and a
--- Rename onto it tell whether it is empty; and where they allow it, they answer it alike. If the call lists the directory, which
+-- Such worlds decide alike the call of one whom the directory doesn't grant search, but that a Rmdir of the directory
+-- and a
+-- Rename onto it tell whether it is empty; and where they allow it, they answer it alike. If the call lists the
+-- directory, which
 -- grants him read, the same names hang in it.
 abbrev pub HidesFromCall : Type 0
 HidesFromCall =
@@ -94,14 +98,17 @@ IsDeniedBehind (Rmdir path) denial = denial.rule ≡ IsEmpty
 IsDeniedBehind (Rename from to) denial = MayFollow (Some denial) ⊎ IsFull to (Some denial)
 IsDeniedBehind request denial = ⊥
 
--- the answer tells whether the directory of this number is empty: the call would take it away, and no rule before denied it
+-- the answer tells whether the directory of this number is empty: the call would take it away, and no rule before
+-- denied it
 abbrev pub IsToldEmpty : World → ℕ → Request → Answer → Type 0
 IsToldEmpty w d request (Served shown) = IsOnto w d request
 IsToldEmpty w d request (Denied denial) = IsOnto w d request × IsDeniedBehind request denial
 IsToldEmpty w d request (Refused resource) = IsOnto w d request
 
--- Whoever makes a user's call in this world sees no more than is the same: he lists the directory, where he may read it, only if
--- the names in it are; he is allowed to make a row only if the numbers in use are; and he is told whether the directory is empty
+-- Whoever makes a user's call in this world sees no more than is the same: he lists the directory, where he may read
+-- it, only if
+-- the names in it are; he is allowed to make a row only if the numbers in use are; and he is told whether the directory
+-- is empty
 -- only if it is so in both worlds or in neither.
 abbrev pub SeesTheSame : World → ℕ → Row → Type 0 → Type 0 → Type 0 → Caller → Event → Type 0
 SeesTheSame w d dir SameNames SameNumbers EmptyAlike caller (User request answer) =
@@ -115,15 +122,19 @@ abbrev pub AllSeeTheSame : ℕ → ℕ → Row → Type 0 → Type 0 → Type 0 
 AllSeeTheSame numbers d dir SameNames SameNumbers EmptyAlike [] w = Unit {0}
 AllSeeTheSame numbers d dir SameNames SameNumbers EmptyAlike (entry ∷ entries) w =
     SeesTheSame w d dir SameNames SameNumbers EmptyAlike entry.cred entry.event
-    × AllSeeTheSame numbers d dir SameNames SameNumbers EmptyAlike entries (after_event numbers w entry.cred entry.event)
+    × AllSeeTheSame numbers d dir SameNames SameNumbers EmptyAlike entries
+    (after_event numbers w entry.cred entry.event)
 
 -- the directory is empty in both worlds or in neither
 abbrev pub IsEmptyAlike : ℕ → World → World → Type 0
 IsEmptyAlike d w v = IsFilled w.rows d ↔ IsFilled v.rows d
 
--- A list of entries of users whom the directory doesn't grant search, and none of whom owns it, that is legal in one of the
--- worlds is legal in the other: each call may have the same answer all along, a refusal for a resource too. If one of them lists
--- the directory, which he may read, the same names hang in it; if one is allowed to make a row, the same numbers are in use, since
+-- A list of entries of users whom the directory doesn't grant search, and none of whom owns it, that is legal in one of
+-- the
+-- worlds is legal in the other: each call may have the same answer all along, a refusal for a resource too. If one of
+-- them lists
+-- the directory, which he may read, the same names hang in it; if one is allowed to make a row, the same numbers are in
+-- use, since
 -- its number and NoInodes tell of them; if one is told whether the directory is empty, it is so in both or in neither.
 abbrev pub HidesFromRun : Type 0
 HidesFromRun =

@@ -1,4 +1,5 @@
--- What decides nothing: how a level below 1 or above 0 is called, UF_NODUMP and SF_ARCHIVED, init, and the order of groups.
+-- What decides nothing: how a level below 1 or above 0 is called, UF_NODUMP and SF_ARCHIVED, init, and the order of
+-- groups.
 use Rattle.std.specs.Prelude.{◌≡◌, ◌≢◌, ◌↔◌, ℕ, ◌/◌, ◌%◌, Contains, Option, None, Some}
 use Rattle.std.specs.FinMap as map
 use Rattle.lfs_types.specs.Caller.{Caller}
@@ -24,8 +25,10 @@ abbrev pub LevelsAlike : Type 0
 LevelsAlike =
     (rows : Rows) (caller : Caller) (request : Request)
     → (IsSetLevel request → ⊥)
-    → (decide (record { level = PermanentlyInsecure; rows = rows }) caller request ≡ decide (record { level = Insecure; rows = rows }) caller request)
-    × (decide (record { level = HighlySecure; rows = rows }) caller request ≡ decide (record { level = Secure; rows = rows }) caller request)
+    → (decide (record { level = PermanentlyInsecure; rows = rows }) caller request
+    ≡ decide (record { level = Insecure; rows = rows }) caller request)
+    × (decide (record { level = HighlySecure; rows = rows }) caller request
+    ≡ decide (record { level = Secure; rows = rows }) caller request)
 
 -- callers of one user who have the same groups, in whatever order and however often
 pub record HasSameGroups (caller other : Caller) : Type 0 where

@@ -15,7 +15,8 @@ use Rattle.lfs_laws.specs.LawMoved.{HangsStill}
 use Rattle.lfs_laws.specs.LawOneThing.{KeepsMode}
 use Rattle.lfs_laws.specs.Rights.{is_fixed}
 
--- a caller is kept from a row in a directory: the directory grants him no write or no search, or is sticky, or fixed by a flag; or
+-- a caller is kept from a row in a directory: the directory grants him no write or no search, or is sticky, or fixed by
+-- a flag; or
 -- the row is fixed by one
 abbrev pub Guards : Row → Row → Caller → Type 0
 Guards dir row caller =
@@ -45,7 +46,8 @@ pub record IsStillHere (old new : Row) : Type 0 where
   pub flags : new.file.flags ≡ old.file.flags
   pub mode : KeepsMode old.file.mode new.file.mode
 
--- Through any calls of such strangers a row stays in its directory under its name; of both nothing changes but the bytes of a file
+-- Through any calls of such strangers a row stays in its directory under its name; of both nothing changes but the
+-- bytes of a file
 -- and the directory's own place, whatever becomes of the directories above.
 abbrev pub RowIsKept : Type 0
 RowIsKept =

@@ -1,12 +1,14 @@
 -- Who set an attribute of a row last: its kind, size, owner, group, mode, flags or place.
-use Rattle.std.specs.Prelude.{◌≡◌, ◌≢◌, ◌⊎◌, ℕ, ◌+◌, ◌/◌, ◌%◌, ◌==◌, nat_le, List, [], ◌∷◌, ◌++◌, length, Option, None, Some, if◌then◌else◌}
+use Rattle.std.specs.Prelude.{◌≡◌, ◌≢◌, ◌⊎◌, ℕ, ◌+◌, ◌/◌, ◌%◌, ◌==◌, nat_le, List, [], ◌∷◌, ◌++◌, length, Option, None}
+use Rattle.std.specs.Prelude.{Some, if◌then◌else◌}
 use Rattle.std.specs.FinMap as map
 use Rattle.lfs_types.specs.Caller.{Caller}
 use Rattle.lfs_types.specs.Tree.{Row, World, root, opening_world}
 use Rattle.lfs_types.specs.declared.attrs.Kind.{Kind}
 use Rattle.lfs_types.specs.declared.attrs.Kind.TheVariants.{File as Regular, Directory}
 use Rattle.lfs_types.specs.declared.request.Request.{Request}
-use Rattle.lfs_types.specs.declared.request.Request.TheVariants.{Write, SetLength, Create, Mkdir, Rename, Chmod, Chown, Chflags}
+use Rattle.lfs_types.specs.declared.request.Request.TheVariants.{Write, SetLength, Create, Mkdir, Rename, Chmod, Chown}
+use Rattle.lfs_types.specs.declared.request.Request.TheVariants.{Chflags}
 use Rattle.lfs_model.specs.declared.journal.Entry.{Entry}
 use Rattle.lfs_model.specs.Rules.{attrs_at, front, last, reached, start_in}
 use Rattle.lfs_model.specs.Steps.{IsLegal, after_event, world_after, world_of}
@@ -38,24 +40,28 @@ abbrev pub SetsAny : (A : Type 0) → Giving A → ℕ → ℕ → World → Cal
 SetsAny A gives numbers n w caller request = (value : A) × SetsTo A gives numbers w caller n value request
 
 -- of the entries since a world, the last served call that sets the attribute sets it to this value
-pub record IsSetLast (A : Type 0) (gives : Giving A) (numbers : ℕ) (entries : List Entry) (w : World) (n : ℕ) (value : A)
+pub record IsSetLast (A : Type 0) (gives : Giving A) (numbers : ℕ) (entries : List Entry) (w : World) (n : ℕ)
+    (value : A)
     : Type 0 where
   pub before : List Entry
   pub entry : Entry
   pub later : List Entry
   pub split : before ++ entry ∷ later ≡ entries
   pub sets : IsServed (SetsTo A gives numbers (world_after numbers before w) entry.cred n value) entry.event
-  pub last : NoneServed (SetsAny A gives numbers n) numbers later (after_event numbers (world_after numbers before w) entry.cred entry.event)
+  pub last : NoneServed (SetsAny A gives numbers n) numbers later
+      (after_event numbers (world_after numbers before w) entry.cred entry.event)
 
 -- none of them sets it, and it had this value in the world before them
-pub record IsLeft (A : Type 0) (of : Row → A) (gives : Giving A) (numbers : ℕ) (entries : List Entry) (w : World) (n : ℕ) (value : A)
+pub record IsLeft (A : Type 0) (of : Row → A) (gives : Giving A) (numbers : ℕ) (entries : List Entry) (w : World)
+    (n : ℕ) (value : A)
     : Type 0 where
   pub none : NoneServed (SetsAny A gives numbers n) numbers entries w
   pub row : Row
   pub there : map.get w.rows n ≡ Some row
   pub was : of row ≡ value
 
--- an attribute of a row that is there after a run is what the last call that set it made of it, or what it was in the beginning
+-- an attribute of a row that is there after a run is what the last call that set it made of it, or what it was in the
+-- beginning
 abbrev pub LastSet : (A : Type 0) → (Row → A) → Giving A → Type 0
 LastSet A of gives =
     (numbers segments : ℕ) (entries : List Entry) (w : World) (n : ℕ) (r : Row)
@@ -87,11 +93,13 @@ KindLastSet = LastSet Kind (λ r. r.file.kind) kind_given
 abbrev pub end_past : ℕ → ℕ → Option ℕ
 end_past size end = if nat_le end size then None else Some end
 
--- a size: of a Write of a byte that ends past the file's end, where it ends; of a SetLength, its length; of what makes the row, 0
+-- a size: of a Write of a byte that ends past the file's end, where it ends; of a SetLength, its length; of what makes
+-- the row, 0
 abbrev pub size_given : Giving ℕ
 size_given w caller (Write path place []) = None
 size_given w caller (Write path place (b ∷ bs)) =
-    let size = (attrs_at w.rows (reached w.rows root path)).size in end_past size (start_in place size + length (b ∷ bs))
+    let size = (attrs_at w.rows (reached w.rows root path)).size in
+    end_past size (start_in place size + length (b ∷ bs))
 size_given w caller (SetLength path len) = Some len
 size_given w caller (Create path mode) = Some 0
 size_given w caller (Mkdir path mode) = Some 0
@@ -138,7 +146,8 @@ PermissionsLastSet = LastSet ℕ (λ r. r.file.mode % 0o2000) permissions_given
 abbrev pub bits_taken : Caller → Option ℕ
 bits_taken caller = if caller.uid == 0 then None else Some 0
 
--- its set-id bits, which are 04000 and 02000 of a mode below 010000: the same; and of a Write of a byte, a SetLength and a Chown of
+-- its set-id bits, which are 04000 and 02000 of a mode below 010000: the same; and of a Write of a byte, a SetLength
+-- and a Chown of
 -- another than user 0, none
 abbrev pub set_ids_given : Giving ℕ
 set_ids_given w caller (Chmod path mode) = Some (mode / 0o2000)

@@ -28,4 +28,11 @@ ShowsByNames =
     → Leads w.rows 2 path n
     → map.get w.rows n ≡ Some r
     → answer_of w (Stat path)
-    ≡ served.Stat n (record { kind = r.file.kind; uid = r.file.uid; gid = r.file.gid; mode = r.file.mode; flags = r.file.flags; size = length r.file.bytes })
+    ≡ served.Stat n (record {
+      kind = r.file.kind;
+      uid = r.file.uid;
+      gid = r.file.gid;
+      mode = r.file.mode;
+      flags = r.file.flags;
+      size = length r.file.bytes;
+    })

@@ -30,7 +30,8 @@ Replaces w after n m (Rename from to) =
     × IsSomeAnd (map.get w.rows m) (λ r. IsSomeAnd (map.get after.rows m) (DiffersInPlace r))
 Replaces w after n m request = ⊥
 
--- after an event a path that led to a row leads to it still; or nowhere, as a served call cut it off; or, after a served
+-- after an event a path that led to a row leads to it still; or nowhere, as a served call cut it off; or, after a
+-- served
 -- Rename, to the row that was moved, whole, into the place of the first
 abbrev pub LeadsAfter : World → List (List ℕ) → ℕ → Event → World → Type 0
 LeadsAfter w path n event after =
@@ -41,7 +42,8 @@ LeadsAfter w path n event after =
 -- so at each point of a run from any tree
 abbrev pub PathLeadsOn : Type 0
 PathLeadsOn =
-    (numbers segments : ℕ) (before : List Entry) (entry : Entry) (later : List Entry) (w : World) (path : List (List ℕ)) (n : ℕ)
+    (numbers segments : ℕ) (before : List Entry) (entry : Entry) (later : List Entry) (w : World) (path : List (List ℕ))
+    (n : ℕ)
     → IsTree w.rows
     → IsLegal numbers segments (before ++ entry ∷ later) w
     → led (world_after numbers before w).rows (Some root) path ≡ Some n

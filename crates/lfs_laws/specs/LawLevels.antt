@@ -23,14 +23,16 @@ LevelByNumber =
     → (decide w caller (SetLevel level) ≡ None)
     ↔ ((caller.uid ≡ 0) × ((caller.init ≡ true) ⊎ (height w.level ≤ height level)))
 
--- another than user 0 sets flags of what he owns, where the bits from 0x10000 on stay and neither 0x20000 nor 0x40000 is set
+-- another than user 0 sets flags of what he owns, where the bits from 0x10000 on stay and neither 0x20000 nor 0x40000
+-- is set
 abbrev pub FlagsByOwner : Type 0
 FlagsByOwner =
     (w : World) (caller : Caller) (path : List (List ℕ)) (n flags : ℕ) (attrs : Attrs)
     → Sees w caller path n attrs
     → caller.uid ≢ 0
     → (decide w caller (Chflags path flags) ≡ None)
-    ↔ ((caller.uid ≡ attrs.uid) × (attrs.flags / 0x1_0000 ≡ flags / 0x1_0000) × (IsOff attrs.flags 0x2_0000 × IsOff attrs.flags 0x4_0000))
+    ↔ ((caller.uid ≡ attrs.uid) × (attrs.flags / 0x1_0000 ≡ flags / 0x1_0000)
+    × (IsOff attrs.flags 0x2_0000 × IsOff attrs.flags 0x4_0000))
 
 -- user 0 sets all; but at levels 1 and 2 a set 0x20000 or 0x40000 stays set
 abbrev pub FlagsByLevel : Type 0

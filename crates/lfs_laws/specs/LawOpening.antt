@@ -15,7 +15,8 @@ use Rattle.lfs_laws.specs.LawLevels.{height}
 
 -- the root has number 2, is user 0's and group 0's, of mode 0755, with no flags
 abbrev pub OpensWithRoot : Type 0
-OpensWithRoot = answer_of opening_world (Stat []) ≡ served.Stat 2 (record { kind = Directory; uid = 0; gid = 0; mode = 0o755; flags = 0; size = 0 })
+OpensWithRoot = answer_of opening_world (Stat [])
+    ≡ served.Stat 2 (record { kind = Directory; uid = 0; gid = 0; mode = 0o755; flags = 0; size = 0 })
 
 -- it is alone
 abbrev pub OpensAlone : Type 0
@@ -30,7 +31,8 @@ abbrev pub IsChmodCall : Request → Type 0
 IsChmodCall (Chmod path mode) = Unit {0}
 IsChmodCall request = ⊥
 
--- a mode, which is below 010000, that another call than a Chmod changes is then without 04000 and 02000, and as it was below; the
+-- a mode, which is below 010000, that another call than a Chmod changes is then without 04000 and 02000, and as it was
+-- below; the
 -- caller isn't user 0
 abbrev pub SetIdsGo : Type 0
 SetIdsGo =

@@ -22,4 +22,5 @@ GroupByOwner =
     → Sees w caller path n attrs
     → attrs.flags ≡ 0
     → (decide w caller (Chown path uid gid) ≡ None)
-    ↔ ((caller.uid ≡ 0) ⊎ ((caller.uid ≡ attrs.uid) × (uid ≡ attrs.uid) × ((gid ≡ attrs.gid) ⊎ Contains caller.groups gid)))
+    ↔ ((caller.uid ≡ 0) ⊎ ((caller.uid ≡ attrs.uid) × (uid ≡ attrs.uid)
+    × ((gid ≡ attrs.gid) ⊎ Contains caller.groups gid)))

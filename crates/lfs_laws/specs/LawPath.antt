@@ -1,4 +1,5 @@
--- A path stays: where none who calls owns a row on it, or may take one away, it leads through the same rows after any calls.
+-- A path stays: where none who calls owns a row on it, or may take one away, it leads through the same rows after any
+-- calls.
 use Rattle.std.specs.Prelude.{◌≡◌, ◌≢◌, ◌⊎◌, ℕ, true, false, List, [], ◌∷◌, Some, IsSomeAnd}
 use Rattle.std.specs.FinMap as map
 use Rattle.lfs_types.specs.Caller.{Caller}
@@ -18,13 +19,15 @@ use Rattle.lfs_model.specs.Rules.{attrs_at, row_grants, visited, walk}
 use Rattle.lfs_model.specs.Steps.{IsLegal, world_after}
 use Rattle.lfs_model.specs.Walks.{is_on_way}
 
--- A caller must leave a row as it is: he may neither set its mode, owner, group or flags, since he doesn't own it, or since
+-- A caller must leave a row as it is: he may neither set its mode, owner, group or flags, since he doesn't own it, or
+-- since
 -- the system locks it and he isn't the superuser, nor take it away.
 pub record LeavesAlone (rows : Rows) (caller : Caller) (n : ℕ) : Type 0 where
   pub owned : Owns rows caller n → (caller.uid ≢ 0) × (has_system_lock (attrs_at rows n).flags ≡ true)
   pub taken : MayTakeAway rows caller n (parent_of (map.get rows n)) → ⊥
 
--- what keeps a caller from taking a row away: its directory grants him no write or no search, or is immutable or append-only,
+-- what keeps a caller from taking a row away: its directory grants him no write or no search, or is immutable or
+-- append-only,
 -- or is sticky and not his; or the row is immutable or append-only
 abbrev pub IsGuarded : Rows → Caller → ℕ → ℕ → Type 0
 IsGuarded rows caller n parent =
@@ -63,7 +66,8 @@ pub record PathStill (w after : World) (path : List (List ℕ)) : Type 0 where
   pub way : visited after.rows root path ≡ visited w.rows root path
   pub rows : (n : ℕ) (r : Row) → is_on_way w.rows path n ≡ true → map.get w.rows n ≡ Some r
       → IsSomeAnd (map.get after.rows n) (StaysPut r)
-  pub walks : (caller : Caller) (index : ℕ) → walk after.rows caller index 0 root path ≡ walk w.rows caller index 0 root path
+  pub walks : (caller : Caller) (index : ℕ) → walk after.rows caller index 0 root path
+      ≡ walk w.rows caller index 0 root path
 
 -- a path that leads to a row does so through any calls of those who must leave its rows as they are, as they are now
 abbrev pub PathStays : Type 0

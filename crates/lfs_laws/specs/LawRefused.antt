@@ -5,9 +5,11 @@ use Rattle.lfs_types.specs.Caller.{Caller}
 use Rattle.lfs_types.specs.Tree.{World}
 use Rattle.lfs_types.specs.declared.answer.Answer.TheVariants.{Refused}
 use Rattle.lfs_types.specs.declared.answer.Resource.{Resource}
-use Rattle.lfs_types.specs.declared.answer.Resource.TheVariants.{NoMemory, NoSpace, NoInodes, DirectoryFull, JournalFull}
+use Rattle.lfs_types.specs.declared.answer.Resource.TheVariants.{NoMemory, NoSpace, NoInodes, DirectoryFull}
+use Rattle.lfs_types.specs.declared.answer.Resource.TheVariants.{JournalFull}
 use Rattle.lfs_types.specs.declared.request.Request.{Request}
-use Rattle.lfs_types.specs.declared.request.Request.TheVariants.{Stat, Read, List as Names, Create, Mkdir, Rename, SetLevel}
+use Rattle.lfs_types.specs.declared.request.Request.TheVariants.{Stat, Read, List as Names, Create, Mkdir, Rename}
+use Rattle.lfs_types.specs.declared.request.Request.TheVariants.{SetLevel}
 use Rattle.lfs_model.specs.declared.journal.Event.TheVariants.{User}
 use Rattle.lfs_model.specs.World.{Rows, IsChild, IsTree}
 use Rattle.lfs_model.specs.Steps.{IsEvent}
@@ -41,7 +43,8 @@ IsWriting (Names path) = ⊥
 IsWriting (SetLevel level) = ⊥
 IsWriting request = Unit {0}
 
--- what a refused call lacked was wanting: each number from 4 up has a row; the directory is full; the store may want room. No
+-- what a refused call lacked was wanting: each number from 4 up has a row; the directory is full; the store may want
+-- room. No
 -- other refusal has an entry.
 abbrev pub Lacked : ℕ → World → Request → Resource → Type 0
 Lacked numbers w request NoInodes = IsMaking request × ((n : ℕ) → 4 ≤ n → n < numbers → IsSome (map.get w.rows n))

@@ -1,4 +1,5 @@
--- A call is allowed exactly where its caller may make it, in the words of Rights: he reaches, is granted, owns, may write,
+-- A call is allowed exactly where its caller may make it, in the words of Rights: he reaches, is granted, owns, may
+-- write,
 -- may take away, may place.
 use Rattle.std.specs.Prelude.{◌≡◌, ◌≢◌, ◌⊎◌, ◌↔◌, ◌≤◌, ◌||◌, ℕ, ◌+◌, true, false, List, [], length, None, Some}
 use Rattle.std.specs.FinMap as map
@@ -10,7 +11,9 @@ use Rattle.lfs_types.specs.declared.attrs.Bit.TheVariants as bits
 use Rattle.lfs_types.specs.declared.attrs.Kind.{Kind}
 use Rattle.lfs_types.specs.declared.attrs.Kind.TheVariants.{File as Regular, Directory}
 use Rattle.lfs_types.specs.declared.request.Request.{Request}
-use Rattle.lfs_types.specs.declared.request.Request.TheVariants.{Stat, Read, Write, List as Names, SetLength, Create, Mkdir, Unlink, Rmdir, Rename, Chmod, Chown, Chflags, SetLevel, Sync}
+use Rattle.lfs_types.specs.declared.request.Request.TheVariants.{Stat, Read, Write, List as Names, SetLength, Create}
+use Rattle.lfs_types.specs.declared.request.Request.TheVariants.{Mkdir, Unlink, Rmdir, Rename, Chmod, Chown, Chflags}
+use Rattle.lfs_types.specs.declared.request.Request.TheVariants.{SetLevel, Sync}
 use Rattle.lfs_rules.specs.Grants.{grants_of}
 use Rattle.lfs_rules.specs.Locks.{is_append_only, changes_system_flags, clears_system_lock, has_system_lock}
 use Rattle.lfs_rules.specs.Securelevel.{is_above_zero, is_lower}
@@ -36,7 +39,8 @@ pub record HasPlace (w : World) (caller : Caller) (path : List (List ℕ)) (P : 
   pub holds : P parent
 
 -- a path leads to a place that the caller may give to a row of this kind, in a directory of which P holds
-pub record HasPlaceFor (w : World) (caller : Caller) (path : List (List ℕ)) (kind : Kind) (P : ℕ → Type 0) : Type 0 where
+pub record HasPlaceFor (w : World) (caller : Caller) (path : List (List ℕ)) (kind : Kind) (P : ℕ
+    → Type 0) : Type 0 where
   pub parent : ℕ
   pub filled : path ≢ []
   pub leads : led w.rows (Some root) (front path) ≡ Some parent
@@ -47,13 +51,15 @@ pub record HasPlaceFor (w : World) (caller : Caller) (path : List (List ℕ)) (k
 abbrev pub IsNotUnder : Rows → ℕ → ℕ → Type 0
 IsNotUnder rows n m = (k : ℕ) → ancestor rows k m ≢ n
 
--- a caller may hang a row in a directory: it isn't the row nor beneath it, and a directory that gets another parent grants
+-- a caller may hang a row in a directory: it isn't the row nor beneath it, and a directory that gets another parent
+-- grants
 -- him write
 pub record MayHang (w : World) (caller : Caller) (n : ℕ) (r : Row) (parent : ℕ) : Type 0 where
   pub apart : IsNotUnder w.rows n parent
   pub granted : r.file.kind ≡ Directory → parent ≢ r.parent → grants_of caller (attrs_of r.file) bits.Write ≡ true
 
--- a caller may give a row the place to which a path leads: the row has it already; or the place is free, or what has it is
+-- a caller may give a row the place to which a path leads: the row has it already; or the place is free, or what has it
+-- is
 -- of the row's kind, childless, and he may take it away, and he may hang the row there
 abbrev pub MayBring : World → Caller → List (List ℕ) → ℕ → Row → Type 0
 MayBring w caller to n r =

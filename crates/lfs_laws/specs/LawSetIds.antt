@@ -21,18 +21,22 @@ Wears w n (SetLength path len) = reached w.rows root path ≡ n
 Wears w n (Chown path uid gid) = reached w.rows root path ≡ n
 Wears w n request = ⊥
 
--- Where a served call of another than user 0 did so, and the row of this number has a set-id bit at the end of a run (04000 or 02000
--- of a mode, which is below 010000), one of the entries behind set it, by a Chmod of whoever might then; or removed the row, of
+-- Where a served call of another than user 0 did so, and the row of this number has a set-id bit at the end of a run
+-- (04000 or 02000
+-- of a mode, which is below 010000), one of the entries behind set it, by a Chmod of whoever might then; or removed the
+-- row, of
 -- whoever might.
 abbrev pub SetIdsAreFresh : Type 0
 SetIdsAreFresh =
-    (numbers segments : ℕ) (before : List Entry) (entry : Entry) (later : List Entry) (w : World) (request : Request) (shown : shows.Served) (n : ℕ) (s : Row)
+    (numbers segments : ℕ) (before : List Entry) (entry : Entry) (later : List Entry) (w : World) (request : Request)
+    (shown : shows.Served) (n : ℕ) (s : Row)
     → IsTree w.rows
     → IsLegal numbers segments (before ++ entry ∷ later) w
     → entry.event ≡ User request (Served shown)
     → entry.cred.uid ≢ 0
     → Wears (world_after numbers before w) n request
-    → map.get (world_after numbers later (after_event numbers (world_after numbers before w) entry.cred entry.event)).rows n ≡ Some s
+    → map.get (world_after numbers later (after_event numbers
+    (world_after numbers before w) entry.cred entry.event)).rows n ≡ Some s
     → 0o2000 ≤ s.file.mode
     → IsChangedBy numbers later (after_event numbers (world_after numbers before w) entry.cred entry.event) n
     (λ old new. (old.file.mode < 0o2000) × (0o2000 ≤ new.file.mode))

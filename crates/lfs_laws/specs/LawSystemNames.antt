@@ -13,7 +13,8 @@ use Rattle.lfs_laws.specs.LawDenied.{led}
 use Rattle.lfs_laws.specs.LawsFlags.{DropsLevel}
 use Rattle.lfs_laws.specs.LawsRuns.{NoneServed}
 
--- above level 0 what hangs in a directory with a system lock hangs there under its name, through any calls of which none is served to
+-- above level 0 what hangs in a directory with a system lock hangs there under its name, through any calls of which
+-- none is served to
 -- init and lets the level fall to 0 or below
 abbrev pub SystemNamesStay : Type 0
 SystemNamesStay =

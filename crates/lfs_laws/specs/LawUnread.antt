@@ -31,7 +31,8 @@ pub record DifferUnread (caller : Caller) (w v : World) : Type 0 where
   pub level : w.level ≡ v.level
   pub rows : (n : ℕ) → NumberLooksAlike caller (Reaches w.rows caller n) (map.get w.rows n) (map.get v.rows n)
 
--- each answer that a call may have in one of the worlds, it may have in the other; NoInodes, DirectoryFull and NoSpace are
+-- each answer that a call may have in one of the worlds, it may have in the other; NoInodes, DirectoryFull and NoSpace
+-- are
 -- among them
 abbrev pub NobodyReads : Type 0
 NobodyReads =

@@ -1,4 +1,5 @@
--- Through a run, those whom a file grants no read, and who don't own it, learn nothing of its bytes but how many they are.
+-- Through a run, those whom a file grants no read, and who don't own it, learn nothing of its bytes but how many they
+-- are.
 use Rattle.std.specs.Prelude.{◌≡◌, ◌≢◌, ℕ, false, List, [], ◌∷◌, length, Some}
 use Rattle.std.specs.FinMap as map
 use Rattle.lfs_types.specs.Caller.{Caller}
@@ -13,7 +14,8 @@ use Rattle.lfs_model.specs.Steps.{IsLegal}
 
 -- a user's call is made by one whom the file grants no read, and who doesn't own it
 abbrev pub IsUnread : Row → Caller → Event → Type 0
-IsUnread r caller (User request answer) = (grants_of caller (attrs_of r.file) bits.Read ≡ false) × (caller.uid ≢ r.file.uid)
+IsUnread r caller (User request answer) = (grants_of caller (attrs_of r.file) bits.Read ≡ false)
+    × (caller.uid ≢ r.file.uid)
 IsUnread r caller (Cleaner kind outcome) = Unit {0}
 
 -- so is each

@@ -61,7 +61,8 @@ LastWritten =
     → IsLegal numbers segments entries w
     → map.get (world_after numbers entries w).rows n ≡ Some r
     → i < length r.file.bytes
-    → IsLastSet numbers w entries n i (get_or r.file.bytes i 0) ⊎ IsNeverSet numbers w entries n i (get_or r.file.bytes i 0)
+    → IsLastSet numbers w entries n i (get_or r.file.bytes i 0)
+    ⊎ IsNeverSet numbers w entries n i (get_or r.file.bytes i 0)
 
 -- from the opening world on, which has no file, it is the former
 abbrev pub LastWrittenSinceOpening : Type 0

@@ -8,7 +8,9 @@ use Rattle.lfs_types.specs.declared.attrs.Attrs.{Attrs}
 use Rattle.lfs_types.specs.declared.attrs.Bit.TheVariants as bits
 use Rattle.lfs_types.specs.declared.attrs.Kind.{Kind}
 use Rattle.lfs_types.specs.declared.request.Request.{Request}
-use Rattle.lfs_types.specs.declared.request.Request.TheVariants.{Stat, Read, Write, List as Names, SetLength, Create, Mkdir, Unlink, Rmdir, Rename, Chmod, Chown, Chflags, SetLevel, Sync}
+use Rattle.lfs_types.specs.declared.request.Request.TheVariants.{Stat, Read, Write, List as Names, SetLength, Create}
+use Rattle.lfs_types.specs.declared.request.Request.TheVariants.{Mkdir, Unlink, Rmdir, Rename, Chmod, Chown, Chflags}
+use Rattle.lfs_types.specs.declared.request.Request.TheVariants.{SetLevel, Sync}
 use Rattle.lfs_rules.specs.Bits.{has_bit}
 use Rattle.lfs_rules.specs.Locks.{is_immutable, is_append_only}
 use Rattle.lfs_rules.specs.Owners.{is_in_group, is_owner_or_superuser}
@@ -45,7 +47,8 @@ pub record MayRetitle (rows : Rows) (caller : Caller) (n : ℕ) : Type 0 where
 -- whoever owns a file may give it this owner and this group: the superuser any; another the present owner, with the
 -- present group or one of his own
 abbrev pub IsGivable : Caller → File → ℕ → ℕ → Type 0
-IsGivable caller file uid gid = (caller.uid ≡ 0) ⊎ ((uid ≡ file.uid) × ((gid ≡ file.gid) ⊎ (is_in_group caller gid ≡ true)))
+IsGivable caller file uid gid = (caller.uid ≡ 0)
+    ⊎ ((uid ≡ file.uid) × ((gid ≡ file.gid) ⊎ (is_in_group caller gid ≡ true)))
 
 -- A caller may take a row away from its parent: it isn't the root, which is its own; he reaches the row and may write
 -- the parent, neither is fixed, and if the parent is sticky, he is the superuser or the owner of one of the two.

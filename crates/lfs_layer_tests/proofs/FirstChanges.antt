@@ -21,11 +21,14 @@ abbrev pub contents_of : StoreState → Content
 contents_of s = s.content
 
 -- what holds of a file that was put at a number
-pub at_file : (c : Content) (ino : ℕ) (f : File) (P : File → Type 0) → P f → IsSomeAnd (map.get (map.insert c ino f) ino) P
+pub at_file : (c : Content) (ino : ℕ) (f : File) (P : File → Type 0) → P f
+    → IsSomeAnd (map.get (map.insert c ino f) ino) P
 at_file c ino f P h = rw (get-insert_same c ino f) h
 
 -- the file changed, and then the rest
-pub after : (numbers : ℕ) (c : Content) (ino : ℕ) (f : File) (change : File → File) (rest : List Change) → CanChangeAll numbers rest (map.insert (map.insert c ino f) ino (change f)) → CanChangeAll numbers rest (changed_at (map.get (map.insert c ino f) ino) ino change (map.insert c ino f))
+pub after : (numbers : ℕ) (c : Content) (ino : ℕ) (f : File) (change : File → File) (rest : List Change)
+    → CanChangeAll numbers rest (map.insert (map.insert c ino f) ino (change f))
+    → CanChangeAll numbers rest (changed_at (map.get (map.insert c ino f) ino) ino change (map.insert c ino f))
 after numbers c ino f change rest h = rw (get-insert_same c ino f) h
 
 -- file 4 with these bytes
@@ -37,12 +40,14 @@ abbrev pub with_first : Content → Attrs → List ℕ → Content
 with_first c a bytes = map.insert (map.insert c 4 (file_of a [])) 4 (first_file a bytes)
 
 -- file 4 made, bytes put into it, and then the rest
-pub made_and_put : (n : ℕ) (c : Content) (a : Attrs) (p : Bor (List ℕ)) → n ≡ 16 → c ≡ opening_content → a.kind ≡ Regular → length (splice [] 0 p.now) ≤ 8460288
+pub made_and_put : (n : ℕ) (c : Content) (a : Attrs) (p : Bor (List ℕ)) → n ≡ 16 → c ≡ opening_content → a.kind
+    ≡ Regular → length (splice [] 0 p.now) ≤ 8460288
     → (rest : List Change) → CanChangeAll n rest (with_first c a p.now) → CanChangeAll n (Make 4 a ∷ Put 4 0 p ∷ rest) c
 made_and_put n c a p is_n is_c is_a fits rest h = (
   (omega arith, omega arith, ap (λ m. map.get m 4) is_c ∙ free_at_opening 4 (omega arith)),
   (
-    at_file c 4 (file_of a []) (λ f. IsLength f.kind (length (splice f.bytes 0 p.now))) (subst (λ k. IsLength k (length (splice [] 0 p.now))) (sym is_a) fits),
+    at_file c 4 (file_of a []) (λ f. IsLength f.kind (length (splice f.bytes 0 p.now)))
+        (subst (λ k. IsLength k (length (splice [] 0 p.now))) (sym is_a) fits),
     after n c 4 (file_of a []) (with_bytes 0 p.now) rest h,
   ),
 )

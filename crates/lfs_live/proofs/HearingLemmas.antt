@@ -1,5 +1,6 @@
 -- What a line says.
-use Rattle.std.proofs.Common.{◌≡◌, ℕ, ◌<◌, ◌≤◌, true, false, List, [], ◌∷◌, length, map, get_or, Result, Ok, Err, refl, ap, subst, ◌∙◌, arith}
+use Rattle.std.proofs.Common.{◌≡◌, ℕ, ◌<◌, ◌≤◌, true, false, List, [], ◌∷◌, length, map, get_or, Result, Ok, Err, refl}
+use Rattle.std.proofs.Common.{ap, subst, ◌∙◌, arith}
 use Rattle.std.specs.Prelude.{◌-◌, codes, drop, nat_eq, take}
 use Rattle.std.proofs.Common.{length-drop}
 use Rattle.std.proofs.lemmas.List.{take_all}
@@ -10,7 +11,8 @@ use Rattle.lfs_words.specs.Faults.{ReadsAs}
 use Rattle.lfs_words.specs.Lines.{is_printable}
 use Rattle.lfs_words.specs.Wording.{words_of}
 use Rattle.lfs_words.specs.declared.fault.FaultKind.{FaultKind}
-use Rattle.lfs_live.specs.Hearing.{call_heard, dot_heard, dot_of, dot_said, dot_with, dotted_heard, heard_of, why_heard, is_dotted, lone_dot}
+use Rattle.lfs_live.specs.Hearing.{call_heard, dot_heard, dot_of, dot_said, dot_with, dotted_heard, heard_of, why_heard}
+use Rattle.lfs_live.specs.Hearing.{is_dotted, lone_dot}
 use Rattle.lfs_live.specs.declared.fault.LineFault.TheVariants.{TooLong}
 use Rattle.lfs_live.specs.declared.hearing.Dot.{Dot}
 use Rattle.lfs_live.specs.declared.hearing.Heard.TheVariants.{Fault}
@@ -20,10 +22,12 @@ reads-same (Ok dot) = refl
 reads-same (Err kind) = λ other. refl
 
 -- the words of a printable line were read
-pub dot_there : (line text : List ℕ) (words : List (List ℕ)) (result : Result Dot FaultKind) → is_printable line ≡ true → text ≡ line → words ≡ words_of text
+pub dot_there : (line text : List ℕ) (words : List (List ℕ)) (result : Result Dot FaultKind) → is_printable line ≡ true
+    → text ≡ line → words ≡ words_of text
     → result ≡ dot_of words → ReadsAs (dot_said line) result
 dot_there line text words result printable same split is =
-    rw printable (subst (λ (r : Result Dot FaultKind). ReadsAs r result) (is ∙ ap dot_of (split ∙ ap words_of same)) (reads-same result))
+    rw printable (subst (λ (r : Result Dot FaultKind). ReadsAs r result) (is ∙ ap dot_of (split ∙ ap words_of same))
+    (reads-same result))
 
 -- a line is too long
 pub heard_long : (line : List ℕ) → 65536 < length line → Fault TooLong ≡ heard_of line
@@ -36,7 +40,8 @@ unfolding heard_of
 heard_dot line few dotted = rw (le-ltb 65536 (length line) few, dotted) refl
 
 -- each other
-pub heard_call : (line : List ℕ) → length line ≤ 65536 → is_dotted line ≡ false → call_heard (line_said line) ≡ heard_of line
+pub heard_call : (line : List ℕ) → length line ≤ 65536 → is_dotted line ≡ false → call_heard (line_said line)
+    ≡ heard_of line
 unfolding heard_of
 heard_call line few dotted = rw (le-ltb 65536 (length line) few, dotted) refl
 
@@ -60,9 +65,11 @@ pub rest_of : (line : List ℕ) → take (length line - 5) (drop 5 line) ≡ dro
 rest_of line = take_all (length line - 5) (drop 5 line) (rw (length-drop 5 line) (omega arith))
 
 -- a line begins with `.why `
-pub heard_why : (line : List ℕ) → starts_with nat_eq line (codes ".why ") ≡ true → why_heard (line_said (drop 5 line)) ≡ dotted_heard line
+pub heard_why : (line : List ℕ) → starts_with nat_eq line (codes ".why ") ≡ true → why_heard (line_said (drop 5 line))
+    ≡ dotted_heard line
 heard_why line why = rw why refl
 
 -- or with another dot
-pub heard_lone : (line : List ℕ) → starts_with nat_eq line (codes ".why ") ≡ false → dot_heard (dot_said line) ≡ dotted_heard line
+pub heard_lone : (line : List ℕ) → starts_with nat_eq line (codes ".why ") ≡ false → dot_heard (dot_said line)
+    ≡ dotted_heard line
 heard_lone line other = rw other refl

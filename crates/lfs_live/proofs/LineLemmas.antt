@@ -1,5 +1,7 @@
 -- A line is read byte by byte, and of a long one the first 65,537 bytes say that it is long.
-use Rattle.std.proofs.Common.{◌≡◌, ◌≢◌, ℕ, zero, suc, ◌+◌, ◌<◌, ◌≤◌, min, Bool, true, false, List, [], ◌∷◌, ◌++◌, length, take, Option, refl, sym, ap, subst, ◌∙◌, arith, length-append, length-take, if◌then◌else◌}
+use Rattle.std.proofs.Common.{◌≡◌, ◌≢◌, ℕ, zero, suc, ◌+◌, ◌<◌, ◌≤◌, min, Bool, true, false, List, [], ◌∷◌, ◌++◌}
+use Rattle.std.proofs.Common.{length, take, Option, refl, sym, ap, subst, ◌∙◌, arith, length-append, length-take}
+use Rattle.std.proofs.Common.{if◌then◌else◌}
 use Rattle.std.specs.Io.KnownBytes.{Consumes, IsAtEnd, Keeps}
 use lib.Seq.{take-append_seam}
 use Rattle.std.proofs.KnownBytes.{Consumes-kept, Consumes-nil, Consumes-trans}
@@ -32,7 +34,8 @@ kept_few line kept is =
     let count : length kept ≡ min 65537 (length line) = ap length is ∙ length-take 65537 line in omega (arith, count)
 
 -- a byte more is kept, or none
-pub kept_more : (kept new : List ℕ) (byte : ℕ) → length kept ≤ 65536 → new ≡ kept ++ byte ∷ [] → new ≡ take 65537 (kept ++ byte ∷ [])
+pub kept_more : (kept new : List ℕ) (byte : ℕ) → length kept ≤ 65536 → new ≡ kept ++ byte ∷ [] → new
+    ≡ take 65537 (kept ++ byte ∷ [])
 kept_more kept new byte few is =
     let count : length (kept ++ byte ∷ []) ≡ length kept + 1 = length-append kept (byte ∷ []) in
     is ∙ sym (take_all 65537 (kept ++ byte ∷ []) (omega (arith, count, few)))
@@ -40,31 +43,41 @@ kept_more kept new byte few is =
 seam : (n : ℕ) (xs ys : List ℕ) → length xs ≡ n → xs ≡ take n (xs ++ ys)
 seam n xs ys count = subst (λ (m : ℕ). xs ≡ take m (xs ++ ys)) count (sym (take-append_seam xs ys))
 
-pub kept_full : (kept : List ℕ) (byte : ℕ) → 65536 < length kept → length kept ≤ 65537 → kept ≡ take 65537 (kept ++ byte ∷ [])
+pub kept_full : (kept : List ℕ) (byte : ℕ) → 65536 < length kept → length kept ≤ 65537 → kept
+    ≡ take 65537 (kept ++ byte ∷ [])
 kept_full kept byte many few = seam 65537 kept (byte ∷ []) (omega (arith, many, few))
 
 -- ---- what was read of a line
 
 pub part_none : (known : Option (List ℕ)) (kept : List ℕ) → kept ≡ [] → IsPart known known kept
-part_none known kept none = record { part = []; unended = All-nil (λ (b : ℕ). b ≢ 10); kept_of = none; taken = Consumes-nil known }
+part_none known kept none = record {
+  part = [];
+  unended = All-nil (λ (b : ℕ). b ≢ 10);
+  kept_of = none;
+  taken = Consumes-nil known;
+}
 
-pub part_more : (known left rest : Option (List ℕ)) (kept new : List ℕ) (byte : ℕ) → IsPart known left kept → Consumes left rest (byte ∷ []) → byte ≢ 10
+pub part_more : (known left rest : Option (List ℕ)) (kept new : List ℕ) (byte : ℕ) → IsPart known left kept
+    → Consumes left rest (byte ∷ []) → byte ≢ 10
     → new ≡ take 65537 (kept ++ byte ∷ []) → IsPart known rest new
 part_more known left rest kept new byte read next other grown = record {
   part = read.part ++ byte ∷ [];
   unended = All-push (λ (b : ℕ). b ≢ 10) read.part byte read.unended other;
-  kept_of = grown ∙ ap (λ (l : List ℕ). take 65537 (l ++ byte ∷ [])) read.kept_of ∙ take-again 65537 read.part (byte ∷ []);
+  kept_of = grown ∙ ap (λ (l : List ℕ). take 65537 (l ++ byte ∷ [])) read.kept_of
+      ∙ take-again 65537 read.part (byte ∷ []);
   taken = Consumes-trans known left rest read.part (byte ∷ []) read.taken next;
 }
 
-pub part_unkept : (known left rest : Option (List ℕ)) (kept : List ℕ) (byte : ℕ) → IsPart known left kept → Consumes left rest (byte ∷ []) → byte ≢ 10 → IsUnended known rest
+pub part_unkept : (known left rest : Option (List ℕ)) (kept : List ℕ) (byte : ℕ) → IsPart known left kept
+    → Consumes left rest (byte ∷ []) → byte ≢ 10 → IsUnended known rest
 part_unkept known left rest kept byte read next other = record {
   part = read.part ++ byte ∷ [];
   unended = All-push (λ (b : ℕ). b ≢ 10) read.part byte read.unended other;
   taken = Consumes-trans known left rest read.part (byte ∷ []) read.taken next;
 }
 
-pub part_failed : (known left rest : Option (List ℕ)) (kept : List ℕ) → IsPart known left kept → Keeps left rest → IsUnended known rest
+pub part_failed : (known left rest : Option (List ℕ)) (kept : List ℕ) → IsPart known left kept → Keeps left rest
+    → IsUnended known rest
 part_failed known left rest kept read same = record {
   part = read.part;
   unended = read.unended;
@@ -74,16 +87,19 @@ part_failed known left rest kept read same = record {
 pub part_enough : (known left : Option (List ℕ)) (kept : List ℕ) → IsPart known left kept → IsUnended known left
 part_enough known left kept read = record { part = read.part; unended = read.unended; taken = read.taken }
 
-pub part_ended : (known left rest : Option (List ℕ)) (kept : List ℕ) (byte : ℕ) → IsPart known left kept → Consumes left rest (byte ∷ []) → byte ≡ 10 → IsPiece known rest true kept
+pub part_ended : (known left rest : Option (List ℕ)) (kept : List ℕ) (byte : ℕ) → IsPart known left kept
+    → Consumes left rest (byte ∷ []) → byte ≡ 10 → IsPiece known rest true kept
 part_ended known left rest kept byte read next feed = record {
   line = read.part;
   unended = read.unended;
   kept_of = read.kept_of;
-  ended = λ _. Consumes-trans known left rest read.part (10 ∷ []) read.taken (subst (λ (b : ℕ). Consumes left rest (b ∷ [])) feed next);
+  ended = λ _. Consumes-trans known left rest read.part (10 ∷ []) read.taken
+      (subst (λ (b : ℕ). Consumes left rest (b ∷ [])) feed next);
   last = λ no. absurd (cc);
 }
 
-pub part_last : (known left rest : Option (List ℕ)) (kept : List ℕ) → IsPart known left kept → Keeps left rest → IsAtEnd rest → IsPiece known rest false kept
+pub part_last : (known left rest : Option (List ℕ)) (kept : List ℕ) → IsPart known left kept → Keeps left rest
+    → IsAtEnd rest → IsPiece known rest false kept
 part_last known left rest kept read same end = record {
   line = read.part;
   unended = read.unended;
@@ -98,9 +114,13 @@ part_last known left rest kept read same end = record {
 long_kept : (line kept : List ℕ) → kept ≡ take 65537 line → is_long kept ≡ is_long line
 long_kept line kept is =
     let count : length kept ≡ min 65537 (length line) = ap length is ∙ length-take 65537 line in
-    ltb_from_iff (λ yes. let more = ltb-true 65536 (length kept) yes in omega (arith, more, count), λ more. lt-ltb 65536 (length kept) (omega (arith, more, count)))
+    ltb_from_iff (
+      λ yes. let more = ltb-true 65536 (length kept) yes in omega (arith, more, count),
+      λ more. lt-ltb 65536 (length kept) (omega (arith, more, count)),
+    )
 
-same_by : (line kept : List ℕ) (long : Bool) → is_long line ≡ long → kept ≡ take 65537 line → heard_of kept ≡ heard_of line
+same_by : (line kept : List ℕ) (long : Bool) → is_long line ≡ long → kept ≡ take 65537 line → heard_of kept
+    ≡ heard_of line
 unfolding heard_of
 same_by line kept true e is = rw (long_kept line kept is, e) refl
 same_by line kept false e is =
@@ -115,4 +135,5 @@ heard_kept line kept is = same_by line kept (is_long line) refl is
 pub cut_kept : (line kept : List ℕ) → kept ≡ take 65537 line → cut_text kept ≡ cut_text line
 cut_kept [] kept is = ap cut_text is
 cut_kept (c ∷ cs) kept is =
-    ap cut_text is ∙ ap (λ (long : Bool). fault_line (if long then TooLong else Kind Cut)) (long_kept (c ∷ cs) (take 65537 (c ∷ cs)) refl)
+    ap cut_text is ∙ ap (λ (long : Bool). fault_line (if long then TooLong else Kind Cut))
+    (long_kept (c ∷ cs) (take 65537 (c ∷ cs)) refl)

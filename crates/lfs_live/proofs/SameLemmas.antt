@@ -1,5 +1,7 @@
 -- A talk whose lines are a script does what a run of the script does.
-use Rattle.std.proofs.Common.{◌≡◌, ℕ, ◌+◌, ◌≤◌, Bool, true, false, cond, List, [], ◌∷◌, ◌++◌, length, Option, None, Some, Result, Ok, Err, inl, inr, refl, sym, ap, subst, ◌∙◌, arith, append_assoc, append-nil}
+use Rattle.std.proofs.Common.{◌≡◌, ℕ, ◌+◌, ◌≤◌, Bool, true, false, cond, List, [], ◌∷◌, ◌++◌, length, Option, None}
+use Rattle.std.proofs.Common.{Some, Result, Ok, Err, inl, inr, refl, sym, ap, subst, ◌∙◌, arith, append_assoc}
+use Rattle.std.proofs.Common.{append-nil}
 use Rattle.std.specs.Io.KnownBytes.{Appends}
 use Rattle.std.specs.List.{All, list_any, onto_first}
 use Rattle.std.proofs.KnownBytes.{Appends-trans}
@@ -15,7 +17,8 @@ use Rattle.lfs_words.specs.Wording.{is_bare, words_of}
 use Rattle.lfs_words.specs.declared.fault.FaultKind.{FaultKind}
 use Rattle.lfs_words.specs.declared.fault.FaultKind.TheVariants.{Bytes, Words}
 use Rattle.lfs_script.specs.PlanTypes.{Drafted, Planned}
-use Rattle.lfs_script.specs.Plans.{added, at_line, first_draft, line_said, lines_of, plan_from, plan_of, planned, text_said, words_said}
+use Rattle.lfs_script.specs.Plans.{added, at_line, first_draft, line_said, lines_of, plan_from, plan_of, planned}
+use Rattle.lfs_script.specs.Plans.{text_said, words_said}
 use Rattle.lfs_script.specs.Verbs.{verb_of}
 use Rattle.lfs_script.specs.declared.fault.ScriptFault.{ScriptFault}
 use Rattle.lfs_script.specs.declared.plan.Line.{Line}
@@ -58,7 +61,8 @@ dot-text false said e = e
 not-ok : {A E : Type 0} (a : A) (e : E) → Err e ≡ Ok a → ⊥
 not-ok a e eq = absurd (cc)
 
-dot-line : (printable : Bool) (text : Result Line FaultKind) (said : Line) → text ≡ Err Words → cond printable text (Err Bytes) ≡ Ok said → ⊥
+dot-line : (printable : Bool) (text : Result Line FaultKind) (said : Line) → text ≡ Err Words
+    → cond printable text (Err Bytes) ≡ Ok said → ⊥
 dot-line true text said refused ok = not-ok said Words (sym refused ∙ ok)
 dot-line false text said refused ok = not-ok said Bytes ok
 
@@ -71,19 +75,22 @@ dotted (c ∷ cs) said dot ok =
     (dot-text (list_any is_bare (words_of (46 ∷ cs))) (words_said (words_of (46 ∷ cs))) (dot-words (words_of cs)))
     (subst (λ (n : ℕ). line_said (n ∷ cs) ≡ Ok said) is ok)
 
-undotted : (line : List ℕ) (said : Line) (dot : Bool) → is_dotted line ≡ dot → line_said line ≡ Ok said → is_dotted line ≡ false
+undotted : (line : List ℕ) (said : Line) (dot : Bool) → is_dotted line ≡ dot → line_said line ≡ Ok said → is_dotted line
+    ≡ false
 undotted line said true e ok = absurd (dotted line said e ok)
 undotted line said false e ok = e
 
 -- what a line of a script says that is not too long
-heard-said : (line : List ℕ) (said : Line) → length line ≤ 65536 → line_said line ≡ Ok said → heard_of line ≡ heard.Line said
+heard-said : (line : List ℕ) (said : Line) → length line ≤ 65536 → line_said line ≡ Ok said → heard_of line
+    ≡ heard.Line said
 unfolding heard_of
 heard-said line said few ok = rw (le-ltb 65536 (length line) few, undotted line said (is_dotted line) refl ok, ok) refl
 
 -- ---- a line follows a draft
 
 -- a volume became this one by what the lines ask for that a draft grew by, and this is told of them
-record Followed {F : Type 0} (r : Cleaner F) (old new : Seen F) (draft after : Drafted) (then : Speaker) (told : List ℕ) : Type 0 where
+record Followed {F : Type 0} (r : Cleaner F) (old new : Seen F) (draft after : Drafted) (then : Speaker)
+    (told : List ℕ) : Type 0 where
   steps : List Step
   made : List Made
   answers : List StepAnswer
@@ -94,8 +101,10 @@ record Followed {F : Type 0} (r : Cleaner F) (old new : Seen F) (draft after : D
   session : after.session ≡ then.session
   cred : after.cred ≡ then.cred
 
-asked-joined : (steps : List Step) (made : List Made) (answers : List StepAnswer) (more : List Step) (others : List Made) (given : List StepAnswer)
-    → AreAsked steps made answers → AreAsked more others given → AreAsked (steps ++ more) (made ++ others) (answers ++ given)
+asked-joined : (steps : List Step) (made : List Made) (answers : List StepAnswer) (more : List Step)
+    (others : List Made) (given : List StepAnswer)
+    → AreAsked steps made answers → AreAsked more others given
+    → AreAsked (steps ++ more) (made ++ others) (answers ++ given)
 asked-joined [] made answers more others given are then =
     subst (λ (m : List Made). AreAsked more (m ++ others) (answers ++ given)) (sym are.0)
     (subst (λ (a : List StepAnswer). AreAsked more others (a ++ given)) (sym are.1) then)
@@ -110,24 +119,30 @@ asked-joined (s ∷ steps) made answers more others given are then = (
   asked-joined steps are.1 are.3 more others given are.7 then,
 )
 
-followed-joined : {F : Type 0} (r : Cleaner F) (old middle new : Seen F) (draft after last : Drafted) (speaker then : Speaker) (first rest told : List ℕ)
-    → told ≡ first ++ rest → Followed r old middle draft after speaker first → Followed r middle new after last then rest → Followed r old new draft last then told
+followed-joined : {F : Type 0} (r : Cleaner F) (old middle new : Seen F) (draft after last : Drafted) (speaker
+    then : Speaker) (first rest told : List ℕ)
+    → told ≡ first ++ rest → Followed r old middle draft after speaker first → Followed r middle new after last
+    then rest → Followed r old new draft last then told
 followed-joined r old middle new draft after last speaker then first rest told whole before behind = record {
   steps = before.steps ++ behind.steps;
   made = before.made ++ behind.made;
   answers = before.answers ++ behind.answers;
-  asked = asked-joined before.steps before.made before.answers behind.steps behind.made behind.answers before.asked behind.asked;
+  asked = asked-joined before.steps before.made before.answers behind.steps behind.made behind.answers before.asked
+      behind.asked;
   ran = runs_joined r old middle new before.made before.answers behind.made behind.answers before.ran behind.ran;
-  printed = whole ∙ ap (λ (l : List ℕ). l ++ rest) before.printed ∙ ap (λ (l : List ℕ). lines_text before.made before.answers ++ l) behind.printed
+  printed = whole ∙ ap (λ (l : List ℕ). l ++ rest) before.printed
+      ∙ ap (λ (l : List ℕ). lines_text before.made before.answers ++ l) behind.printed
       ∙ sym (lines_of_runs r old middle before.made before.answers behind.made behind.answers before.ran);
-  grown = behind.grown ∙ ap (λ (l : List Step). l ++ behind.steps) before.grown ∙ append_assoc draft.steps before.steps behind.steps;
+  grown = behind.grown ∙ ap (λ (l : List Step). l ++ behind.steps) before.grown
+      ∙ append_assoc draft.steps before.steps behind.steps;
   session = behind.session;
   cred = behind.cred;
 }
 
 -- nothing is asked for
 followed-none : {F : Type 0} (r : Cleaner F) (old new : Seen F) (draft after : Drafted) (then : Speaker) (told : List ℕ)
-    → new ≡ old → after.steps ≡ draft.steps → after.session ≡ then.session → after.cred ≡ then.cred → told ≡ [] → Followed r old new draft after then told
+    → new ≡ old → after.steps ≡ draft.steps → after.session ≡ then.session → after.cred ≡ then.cred → told ≡ []
+    → Followed r old new draft after then told
 followed-none {F} r old new draft after then told same steps session cred nothing = record {
   steps = [];
   made = [];
@@ -140,14 +155,21 @@ followed-none {F} r old new draft after then told same steps session cred nothin
   cred = cred;
 }
 
-followed-line : {F : Type 0} (r : Cleaner F) (old new : Seen F) (draft : Drafted) (speaker then : Speaker) (said : Line) (told : List ℕ)
-    → draft.session ≡ speaker.session → draft.cred ≡ speaker.cred → Does r old speaker said told new then → Followed r old new draft (added draft said) then told
+followed-line : {F : Type 0} (r : Cleaner F) (old new : Seen F) (draft : Drafted) (speaker
+    then : Speaker) (said : Line) (told : List ℕ)
+    → draft.session ≡ speaker.session → draft.cred ≡ speaker.cred → Does r old speaker said told new
+    then → Followed r old new draft (added draft said) then told
 followed-line r old new draft speaker then says.Nothing told session cred does =
-    followed-none r old new draft draft then told does.0 refl (session ∙ ap (λ (s : Speaker). s.session) (sym does.1)) (cred ∙ ap (λ (s : Speaker). s.cred) (sym does.1)) does.2
+    followed-none r old new draft draft then told does.0 refl (session ∙ ap (λ (s : Speaker). s.session) (sym does.1))
+    (cred ∙ ap (λ (s : Speaker). s.cred) (sym does.1)) does.2
 followed-line r old new draft speaker then (says.Session number) told session cred does =
-    followed-none r old new draft (added draft (says.Session number)) then told does.0 refl (ap (λ (s : Speaker). s.session) (sym does.1)) (cred ∙ ap (λ (s : Speaker). s.cred) (sym does.1)) does.2
+    followed-none r old new draft (added draft (says.Session number))
+    then told does.0 refl (ap (λ (s : Speaker). s.session) (sym does.1)) (cred
+    ∙ ap (λ (s : Speaker). s.cred) (sym does.1)) does.2
 followed-line r old new draft speaker then (says.Caller caller) told session cred does =
-    followed-none r old new draft (added draft (says.Caller caller)) then told does.0 refl (session ∙ ap (λ (s : Speaker). s.session) (sym does.1)) (ap (λ (s : Speaker). s.cred) (sym does.1)) does.2
+    followed-none r old new draft (added draft (says.Caller caller))
+    then told does.0 refl (session ∙ ap (λ (s : Speaker). s.session) (sym does.1))
+    (ap (λ (s : Speaker). s.cred) (sym does.1)) does.2
 followed-line r old new draft speaker then (says.Act act) told session cred does =
     let tells = does.0 in
     record {
@@ -174,12 +196,14 @@ followed-line r old new draft speaker then (says.Act act) told session cred does
 -- ---- the lines of a script
 
 -- what a line says that is no fault
-said-there : (n : ℕ) (result : Result Line FaultKind) (next : Line → Result Planned ScriptFault) (plan : Planned) → at_line n result next ≡ Ok plan
+said-there : (n : ℕ) (result : Result Line FaultKind) (next : Line → Result Planned ScriptFault) (plan : Planned)
+    → at_line n result next ≡ Ok plan
     → (said : Line) × (result ≡ Ok said) × (next said ≡ Ok plan)
 said-there n (Ok said) next plan ok = (said, refl, ok)
 said-there n (Err kind) next plan ok = absurd (cc)
 
-first-of : (line : List ℕ) (lines : List (List ℕ)) (rest : List ℕ) → HasNoLineFeed line → IsFirstLine (ended (line ∷ lines) ++ rest) line (ended lines ++ rest)
+first-of : (line : List ℕ) (lines : List (List ℕ)) (rest : List ℕ) → HasNoLineFeed line
+    → IsFirstLine (ended (line ∷ lines) ++ rest) line (ended lines ++ rest)
 first-of line lines rest unended = record {
   whole = append_assoc (ended_line line) (ended lines) rest ∙ append_assoc line (10 ∷ []) (ended lines ++ rest);
   first = unended;
@@ -189,21 +213,25 @@ abbrev IsShort : List ℕ → Type 0
 IsShort line = length line ≤ 65536
 
 -- the plan of a script goes on behind the lines that were heard
-record Goes {F : Type 0} (r : Cleaner F) (old new : Seen F) (draft : Drafted) (then : Speaker) (told rest : List ℕ) (plan : Planned) : Type 0 where
+record Goes {F : Type 0} (r : Cleaner F) (old new : Seen F) (draft : Drafted) (then : Speaker) (told rest : List ℕ)
+    (plan : Planned) : Type 0 where
   number : ℕ
   after : Drafted
   followed : Followed r old new draft after then told
   short : All IsShort (lines_of rest)
   goes_on : plan_from number after (lines_of rest) ≡ Ok plan
 
-script-heard : {F : Type 0} (t : Talker F) (old new : Seen F) (speaker then : Speaker) (lines : List (List ℕ)) (told rest : List ℕ) (n : ℕ) (draft : Drafted) (plan : Planned)
+script-heard : {F : Type 0} (t : Talker F) (old new : Seen F) (speaker
+    then : Speaker) (lines : List (List ℕ)) (told rest : List ℕ) (n : ℕ) (draft : Drafted) (plan : Planned)
     → HearsAll t old speaker lines told new then → draft.session ≡ speaker.session → draft.cred ≡ speaker.cred
     → All IsShort (lines_of (ended lines ++ rest)) → plan_from n draft (lines_of (ended lines ++ rest)) ≡ Ok plan
     → Goes t.cleaner old new draft then told rest plan
 script-heard t old new speaker then [] told rest n draft plan hears session cred short ok = record {
   number = n;
   after = draft;
-  followed = followed-none t.cleaner old new draft draft then told hears.0 refl (session ∙ ap (λ (s : Speaker). s.session) (sym hears.1)) (cred ∙ ap (λ (s : Speaker). s.cred) (sym hears.1)) hears.2;
+  followed = followed-none t.cleaner old new draft draft
+      then told hears.0 refl (session ∙ ap (λ (s : Speaker). s.session) (sym hears.1)) (cred
+      ∙ ap (λ (s : Speaker). s.cred) (sym hears.1)) hears.2;
   short = short;
   goes_on = ok;
 }
@@ -212,15 +240,21 @@ script-heard {F} t old new speaker then (line ∷ lines) told rest n draft plan 
     let behind = ended lines ++ rest in
     let cut = first-of line lines rest hears.5 in
     let shorts : All IsShort (line ∷ lines_of behind) = subst (All IsShort) (lines_first text line behind cut) short in
-    let read = said-there n (line_said line) (λ (s : Line). plan_from (n + 1) (added draft s) (lines_of behind)) plan (sym (plan_step n draft text line behind cut) ∙ ok) in
-    let says : heard_of line ≡ heard.Line read.0 = heard-said line read.0 (All-head IsShort line (lines_of behind) shorts) read.1 in
-    let does : Does t.cleaner old speaker read.0 hears.0 hears.2 hears.3 = subst (λ (h : Heard). Hears t old speaker h hears.0 hears.2 hears.3) says hears.6 in
+    let read = said-there n (line_said line) (λ (s : Line). plan_from (n + 1) (added draft s) (lines_of behind)) plan
+    (sym (plan_step n draft text line behind cut) ∙ ok) in
+    let says : heard_of line ≡ heard.Line read.0 =
+    heard-said line read.0 (All-head IsShort line (lines_of behind) shorts) read.1 in
+    let does : Does t.cleaner old speaker read.0 hears.0 hears.2 hears.3 =
+    subst (λ (h : Heard). Hears t old speaker h hears.0 hears.2 hears.3) says hears.6 in
     let followed = followed-line t.cleaner old hears.2 draft speaker hears.3 read.0 hears.0 session cred does in
-    let more = script-heard t hears.2 new hears.3 then lines hears.1 rest (n + 1) (added draft read.0) plan hears.7 followed.session followed.cred (All-tail IsShort line (lines_of behind) shorts) read.2 in
+    let more = script-heard t hears.2 new hears.3
+    then lines hears.1 rest (n + 1) (added draft read.0) plan hears.7 followed.session followed.cred
+    (All-tail IsShort line (lines_of behind) shorts) read.2 in
     record {
       number = more.number;
       after = more.after;
-      followed = followed-joined t.cleaner old hears.2 new draft (added draft read.0) more.after hears.3 then hears.0 hears.1 told hears.4 followed more.followed;
+      followed = followed-joined t.cleaner old hears.2 new draft (added draft read.0) more.after hears.3
+          then hears.0 hears.1 told hears.4 followed more.followed;
       short = more.short;
       goes_on = more.goes_on;
     }
@@ -230,11 +264,13 @@ script-heard {F} t old new speaker then (line ∷ lines) told rest n draft plan 
 line-is-quit : (said : Line) (P : Type 0) → heard.Line said ≡ heard.Dot Quit → P
 line-is-quit said P e = absurd (cc)
 
-ok-same : (after : Drafted) (plan : Planned) (result : Result Planned ScriptFault) → result ≡ Ok (planned after) → result ≡ Ok plan → planned after ≡ plan
+ok-same : (after : Drafted) (plan : Planned) (result : Result Planned ScriptFault) → result ≡ Ok (planned after)
+    → result ≡ Ok plan → planned after ≡ plan
 ok-same after plan result first then = cc
 
 -- of a script's last bytes nothing is told, and its plan ends there
-script-ends : (number : ℕ) (after : Drafted) (plan : Planned) (last told behind : List ℕ) → IsLast last told (Some behind) → All IsShort (lines_of (last ++ behind))
+script-ends : (number : ℕ) (after : Drafted) (plan : Planned) (last told behind : List ℕ)
+    → IsLast last told (Some behind) → All IsShort (lines_of (last ++ behind))
     → plan_from number after (lines_of (last ++ behind)) ≡ Ok plan → (told ≡ []) × (planned after ≡ plan)
 script-ends number after plan last told behind (inl quits) short ok =
     let line = quits.0 in
@@ -244,39 +280,54 @@ script-ends number after plan last told behind (inl quits) short ok =
       first = quits.1;
     } in
     let shorts : All IsShort (line ∷ lines_of behind) = subst (All IsShort) (lines_first text line behind cut) short in
-    let read = said-there number (line_said line) (λ (s : Line). plan_from (number + 1) (added after s) (lines_of behind)) plan (sym (plan_step number after text line behind cut) ∙ ok) in
-    line-is-quit read.0 _ (sym (heard-said line read.0 (All-head IsShort line (lines_of behind) shorts) read.1) ∙ quits.2)
-script-ends number after plan [] told behind (inr ends) short ok =
-    (ends.2, ok-same after plan (plan_from number after (lines_of [])) (plan_end number after) (subst (λ (l : List ℕ). plan_from number after (lines_of l) ≡ Ok plan) ends.1 ok))
+    let read = said-there number (line_said line)
+    (λ (s : Line). plan_from (number + 1) (added after s) (lines_of behind)) plan
+    (sym (plan_step number after text line behind cut) ∙ ok) in
+    line-is-quit read.0 _ (sym (heard-said line read.0 (All-head IsShort line (lines_of behind) shorts) read.1)
+    ∙ quits.2)
+script-ends number after plan [] told behind (inr ends) short ok = (
+  ends.2,
+  ok-same after plan (plan_from number after (lines_of [])) (plan_end number after)
+      (subst (λ (l : List ℕ). plan_from number after (lines_of l) ≡ Ok plan) ends.1 ok),
+)
 script-ends number after plan (c ∷ cs) told behind (inr ends) short ok =
     let whole : (c ∷ cs) ++ behind ≡ c ∷ cs = ap (λ (l : List ℕ). (c ∷ cs) ++ l) ends.1 ∙ append-nil (c ∷ cs) in
-    absurd (not-ok plan _ (sym (plan_cut number after (c ∷ cs) ends.0 (omega arith)) ∙ subst (λ (l : List ℕ). plan_from number after (lines_of l) ≡ Ok plan) whole ok))
+    absurd (not-ok plan _ (sym (plan_cut number after (c ∷ cs) ends.0 (omega arith))
+    ∙ subst (λ (l : List ℕ). plan_from number after (lines_of l) ≡ Ok plan) whole ok))
 
 -- ---- the whole
 
 -- nothing is told of the last bytes
-told-whole : (told told_last lines report all : List ℕ) → told_last ≡ [] → told ≡ lines → report ≡ all → (told ++ told_last) ++ report ≡ lines ++ all
+told-whole : (told told_last lines report all : List ℕ) → told_last ≡ [] → told ≡ lines → report ≡ all
+    → (told ++ told_last) ++ report ≡ lines ++ all
 told-whole told told_last lines report all none is same =
-    ap (λ (l : List ℕ). (told ++ l) ++ report) none ∙ ap (λ (l : List ℕ). l ++ report) (append-nil told) ∙ ap (λ (l : List ℕ). l ++ report) is ∙ ap (λ (l : List ℕ). lines ++ l) same
+    ap (λ (l : List ℕ). (told ++ l) ++ report) none ∙ ap (λ (l : List ℕ). l ++ report) (append-nil told)
+    ∙ ap (λ (l : List ℕ). l ++ report) is ∙ ap (λ (l : List ℕ). lines ++ l) same
 
 script-written : (old new : Seen Parts) (script behind : List ℕ) (start out : Option (List ℕ)) (plan : Planned)
-    → old.journal ≡ [] → plan_of script ≡ Ok plan → All IsShort (lines_of script) → IsTalk log_talker old new (Some script) (Some behind) start out
-    → (text : List ℕ) × IsOutput log_cleaner (Begins (state_of old.since) old.since_level) script old.limit old.store text × Appends start out text
+    → old.journal ≡ [] → plan_of script ≡ Ok plan → All IsShort (lines_of script)
+    → IsTalk log_talker old new (Some script) (Some behind) start out
+    → (text : List ℕ) × IsOutput log_cleaner
+    (Begins (state_of old.since) old.since_level) script old.limit old.store text × Appends start out text
 script-written old new script behind start out plan empty parsed short talk =
     let all = talk.heard in
     let rest = all.last ++ behind in
     let whole : script ≡ ended all.lines ++ rest = all.taken ∙ append_assoc (ended all.lines) all.last behind in
-    let goes = script-heard log_talker old new first_speaker all.then all.lines all.told rest 1 first_draft plan all.heard refl refl
-    (subst (λ (s : List ℕ). All IsShort (lines_of s)) whole short) (subst (λ (s : List ℕ). plan_from 1 first_draft (lines_of s) ≡ Ok plan) whole parsed) in
+    let goes = script-heard log_talker old new first_speaker all.then all.lines all.told rest 1 first_draft plan
+    all.heard refl refl
+    (subst (λ (s : List ℕ). All IsShort (lines_of s)) whole short)
+    (subst (λ (s : List ℕ). plan_from 1 first_draft (lines_of s) ≡ Ok plan) whole parsed) in
     let fin = script-ends goes.number goes.after plan all.last all.told_last behind all.ends goes.short goes.goes_on in
     let ran = goes.followed.ran in
     let made = goes.followed.made in
     let answers = goes.followed.answers in
     let steps : goes.followed.steps ≡ plan.steps = sym goes.followed.grown ∙ ap (λ (p : Planned). p.steps) fin.1 in
-    let entries : new.journal ≡ kept_steps made answers = ran.entered ∙ ap (λ (j : List Entry). j ++ kept_steps made answers) empty in
+    let entries : new.journal ≡ kept_steps made answers = ran.entered
+    ∙ ap (λ (j : List Entry). j ++ kept_steps made answers) empty in
     let text = lines_text made answers ++ report_text (kept_steps made answers) in
     let written : Appends start out ((all.told ++ all.told_last) ++ report_text new.journal) =
-    Appends-trans start talk.before out (all.told ++ all.told_last) (report_text new.journal) all.printed talk.reported in (
+    Appends-trans start talk.before out (all.told ++ all.told_last) (report_text new.journal) all.printed talk.reported
+    in (
       text,
       record {
         plan = plan;
@@ -292,11 +343,13 @@ script-written old new script behind start out plan empty parsed short talk =
         };
       },
       subst (λ (l : List ℕ). Appends start out l)
-          (told-whole all.told all.told_last (lines_text made answers) (report_text new.journal) (report_text (kept_steps made answers)) fin.0 goes.followed.printed (ap report_text entries))
+          (told-whole all.told all.told_last (lines_text made answers) (report_text new.journal)
+          (report_text (kept_steps made answers)) fin.0 goes.followed.printed (ap report_text entries))
           written,
     )
 
 -- the lines of a script that is all that a reader has
 pub script_law : WritesAsScript
 script_law old new script None start out plan empty parsed short talk = absurd talk.heard.taken
-script_law old new script (Some behind) start out plan empty parsed short talk = script-written old new script behind start out plan empty parsed short talk
+script_law old new script (Some behind) start out plan empty parsed short talk =
+    script-written old new script behind start out plan empty parsed short talk

@@ -3,7 +3,8 @@ use Rattle.std.proofs.Common.{Result, Ok, Err}
 use Rattle.std.specs.Prelude.{IfOk}
 
 -- what holds of a result from each of some worlds, holds from each of them of a result that is Ok
-pub if_ok_at : {A E W : Type 0} (result : Result A E) (P : W → Type 0) (Q : W → A → Type 0) → ((w : W) → P w → IfOk result (Q w))
+pub if_ok_at : {A E W : Type 0} (result : Result A E) (P : W → Type 0) (Q : W → A → Type 0)
+    → ((w : W) → P w → IfOk result (Q w))
     → IfOk result (λ a. (w : W) → P w → Q w a)
 if_ok_at (Ok a) P Q holds = holds
 if_ok_at (Err e) P Q holds = tt

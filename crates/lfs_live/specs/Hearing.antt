@@ -1,5 +1,6 @@
 -- What a line says.
-use Rattle.std.specs.Prelude.{ℕ, ◌==◌, Bool, false, nat_eq, nat_lt, List, [], ◌∷◌, drop, length, codes, find, Option, None, Some, Result, Ok, Err, if◌then◌else◌}
+use Rattle.std.specs.Prelude.{ℕ, ◌==◌, Bool, false, nat_eq, nat_lt, List, [], ◌∷◌, drop, length, codes, find, Option}
+use Rattle.std.specs.Prelude.{None, Some, Result, Ok, Err, if◌then◌else◌}
 use Rattle.std.specs.List.{starts_with}
 use Rattle.std.specs.Str.{bytes_eq}
 use Rattle.lfs_script.specs.Plans.{line_said}

@@ -51,11 +51,13 @@ abbrev pub IsLogFault : ℕ → ℕ → ℕ → RunFault → Type 0
 IsLogFault segments inodes frames (Format fault) = IsFormatFault segments inodes frames fault
 IsLogFault segments inodes frames fault = IsTalkFault fault
 
--- What a talk writes whose lines are a script without a fault, in which no line has more than 65,536 bytes, a run of that
+-- What a talk writes whose lines are a script without a fault, in which no line has more than 65,536 bytes, a run of
+-- that
 -- script writes, from wherever the journal began.
 abbrev pub WritesAsScript : Type 0
 WritesAsScript =
     (old new : Seen Parts) (script : List ℕ) (left start out : Option (List ℕ)) (plan : Planned)
     → old.journal ≡ [] → plan_of script ≡ Ok plan → All (λ line. length line ≤ 65536) (lines_of script)
     → IsTalk log_talker old new (Some script) left start out
-    → (text : List ℕ) × IsOutput log_cleaner (Begins (state_of old.since) old.since_level) script old.limit old.store text × Appends start out text
+    → (text : List ℕ) × IsOutput log_cleaner
+    (Begins (state_of old.since) old.since_level) script old.limit old.store text × Appends start out text

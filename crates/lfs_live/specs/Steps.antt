@@ -11,13 +11,15 @@ use Rattle.lfs_live.specs.declared.hearing.Heard.{Heard}
 use Rattle.lfs_live.specs.declared.telling.Speaker.{Speaker}
 
 -- what a line says was done, and what is told of it is written
-pub record IsTold {F : Type 0} (r : Talker F) (old new : Seen F) (speaker then : Speaker) (said : Heard) (start out : Option (List ℕ)) : Type 0 where
+pub record IsTold {F : Type 0} (r : Talker F) (old new : Seen F) (speaker
+    then : Speaker) (said : Heard) (start out : Option (List ℕ)) : Type 0 where
   pub told : List ℕ
   pub heard : Hears r old speaker said told new then
   pub printed : Appends start out told
 
 -- a line and its line feed were read, it was done, and what is told of it is written
-pub record HearsNext {F : Type 0} (r : Talker F) (old new : Seen F) (speaker then : Speaker) (known left start out : Option (List ℕ)) : Type 0 where
+pub record HearsNext {F : Type 0} (r : Talker F) (old new : Seen F) (speaker
+    then : Speaker) (known left start out : Option (List ℕ)) : Type 0 where
   pub line : List ℕ
   pub told : List ℕ
   pub unended : HasNoLineFeed line

@@ -43,7 +43,8 @@ pub record LooksOn {F : Type 0} (before after : StoreState) (old new : Seen F) :
   pub since : new.since ≡ old.since
   pub since_level : new.since_level ≡ old.since_level
 
--- the same of each line: a call that is explained is not made, and a word of the server's own and a fault change nothing
+-- the same of each line: a call that is explained is not made, and a word of the server's own and a fault change
+-- nothing
 abbrev pub Hears : {F : Type 0} → Talker F → Seen F → Speaker → Heard → List ℕ → Seen F → Speaker → Type 0
 Hears r old speaker (heard.Line line) told new then = Does r.cleaner old speaker line told new then
 Hears r old speaker (heard.Why request) told new then =
@@ -66,7 +67,8 @@ abbrev pub ended : List (List ℕ) → List ℕ
 ended lines = flat_map ended_line lines
 
 -- Lines were read, and what is told of them is written; and a part of a line was read, of which nothing is told.
-pub record HasHeardSoFar {F : Type 0} (r : Talker F) (old new : Seen F) (known left start out : Option (List ℕ)) : Type 0 where
+pub record HasHeardSoFar {F : Type 0} (r : Talker F) (old new : Seen F)
+    (known left start out : Option (List ℕ)) : Type 0 where
   pub then : Speaker
   pub lines : List (List ℕ)
   pub part : List ℕ
@@ -84,7 +86,8 @@ IsLast last told left =
 
 -- Lines were read up to one that quits, or to the end of the input, and what is told of each is written, in order, and
 -- nothing else.
-pub record HasHeardAll {F : Type 0} (r : Talker F) (old new : Seen F) (known left start out : Option (List ℕ)) : Type 0 where
+pub record HasHeardAll {F : Type 0} (r : Talker F) (old new : Seen F)
+    (known left start out : Option (List ℕ)) : Type 0 where
   pub then : Speaker
   pub lines : List (List ℕ)
   pub last : List ℕ
@@ -100,5 +103,6 @@ pub record IsTalk {F : Type 0} (r : Talker F) (old new : Seen F) (known left sta
   pub before : Option (List ℕ)
   pub heard : HasHeardAll r old new known left start before
   pub legal : Since (r.cleaner.state new.since) new.since_level
-      (λ from. IsLegal (r.cleaner.state new.store).shape.numbers (r.cleaner.state new.store).shape.segments new.journal from)
+      (λ from. IsLegal (r.cleaner.state new.store).shape.numbers
+      (r.cleaner.state new.store).shape.segments new.journal from)
   pub reported : Appends before out (report_text new.journal)

@@ -2,7 +2,8 @@
 use Rattle.std.specs.Prelude.{ℕ, List, [], ◌∷◌, ◌++◌, codes, Option, None, Some, if◌then◌else◌}
 use Rattle.lfs_print.specs.ReportText.{report_text}
 use Rattle.lfs_words.specs.declared.fault.FaultKind.{FaultKind}
-use Rattle.lfs_words.specs.declared.fault.FaultKind.TheVariants.{Cut, Bytes, Words, Many, Number, Range, Path, Hex, Cred, Memory}
+use Rattle.lfs_words.specs.declared.fault.FaultKind.TheVariants.{Cut, Bytes, Words, Many, Number, Range, Path, Hex}
+use Rattle.lfs_words.specs.declared.fault.FaultKind.TheVariants.{Cred, Memory}
 use Rattle.lfs_volume.specs.Seen.{Seen}
 use Rattle.lfs_live.specs.Hearing.{is_long}
 use Rattle.lfs_live.specs.JournalText.{journal_text}
@@ -53,7 +54,8 @@ help_text =
     ++ ended_line (codes ".help    these lines")
     ++ ended_line (codes ".quit    ends with the report, as the end of the input does")
 
--- what a word of the server's own tells of a volume, by the texts that its store shows of its log; `.quit` tells nothing, but ends
+-- what a word of the server's own tells of a volume, by the texts that its store shows of its log; `.quit` tells
+-- nothing, but ends
 abbrev pub dot_text : {F : Type 0} → (F → List ℕ) → (F → ℕ → List ℕ) → Dot → Seen F → Option (List ℕ)
 dot_text map_text segment_text (Journal count) volume = Some (journal_text count volume.journal)
 dot_text map_text segment_text Map volume = Some (map_text volume.store)

@@ -1,5 +1,6 @@
 -- What the log names at a place, as the log is written and a segment is opened.
-use Rattle.std.proofs.Common.{◌≡◌, ◌≢◌, ℕ, ◌+◌, ◌*◌, ◌/◌, ◌%◌, ◌<◌, ◌≤◌, inl, inr, List, Option, Some, None, option_and_then, option_map, length, refl, ap, ◌∙◌, ⊎_elim, arith}
+use Rattle.std.proofs.Common.{◌≡◌, ◌≢◌, ℕ, ◌+◌, ◌*◌, ◌/◌, ◌%◌, ◌<◌, ◌≤◌, inl, inr, List, Option, Some, None}
+use Rattle.std.proofs.Common.{option_and_then, option_map, length, refl, ap, ◌∙◌, ⊎_elim, arith}
 use Rattle.std.proofs.lemmas.Bool.{cases_eq, cases_lt}
 use Rattle.lfs_segments.specs.Log.{Extends, IsOlder, entry_at}
 use Rattle.lfs_segments.specs.Memory.{IsLaidOut, SegmentMemory, block_at, next_address, opened, room_of}
@@ -22,14 +23,17 @@ use Rattle.lfs_log.specs.Parts.{IsParts, LogParts, live_of, log_state, opened_pa
 use Rattle.lfs_log.proofs.PartsLemmas.{opened_active, opened_dirty, opened_other, opened_some}
 
 -- The owner of a place rests on the entry and the block of its address.
-pub named_at-same : (old new : SegmentMemory) (place : ℕ) → entry_at new (place / 4) ≡ entry_at old (place / 4) → block_at new (place / 4) ≡ block_at old (place / 4)
+pub named_at-same : (old new : SegmentMemory) (place : ℕ) → entry_at new (place / 4) ≡ entry_at old (place / 4)
+    → block_at new (place / 4) ≡ block_at old (place / 4)
     → named_at new place ≡ named_at old place
 unfolding named_at
 named_at-same old new place entry block =
-    owner_at-kept (entry_at old) (entry_at new) (record_at old) (record_at new) place entry (ap (λ b. record_in b (place % 4)) block)
+    owner_at-kept (entry_at old) (entry_at new) (record_at old) (record_at new) place entry
+    (ap (λ b. record_in b (place % 4)) block)
 
 -- the address of a place that was written lies before the log's end, or in another segment
-pub written_older : (m : SegmentMemory) (place : ℕ) → IsLaidOut m → (seg_of place ≡ m.active → place < 4 * next_address m) → IsOlder m (place / 4)
+pub written_older : (m : SegmentMemory) (place : ℕ) → IsLaidOut m
+    → (seg_of place ≡ m.active → place < 4 * next_address m) → IsOlder m (place / 4)
 written_older m place laid written =
     elim (cases_eq (seg_of place) m.active) [
       | inl e ↦ let below = written e in inl (omega arith)
@@ -40,17 +44,22 @@ written_older m place laid written =
     ]
 
 -- What is written leaves the owners of older places.
-pub named_at-extended : (old new : SegmentMemory) (place : ℕ) → Extends old new → IsOlder old (place / 4) → named_at new place ≡ named_at old place
-named_at-extended old new place h older = named_at-same old new place (h.entries (place / 4) older) (h.blocks (place / 4) older)
+pub named_at-extended : (old new : SegmentMemory) (place : ℕ) → Extends old new → IsOlder old (place / 4)
+    → named_at new place ≡ named_at old place
+named_at-extended old new place h older =
+    named_at-same old new place (h.entries (place / 4) older) (h.blocks (place / 4) older)
 
 -- An opened segment leaves those of the other segments' places.
-pub named_at-opened : (m : SegmentMemory) (segment place : ℕ) → IsLaidOut m → segment < m.segments → seg_of place ≢ segment → named_at (opened m segment) place ≡ named_at m place
+pub named_at-opened : (m : SegmentMemory) (segment place : ℕ) → IsLaidOut m → segment < m.segments
+    → seg_of place ≢ segment → named_at (opened m segment) place ≡ named_at m place
 named_at-opened m segment place laid inside apart =
     let other : place / 4 / 64 ≢ segment = λ e. apart (omega arith) in
-    named_at-same m (opened m segment) place (entry_at-opened_other m segment laid inside (place / 4) other) (block_at-opened_apart m segment laid inside (place / 4) other)
+    named_at-same m (opened m segment) place (entry_at-opened_other m segment laid inside (place / 4) other)
+    (block_at-opened_apart m segment laid inside (place / 4) other)
 
 -- The steps of the log, as its keys see them.
-pub Opens-opened : (p : LogParts) (segment : ℕ) (at : ℕ → ℕ → ℕ) → IsParts p → segment < p.memory.segments → state_of p.tables segment ≡ Clean → Opens (log_state p at) (log_state (opened_parts p segment) at) segment
+pub Opens-opened : (p : LogParts) (segment : ℕ) (at : ℕ → ℕ → ℕ) → IsParts p → segment < p.memory.segments
+    → state_of p.tables segment ≡ Clean → Opens (log_state p at) (log_state (opened_parts p segment) at) segment
 Opens-opened p segment at h inside clean = record {
   keys = record { numbers = refl; segments = refl; places = λ n c low below. refl; versions = λ n low. refl };
   inside = inside;
@@ -66,7 +75,8 @@ Opens-opened p segment at h inside clean = record {
   owners = λ place apart. named_at-opened p.memory segment place h.laid_out inside apart;
 }
 
-pub Writes-extended : (p q : LogParts) (at : ℕ → ℕ → ℕ) → IsParts p → 1 ≤ room_of p.memory → Extends p.memory q.memory → q.tables ≡ p.tables → q.clean ≡ p.clean
+pub Writes-extended : (p q : LogParts) (at : ℕ → ℕ → ℕ) → IsParts p → 1 ≤ room_of p.memory → Extends p.memory q.memory
+    → q.tables ≡ p.tables → q.clean ≡ p.clean
     → next_address q.memory ≡ next_address p.memory + 1 → Writes (log_state p at) (log_state q at) 1
 Writes-extended p q at h room extends tables clean next = record {
   keys = record {
@@ -80,32 +90,41 @@ Writes-extended p q at h room extends tables clean next = record {
   active = extends.active;
   next = next;
   room = omega arith;
-  owners = λ place written. named_at-extended p.memory q.memory place extends (written_older p.memory place h.laid_out written);
+  owners = λ place written. named_at-extended p.memory q.memory place extends
+      (written_older p.memory place h.laid_out written);
 }
 
 -- Where the log has an entry for an address, it names the units of the block there as the entry says.
-pub named_at-entry : (m : SegmentMemory) (address slot : ℕ) (e : SummaryEntry) (block : List ℕ) → slot < 4 → entry_at m address ≡ Some e → block_at m address ≡ block
+pub named_at-entry : (m : SegmentMemory) (address slot : ℕ) (e : SummaryEntry) (block : List ℕ) → slot < 4
+    → entry_at m address ≡ Some e → block_at m address ≡ block
     → named_at m (4 * address + slot) ≡ owner_in e.block e.number e.version slot (record_in block slot)
 unfolding named_at owner_at
 named_at-entry m address slot e block low named at =
     let address_is : (4 * address + slot) / 4 ≡ address = omega arith in
     let unit : (4 * address + slot) % 4 ≡ slot = omega arith in
-    ap (λ a. option_and_then (λ (x : SummaryEntry). owner_in x.block x.number x.version ((4 * address + slot) % 4) (record_at m a ((4 * address + slot) % 4))) (entry_at m a)) address_is
-    ∙ ap (λ s. option_and_then (λ (x : SummaryEntry). owner_in x.block x.number x.version s (record_at m address s)) (entry_at m address)) unit
-    ∙ ap (option_and_then (λ (x : SummaryEntry). owner_in x.block x.number x.version slot (record_at m address slot))) named
+    ap (λ a. option_and_then (λ (x : SummaryEntry). owner_in x.block x.number x.version ((4 * address + slot) % 4)
+    (record_at m a ((4 * address + slot) % 4))) (entry_at m a)) address_is
+    ∙ ap (λ s. option_and_then (λ (x : SummaryEntry). owner_in x.block x.number x.version s (record_at m address s))
+    (entry_at m address)) unit
+    ∙ ap (option_and_then (λ (x : SummaryEntry). owner_in x.block x.number x.version slot (record_at m address slot)))
+    named
     ∙ ap (λ b. owner_in e.block e.number e.version slot (record_in b slot)) at
 
 -- a block of a file has its place at four times its address
-pub named_at-block : (m : SegmentMemory) (address number version : ℕ) (block : FileBlock) → code_of block ≢ 0 → entry_at m address ≡ Some (record { number = number; version = version; block = logical_of block })
+pub named_at-block : (m : SegmentMemory) (address number version : ℕ) (block : FileBlock) → code_of block ≢ 0
+    → entry_at m address ≡ Some (record { number = number; version = version; block = logical_of block })
     → named_at m (place_of address) ≡ Some (record { number = number; version = version; code = code_of block })
 unfolding named_at
-named_at-block m address number version block other named = owner_at-block (entry_at m) (record_at m) address number version block other named
+named_at-block m address number version block other named =
+    owner_at-block (entry_at m) (record_at m) address number version block other named
 
 -- a record has its place at the slot of its inode block
-pub named_at-record : (m : SegmentMemory) (address slot number version : ℕ) (e : SummaryEntry) → slot < 4 → entry_at m address ≡ Some e → e.block ≡ Inodes → record_in (block_at m address) slot ≡ Some (number, version)
+pub named_at-record : (m : SegmentMemory) (address slot number version : ℕ) (e : SummaryEntry) → slot < 4
+    → entry_at m address ≡ Some e → e.block ≡ Inodes → record_in (block_at m address) slot ≡ Some (number, version)
     → named_at m (4 * address + slot) ≡ Some (record { number = number; version = version; code = 0 })
 unfolding named_at
-named_at-record m address slot number version e low named inodes found = owner_at-record (entry_at m) (record_at m) address slot number version e low named inodes found
+named_at-record m address slot number version e low named inodes found =
+    owner_at-record (entry_at m) (record_at m) address slot number version e low named inodes found
 
 -- an address without an entry names nothing
 pub named_at-none : (m : SegmentMemory) (place : ℕ) → entry_at m (place / 4) ≡ None → named_at m place ≡ None
@@ -113,7 +132,8 @@ unfolding named_at owner_at
 named_at-none m place none = rw none refl
 
 -- whose record stands in a slot of an inode block
-pub owner_in-packed : (block : LogicalBlock) (number version slot : ℕ) (found : Option (ℕ × ℕ)) (held : Option Inode) (v : Inode) → block ≡ Inodes → found ≡ option_map inode_key held → held ≡ Some v
+pub owner_in-packed : (block : LogicalBlock) (number version slot : ℕ) (found : Option (ℕ × ℕ)) (held : Option Inode)
+    (v : Inode) → block ≡ Inodes → found ≡ option_map inode_key held → held ≡ Some v
     → owner_in block number version slot found ≡ Some (record_owner v)
 unfolding owner_in
 owner_in-packed block number version slot found held v inodes is here = rw (inodes, is, here) refl

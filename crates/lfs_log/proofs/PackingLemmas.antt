@@ -1,5 +1,6 @@
 -- An inode block while it is packed, and what its slots are read as.
-use Rattle.std.proofs.Common.{◌≡◌, ◌≢◌, ℕ, ◌+◌, ◌<◌, ◌≤◌, List, [], Option, Some, None, option_map, length, get_or, set, replicate, refl, sym, ap, subst, ◌∙◌, ⊎_elim, arith}
+use Rattle.std.proofs.Common.{◌≡◌, ◌≢◌, ℕ, ◌+◌, ◌<◌, ◌≤◌, List, [], Option, Some, None, option_map, length, get_or, set}
+use Rattle.std.proofs.Common.{replicate, refl, sym, ap, subst, ◌∙◌, ⊎_elim, arith}
 use Rattle.std.specs.List.{slice_get}
 use Rattle.std.proofs.lemmas.Bool.{cases_lt}
 use Rattle.std.proofs.lemmas.List.{get_or-set_other, get_or-set_same}
@@ -25,24 +26,30 @@ IsPackedBelow-none inodes block zeros = record {
   unused = λ j from below. slot_of-zeros block j below zeros;
 }
 
-pub IsPackedBelow-more : (k : ℕ) (inodes : List Inode) (old new bytes : List ℕ) (v : Inode) → IsPackedBelow k inodes old → k < 4 → slice_get inodes k ≡ Some v → IsRecord bytes v
+pub IsPackedBelow-more : (k : ℕ) (inodes : List Inode) (old new bytes : List ℕ) (v : Inode) → IsPackedBelow k inodes old
+    → k < 4 → slice_get inodes k ≡ Some v → IsRecord bytes v
     → slots new ≡ set (slots old) k bytes → IsPackedBelow (k + 1) inodes new
 IsPackedBelow-more k inodes old new bytes v p room here spelled put = record {
   records = λ j below. ⊎_elim
-      (λ (less : j < k). subst (λ (xs : List ℕ). IsSlot xs (slice_get inodes j)) (sym (other j (omega arith) (omega arith))) (p.records j less))
-      (λ (from : k ≤ j). let same : j ≡ k = omega arith in rw (same, here) (subst (λ (xs : List ℕ). IsRecord xs v) (sym written) spelled))
+      (λ (less : j < k). subst (λ (xs : List ℕ). IsSlot xs (slice_get inodes j))
+      (sym (other j (omega arith) (omega arith))) (p.records j less))
+      (λ (from : k ≤ j). let same : j ≡ k = omega arith in
+      rw (same, here) (subst (λ (xs : List ℕ). IsRecord xs v) (sym written) spelled))
       (cases_lt j k);
   unused = λ j from below. other j below (omega arith) ∙ p.unused j (omega arith) below;
 }
   where
     written : slot_of new k ≡ bytes
-    written = sym (get_or-slots new k room) ∙ ap (λ (xs : List (List ℕ)). get_or xs k []) put ∙ get_or-set_same (slots old) k bytes [] room
+    written = sym (get_or-slots new k room) ∙ ap (λ (xs : List (List ℕ)). get_or xs k []) put
+        ∙ get_or-set_same (slots old) k bytes [] room
 
     other : (j : ℕ) → j < 4 → j ≢ k → slot_of new j ≡ slot_of old j
     other j below apart =
-        sym (get_or-slots new j below) ∙ ap (λ (xs : List (List ℕ)). get_or xs j []) put ∙ get_or-set_other (slots old) k j bytes [] apart ∙ get_or-slots old j below
+        sym (get_or-slots new j below) ∙ ap (λ (xs : List (List ℕ)). get_or xs j []) put
+        ∙ get_or-set_other (slots old) k j bytes [] apart ∙ get_or-slots old j below
 
-pub IsInodeBlock-packed : (inodes : List Inode) (block : List ℕ) (k : ℕ) → length inodes ≤ 4 → length inodes ≤ k → IsPackedBelow k inodes block → IsInodeBlock block inodes
+pub IsInodeBlock-packed : (inodes : List Inode) (block : List ℕ) (k : ℕ) → length inodes ≤ 4 → length inodes ≤ k
+    → IsPackedBelow k inodes block → IsInodeBlock block inodes
 IsInodeBlock-packed inodes block k fits all p = record {
   at_most = fits;
   slots = λ j below. ⊎_elim
@@ -52,17 +59,20 @@ IsInodeBlock-packed inodes block k fits all p = record {
 }
 
 -- what a slot is decoded to
-pub decoded_slot : (bytes slot : List ℕ) (held answer : Option Inode) → bytes ≡ slot → IsSlot slot held → ((v : Inode) → IsRecord bytes v → answer ≡ Some v) → (bytes ≡ replicate 128 0 → answer ≡ None) → answer ≡ held
+pub decoded_slot : (bytes slot : List ℕ) (held answer : Option Inode) → bytes ≡ slot → IsSlot slot held
+    → ((v : Inode) → IsRecord bytes v → answer ≡ Some v) → (bytes ≡ replicate 128 0 → answer ≡ None) → answer ≡ held
 decoded_slot bytes slot None answer same p only unused = unused (same ∙ p)
 decoded_slot bytes slot (Some v) answer same p only unused = only v (rw same p)
 
 -- A slot is read as the fields of the inode that it has.
-pub fields_in-slot : (bytes : List ℕ) (held : Option Inode) → IsSlot bytes held → fields_in bytes ≡ option_map fields_of held
+pub fields_in-slot : (bytes : List ℕ) (held : Option Inode) → IsSlot bytes held → fields_in bytes
+    ≡ option_map fields_of held
 fields_in-slot bytes None p = ap fields_in p ∙ fields_in-zeros
 fields_in-slot bytes (Some v) p = fields_in-is bytes v p
 
 -- and so are the number and the version of its record
-pub record_in-read : (block : List ℕ) (k : ℕ) (held : Option Inode) → option_map fields_of held ≡ fields_in (slot_of block k)
+pub record_in-read : (block : List ℕ) (k : ℕ) (held : Option Inode) → option_map fields_of held
+    ≡ fields_in (slot_of block k)
     → option_map inode_key held ≡ record_in block k
 unfolding record_in
 record_in-read block k held reading = each held ∙ ap (option_map record_key) reading

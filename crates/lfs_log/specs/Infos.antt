@@ -19,11 +19,17 @@ use Rattle.lfs_types.specs.declared.limits.TheConstants.{SEGMENT_BLOCKS}
 
 -- the info of a file's block at an address
 abbrev pub info_of : ℕ → ℕ → ℕ → LogicalBlock → BlockInfo
-info_of address number version block = record { ino = number; version = version; lbn = block_number block; addr = address }
+info_of address number version block = record {
+  ino = number;
+  version = version;
+  lbn = block_number block;
+  addr = address;
+}
 
 -- that of the inode whose record a slot of an inode block holds, if it holds one
 unfoldable pub slot_info : ℕ → List ℕ → Option BlockInfo
-slot_info address slot = option_map (λ f. info_of address f.attributes.number f.attributes.version Inodes) (fields_in slot)
+slot_info address slot = option_map (λ f. info_of address f.attributes.number f.attributes.version Inodes)
+    (fields_in slot)
 
 -- the infos of a block that the log names: one of a file's block, and one for each record of an inode block
 unfoldable pub block_infos : ℕ → ℕ → ℕ → LogicalBlock → List ℕ → List BlockInfo

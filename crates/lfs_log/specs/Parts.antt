@@ -1,5 +1,6 @@
 -- What a log keeps: the segment memory, the ifile's tables and the count of clean segments.
-use Rattle.std.specs.Prelude.{◌≡◌, ◌≤◌, ◌/◌, ◌≢◌, ℕ, ◌-◌, ◌+◌, ◌*◌, ◌<◌, length, slice_index, slice_index_or, if◌then◌else◌, ◌==◌}
+use Rattle.std.specs.Prelude.{◌≡◌, ◌≤◌, ◌/◌, ◌≢◌, ℕ, ◌-◌, ◌+◌, ◌*◌, ◌<◌, length, slice_index, slice_index_or}
+use Rattle.std.specs.Prelude.{if◌then◌else◌, ◌==◌}
 use Rattle.lfs_types.specs.declared.limits.TheConstants.{SEGMENT_BLOCKS}
 use Rattle.lfs_ifile.specs.declared.segment.TheConstants.{SEGMENT_BYTES}
 use Rattle.lfs_ifile.specs.declared.segment.SegState.{SegState}
@@ -55,7 +56,11 @@ pub record IsParts (p : LogParts) : Type 0 where
 -- a new log: segment 0 is active, the others are clean
 abbrev pub fresh_parts : ℕ → ℕ → LogParts
 fresh_parts segments inodes =
-    record { memory = fresh segments inodes; tables = with_state (fresh_tables segments inodes) 0 Active; clean = segments - 1 }
+    record {
+      memory = fresh segments inodes;
+      tables = with_state (fresh_tables segments inodes) 0 Active;
+      clean = segments - 1;
+    }
 
 -- the tables after a segment became the active one in place of another
 abbrev pub opened_tables : Tables → ℕ → ℕ → Tables

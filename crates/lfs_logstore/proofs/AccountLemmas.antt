@@ -1,5 +1,6 @@
 -- What holds of segments and keys between the calls of a store.
-use Rattle.std.proofs.Common.{List, length, Result, Ok, Err, IfOk, ◌≡◌, ◌≢◌, ℕ, ◌/◌, inl, inr, sym, ap, ◌∙◌, subst, arith}
+use Rattle.std.proofs.Common.{List, length, Result, Ok, Err, IfOk, ◌≡◌, ◌≢◌, ℕ, ◌/◌, inl, inr, sym, ap, ◌∙◌, subst}
+use Rattle.std.proofs.Common.{arith}
 use Rattle.std.proofs.lemmas.Bool.{cases_eq, cases_lt}
 use Rattle.lfs_types.specs.Cleaned.{ifile_size}
 use Rattle.lfs_ifile.specs.Layout.{ifile_bytes}
@@ -24,7 +25,8 @@ pub record IsKey (l : LogState) (number version code : ℕ) : Type 0 where
   pub version_is : l.version number ≡ version
   pub address_is : present_address l number version code ≡ l.at number code / 4
 
-pub has_key : (l : LogState) (number version code : ℕ) → present_address l number version code ≢ 0 → IsKey l number version code
+pub has_key : (l : LogState) (number version code : ℕ) → present_address l number version code ≢ 0
+    → IsKey l number version code
 has_key l number version code some =
     elim (cases_lt number l.numbers) [
       | inr past ↦ absurd (some (present_address-other l number version code (inl past)))
@@ -34,9 +36,14 @@ has_key l number version code some =
           | inr past ↦ absurd (some (present_address-other l number version code (inr (inr past))))
           | inl below ↦
               let at : present_address l number version code ≡ l.at number code / 4 =
-              subst (λ v. present_address l number v code ≡ l.at number code / 4) same (present_address-key l number code low below) in
+              subst (λ v. present_address l number v code ≡ l.at number code / 4) same
+              (present_address-key l number code low below) in
               record {
-                there = record { number_below = low; code_below = below; somewhere = λ none. some (at ∙ ap (λ n. n / 4) none) };
+                there = record {
+                  number_below = low;
+                  code_below = below;
+                  somewhere = λ none. some (at ∙ ap (λ n. n / 4) none);
+                };
                 version_is = same;
                 address_is = at;
               }
@@ -45,7 +52,8 @@ has_key l number version code some =
     ]
 
 -- the segment of an address
-pub segment_is : (l : LogState) (number version code : ℕ) → IsKey l number version code → present_address l number version code / 64 ≡ seg_of (l.at number code)
+pub segment_is : (l : LogState) (number version code : ℕ) → IsKey l number version code
+    → present_address l number version code / 64 ≡ seg_of (l.at number code)
 segment_is l number version code key = let at = key.address_is in omega arith
 
 pub accounted : (p : Parts) → IsStore p → IsAccounted p
@@ -53,19 +61,24 @@ accounted p store = record {
   counted = store.log.counted;
   none_in_clean = λ number version code some clean.
       let key = has_key (log_state p) number version code some in
-      (store.log.keys number code key.there).not_clean (ap (state_of p.log.tables) (sym (segment_is (log_state p) number version code key)) ∙ clean);
+      (store.log.keys number code key.there).not_clean
+      (ap (state_of p.log.tables) (sym (segment_is (log_state p) number version code key)) ∙ clean);
   found = λ number version code some.
       let key = has_key (log_state p) number version code some in
       let place = (log_state p).at number code in
       let owned = (store.log.keys number code key.there).owned in
       let owner : ℕ → Owner = λ v. record { number = number; version = v; code = code } in
-      let has = infos_of-named p.log.memory (address_of p number version code / 64) place (owner ((log_state p).version number)) (sym (segment_is (log_state p) number version code key)) owned in
-      subst (λ v. HasInfo (infos_of p.log.memory (address_of p number version code / 64)) (address_of p number version code) (owner v)) key.version_is
-      (subst (λ a. HasInfo (infos_of p.log.memory (address_of p number version code / 64)) a (owner ((log_state p).version number))) (sym key.address_is) has);
+      let has = infos_of-named p.log.memory (address_of p number version code / 64) place
+      (owner ((log_state p).version number)) (sym (segment_is (log_state p) number version code key)) owned in
+      subst (λ v. HasInfo (infos_of p.log.memory (address_of p number version code / 64))
+      (address_of p number version code) (owner v)) key.version_is
+      (subst (λ a. HasInfo (infos_of p.log.memory (address_of p number version code / 64)) a
+      (owner ((log_state p).version number))) (sym key.address_is) has);
 }
 
 -- how many bytes the ifile of a store has
-pub sized : {A E : Type 0} (f : A → List ℕ) (r : Result A E) (p : Parts) → IsStore p → IfOk r (λ a. f a ≡ ifile_bytes p.log.tables) → IfOk r (λ a. length (f a) ≡ ifile_size (state.state_of p).shape)
+pub sized : {A E : Type 0} (f : A → List ℕ) (r : Result A E) (p : Parts) → IsStore p
+    → IfOk r (λ a. f a ≡ ifile_bytes p.log.tables) → IfOk r (λ a. length (f a) ≡ ifile_size (state.state_of p).shape)
 sized f (Err e) p store h = tt
 sized f (Ok a) p store h =
     let parts = store.whole.parts in

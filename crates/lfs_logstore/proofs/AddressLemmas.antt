@@ -22,7 +22,8 @@ mapped_next f (suc i) [] d low = absurd (omega arith)
 mapped_next f (suc i) (x ∷ xs) d low = ap (λ ys. f x ∷ ys) (mapped_next f i xs d (omega arith))
 
 -- one more item is changed
-pub mapped_more : {X : Type 0} (f : X → X) (i j : ℕ) (xs ys : List X) (d : X) → ys ≡ mapped_below f i xs → i < length ys → j ≡ suc i
+pub mapped_more : {X : Type 0} (f : X → X) (i j : ℕ) (xs ys : List X) (d : X) → ys ≡ mapped_below f i xs → i < length ys
+    → j ≡ suc i
     → set ys i (f (get_or ys i d)) ≡ mapped_below f j xs
 mapped_more f i j xs ys d is low next =
     ap (λ zs. set zs i (f (get_or zs i d))) is

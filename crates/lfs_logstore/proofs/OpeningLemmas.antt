@@ -9,7 +9,8 @@ use Rattle.lfs_staging.specs.Opening.{IsOpening}
 use Rattle.lfs_logstore.specs.States.{opening_state, state_of}
 
 -- the parts of a volume that was just laid out show the opening state
-pub opened_state : (p : Parts) (segments numbers frames : ℕ) → IsOpening segments numbers frames p → content_of p ≡ opening_content → state_of p ≡ opening_state segments numbers
+pub opened_state : (p : Parts) (segments numbers frames : ℕ) → IsOpening segments numbers frames p → content_of p
+    ≡ opening_content → state_of p ≡ opening_state segments numbers
 opened_state p segments numbers frames h content =
     let clean : p.log.clean ≡ segments - 1 = omega (arith, h.clean) in
     rw (content, clean, h.tables.inodes, h.size) refl
@@ -25,14 +26,19 @@ valued y (Ok x) = Ok y
 valued y (Err e) = Err e
 
 -- an error that is handed on is told as it was
-pub error_told : {T U E : Type 0} (r : Result U E) (e fault : E) (P : Type 0) → IsErrAnd r (λ y. y ≡ e) → (IsErrOf {T = T} (Err e) fault ↔ P) → (IsErrOf r fault ↔ P)
+pub error_told : {T U E : Type 0} (r : Result U E) (e fault : E) (P : Type 0) → IsErrAnd r (λ y. y ≡ e)
+    → (IsErrOf {T = T} (Err e) fault ↔ P) → (IsErrOf r fault ↔ P)
 unfolding error_or
 error_told r e fault P handed told =
     let is = err_from_is_err_and r handed in
     let same : r ≡ Err e = rw (is.1, is.2) refl in
-    rw same (λ (i : Err e ≡ Err fault). told.0 (ap Err (ap (error_or fault) i)), λ p. ap Err (ap (error_or fault) (told.1 p)))
+    rw same (
+      λ (i : Err e ≡ Err fault). told.0 (ap Err (ap (error_or fault) i)),
+      λ p. ap Err (ap (error_or fault) (told.1 p)),
+    )
 
 -- and where a value is made of a value, no error is told
-pub value_told : {T U E : Type 0} (x : T) (y : U) (fault : E) (P : Type 0) → (IsErrOf (Ok x) fault ↔ P) → (IsErrOf (Ok y) fault ↔ P)
+pub value_told : {T U E : Type 0} (x : T) (y : U) (fault : E) (P : Type 0) → (IsErrOf (Ok x) fault ↔ P)
+    → (IsErrOf (Ok y) fault ↔ P)
 unfolding valued
 value_told x y fault P told = (λ i. told.0 (ap (valued x) i), λ p. ap (valued y) (told.1 p))

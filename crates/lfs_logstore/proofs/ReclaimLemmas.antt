@@ -44,7 +44,12 @@ module _ (p : Parts) (s : ℕ) (store : IsStore p) (room : HasRoom p) (has : Has
   place_same n c = refl
 
   keys_same : SameKeys (log_state p) (log_state q)
-  keys_same = record { numbers = refl; segments = refl; places = λ n c low below. place_same n c; versions = λ n low. refl }
+  keys_same = record {
+    numbers = refl;
+    segments = refl;
+    places = λ n c low below. place_same n c;
+    versions = λ n low. refl;
+  }
 
   file_same : (n : ℕ) (f : Fields) → record_of q n ≡ Some f → IsFile q n f
   unfolding record_of
@@ -66,17 +71,25 @@ module _ (p : Parts) (s : ℕ) (store : IsStore p) (room : HasRoom p) (has : Has
     reserved = store.whole.reserved;
     recorded = store.whole.recorded;
     files = file_same;
-    records = λ k d low. let there = store.whole.records k d low in record { in_use = there.in_use; at_version = there.at_version };
-    frames = λ key locked. let there = store.whole.frames key locked in record { in_use = there.in_use; at_version = there.at_version };
+    records = λ k d low. let there = store.whole.records k d low in
+        record { in_use = there.in_use; at_version = there.at_version };
+    frames = λ key locked. let there = store.whole.frames key locked in
+        record { in_use = there.in_use; at_version = there.at_version };
     coded = store.whole.coded;
     mirrors = record {
       each = λ key bytes there.
           let was = store.whole.mirrors.each key bytes there in
-          record { present = record { in_use = was.present.in_use; at_version = was.present.at_version }; coded = was.coded; somewhere = was.somewhere; same = was.same };
+          record {
+            present = record { in_use = was.present.in_use; at_version = was.present.at_version };
+            coded = was.coded;
+            somewhere = was.somewhere;
+            same = was.same;
+          };
     };
   }
 
-  cleans : ((at : ℕ → ℕ → ℕ) → Cleans (log.log_state p.log at) (log.log_state (cleaned_parts p.log s) at) s) → Cleans (log_state p) (log_state q) s
+  cleans : ((at : ℕ → ℕ → ℕ) → Cleans (log.log_state p.log at) (log.log_state (cleaned_parts p.log s) at) s)
+      → Cleans (log_state p) (log_state q) s
   cleans step =
       let c = step (log_state p).at in
       record {
@@ -102,7 +115,8 @@ module _ (p : Parts) (s : ℕ) (store : IsStore p) (room : HasRoom p) (has : Has
     empty = sym has.bytes;
     none_there = λ number version code some here.
         let key = has_key (log_state p) number version code some in
-        empty_has_none (log_state p) 0 s store.log has.inside empty number code key.there (sym (segment_is (log_state p) number version code key) ∙ here);
+        empty_has_none (log_state p) 0 s store.log has.inside empty number code key.there
+        (sym (segment_is (log_state p) number version code key) ∙ here);
     tables = refl;
     clean = refl;
     memory = refl;
@@ -112,7 +126,8 @@ module _ (p : Parts) (s : ℕ) (store : IsStore p) (room : HasRoom p) (has : Has
     addresses = present_address-same (log_state p) (log_state q) keys_same;
   }
 
-  is_store : IsParts (cleaned_parts p.log s) → ((at : ℕ → ℕ → ℕ) → Cleans (log.log_state p.log at) (log.log_state (cleaned_parts p.log s) at) s) → IsStore q
+  is_store : IsParts (cleaned_parts p.log s)
+      → ((at : ℕ → ℕ → ℕ) → Cleans (log.log_state p.log at) (log.log_state (cleaned_parts p.log s) at) s) → IsStore q
   is_store parts step = record {
     whole = files_same parts;
     log = cleaned_log (log_state p) (log_state q) 0 s store.log (cleans step);
@@ -128,7 +143,13 @@ module _ (p : Parts) (s : ℕ) (store : IsStore p) (room : HasRoom p) (has : Has
   waiting_same = refl
 
   has_room : HasRoom q
-  has_room = record { room = elim room.room [ inl enough ↦ inl (subst (λ n. n ≤ room_of p.log.memory) (sym waiting_same) enough) | inr free ↦ inr (omega arith) ] }
+  has_room = record {
+    room = elim room.room [
+      | inl enough ↦
+          inl (subst (λ n. n ≤ room_of p.log.memory) (sym waiting_same) enough)
+      | inr free ↦ inr (omega arith)
+    ];
+  }
 
 -- a log with these fields
 log_is : (l k : LogParts) → l.memory ≡ k.memory → l.tables ≡ k.tables → l.clean ≡ k.clean → l ≡ k
@@ -140,16 +161,20 @@ pub record Cleaned (p : Parts) (s : ℕ) (q : Parts) : Type 0 where
   pub room : HasRoom q
   pub reclaimed : IsReclaimed p s q
 
-pub cleaned : (p : Parts) (l : LogParts) (s : ℕ) → IsStore p → HasRoom p → HasLive p s 0 → l.tables ≡ with_state p.log.tables s Clean → l.memory ≡ p.log.memory
-    → l.clean ≡ p.log.clean + 1 → ((at : ℕ → ℕ → ℕ) → Cleans (log.log_state p.log at) (log.log_state l at) s) → IsParts l → Cleaned p s (with_log p l)
+pub cleaned : (p : Parts) (l : LogParts) (s : ℕ) → IsStore p → HasRoom p → HasLive p s 0 → l.tables
+    ≡ with_state p.log.tables s Clean → l.memory ≡ p.log.memory
+    → l.clean ≡ p.log.clean + 1 → ((at : ℕ → ℕ → ℕ) → Cleans (log.log_state p.log at) (log.log_state l at) s)
+    → IsParts l → Cleaned p s (with_log p l)
 cleaned p l s store room has tables memory clean step parts =
     let is : l ≡ cleaned_parts p.log s = log_is l (cleaned_parts p.log s) memory tables clean in
     subst (λ m. Cleaned p s (with_log p m)) (sym is) (record {
-      store = is_store p s store room has (subst IsParts is parts) (λ at. subst (λ m. Cleans (log.log_state p.log at) (log.log_state m at) s) is (step at));
+      store = is_store p s store room has (subst IsParts is parts)
+          (λ at. subst (λ m. Cleans (log.log_state p.log at) (log.log_state m at) s) is (step at));
       room = has_room p s store room has;
       reclaimed = is_reclaimed p s store room has;
     })
 
 -- the store shows one clean segment more, and all else as before
-pub reclaimed_state : (old new : Parts) (segment : ℕ) → IsReclaimed old segment new → state_of new ≡ with_clean_segment (state_of old)
+pub reclaimed_state : (old new : Parts) (segment : ℕ) → IsReclaimed old segment new → state_of new
+    ≡ with_clean_segment (state_of old)
 reclaimed_state old new segment h = rw (h.content, h.clean, h.tables, h.memory) refl

@@ -37,7 +37,12 @@ same_room p q h has =
     let waits = same_waiting p q h in
     let left : room_of q.log.memory ≡ room_of p.log.memory = ap (λ (l : LogParts). room_of l.memory) h.log in
     let clean : q.log.clean ≡ p.log.clean = ap (λ (l : LogParts). l.clean) h.log in
-    record { room = elim has.room [ inl fits ↦ inl (omega (arith, waits, left, fits)) | inr some ↦ inr (omega (arith, clean, some)) ] }
+    record {
+      room = elim has.room [
+        | inl fits ↦ inl (omega (arith, waits, left, fits))
+        | inr some ↦ inr (omega (arith, clean, some))
+      ];
+    }
 
 pub same_state : (p q : Parts) → SameButClean p q → state_of q ≡ state_of p
 same_state p q h =
@@ -45,5 +50,6 @@ same_state p q h =
     λ i. record {
       content = content i;
       clean = (ap (λ (l : LogParts). l.clean) h.log) i;
-      shape = shape_of ((ap (λ (l : LogParts). length l.tables.rows) h.log) i) ((ap (λ (l : LogParts). l.memory.segments) h.log) i);
+      shape = shape_of ((ap (λ (l : LogParts). length l.tables.rows) h.log) i)
+          ((ap (λ (l : LogParts). l.memory.segments) h.log) i);
     }

@@ -32,7 +32,8 @@ pub record IsAccounted (p : Parts) : Type 0 where
   pub none_in_clean : (number version code : ℕ) → address_of p number version code ≢ 0
       → state_of p.log.tables (address_of p number version code / SEGMENT_BLOCKS) ≢ used.Clean
   pub found : (number version code : ℕ) → address_of p number version code ≢ 0
-      → HasInfo (infos_of p.log.memory (address_of p number version code / SEGMENT_BLOCKS)) (address_of p number version code)
+      → HasInfo (infos_of p.log.memory (address_of p number version code / SEGMENT_BLOCKS))
+      (address_of p number version code)
       (record { number = number; version = version; code = code })
 
 -- the bytes are the ifile's: of the segments' live bytes and states, and of the inode map
@@ -59,11 +60,13 @@ pub record IsListed (p : Parts) (segment : ℕ) (infos : List BlockInfo) : Type 
   pub listed : infos ≡ infos_of p.log.memory segment
 
 -- A call for the infos of a segment may have this result, and leave this list.
-pub record GivesInfos (p : Parts) (segment : ℕ) (result : Result (Unit {0}) CleanFault) (infos : List BlockInfo) : Type 0 where
+pub record GivesInfos (p : Parts) (segment : ℕ) (result : Result (Unit {0}) CleanFault)
+    (infos : List BlockInfo) : Type 0 where
   pub ok : OnOk result (IsListed p segment infos)
   pub err : IfErr result (IsListingFaultOf p segment)
 
--- an info with its present address: 0 where its number isn't in use or has another version, where no file can have such a
+-- an info with its present address: 0 where its number isn't in use or has another version, where no file can have such
+-- a
 -- block, or where the block has no address
 abbrev pub with_address : Parts → BlockInfo → BlockInfo
 with_address p info = record info { addr = address_of p info.ino info.version (code_named info.lbn) }
@@ -78,7 +81,8 @@ IsReclaimFaultOf p segment NoSuchSegment = p.log.memory.segments ≤ segment
 IsReclaimFaultOf p segment Active = (segment < p.log.memory.segments) × (state_of p.log.tables segment ≡ used.Active)
 IsReclaimFaultOf p segment NotDirty = (segment < p.log.memory.segments) × (state_of p.log.tables segment ≡ used.Clean)
 IsReclaimFaultOf p segment (Live bytes) =
-    (segment < p.log.memory.segments) × (state_of p.log.tables segment ≡ used.Dirty) × (bytes ≡ counted_live p segment) × (0 < bytes)
+    (segment < p.log.memory.segments) × (state_of p.log.tables segment ≡ used.Dirty) × (bytes ≡ counted_live p segment)
+    × (0 < bytes)
 IsReclaimFaultOf p segment NoSpace = ⊥
 
 -- A dirty segment in which no key has a place was made clean, and all else stays.

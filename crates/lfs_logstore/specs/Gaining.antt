@@ -5,7 +5,8 @@ use Rattle.lfs_segwrite.specs.Applying.{WritesWaiting}
 use Rattle.lfs_segwrite.specs.Gaining.{Empties, IsGainful, space}
 use Rattle.lfs_logstore.specs.Cleaning.{IsReclaimed}
 
--- What waited was written. A segment that was gainful then was emptied, and made clean; after that there is more room than
+-- What waited was written. A segment that was gainful then was emptied, and made clean; after that there is more room
+-- than
 -- before.
 pub record GainsSpace (old new : Parts) : Type 0 where
   pub between : Parts

@@ -8,9 +8,11 @@ use Rattle.lfs_segwrite.specs.Marking.{LacksRoomFor, MarksAgain}
 use Rattle.lfs_staging.specs.Store.{IsSettled}
 
 -- Blocks may be written again with this result, from one state of the store to another: all that are named with their
--- present address once what waited was written, which are counted; none where there is no room behind it, or none to clean a
+-- present address once what waited was written, which are counted; none where there is no room behind it, or none to
+-- clean a
 -- segment then, which comes only where at most one segment was clean.
-pub record WritesAgain (old : Parts) (marks : List BlockInfo) (result : Result ℕ CleanFault) (new : Parts) : Type 0 where
+pub record WritesAgain (old : Parts) (marks : List BlockInfo) (result : Result ℕ CleanFault)
+    (new : Parts) : Type 0 where
   pub marked : IfOk result (λ count. MarksAgain marks count old new)
   pub settled : IsSettled new
   pub refused : OnErr result (WritesWaiting old new)

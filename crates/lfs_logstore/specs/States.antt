@@ -19,4 +19,8 @@ state_of p = record {
 
 -- a store that was just laid out: the root directory alone, and all segments clean but the first
 abbrev pub opening_state : ℕ → ℕ → StoreState
-opening_state segments numbers = record { content = opening_content; clean = segments - 1; shape = shape_of numbers segments }
+opening_state segments numbers = record {
+  content = opening_content;
+  clean = segments - 1;
+  shape = shape_of numbers segments;
+}

@@ -17,13 +17,15 @@ module _ (rows : Rows) (tree : IsTree rows) (n : ℕ) (r : Row) (there : map.get
   changed = map.insert rows n (record r { file = file })
 
   -- a directory is a directory still
-  directory_after : (m : ℕ) → IsSomeAnd (map.get rows m) (λ p. p.file.kind ≡ Directory) → IsSomeAnd (map.get changed m) (λ p. p.file.kind ≡ Directory)
+  directory_after : (m : ℕ) → IsSomeAnd (map.get rows m) (λ p. p.file.kind ≡ Directory)
+      → IsSomeAnd (map.get changed m) (λ p. p.file.kind ≡ Directory)
   directory_after m h =
       let was = some_and (map.get rows m) _ h in
       ⊎_elim
       (λ same.
       let is : was.value ≡ r = cc (was.is, there, ap (map.get rows) same) in
-      is_some_and _ (ap (map.get changed) same ∙ get-insert_same rows n (record r { file = file })) (kind ∙ ap (λ (x : Row). x.file.kind) (sym is) ∙ was.holds))
+      is_some_and _ (ap (map.get changed) same ∙ get-insert_same rows n (record r { file = file })) (kind
+      ∙ ap (λ (x : Row). x.file.kind) (sym is) ∙ was.holds))
       (λ apart. is_some_and _ (get-insert_other rows n (record r { file = file }) m apart ∙ was.is) was.holds)
       (cases_eq m n)
 
@@ -47,17 +49,25 @@ module _ (rows : Rows) (tree : IsTree rows) (n : ℕ) (r : Row) (there : map.get
         ⊎_elim
         (λ same.
         let is : was.value ≡ r = cc (was.is, there, ap (map.get rows) same) in
-        is_some_and (λ (x : Row). (x.parent ≡ root) × (x.name ≡ []) × (x.file.kind ≡ Directory)) (ap (map.get changed) same ∙ get-insert_same rows n (record r { file = file }))
-        (ap (λ (x : Row). x.parent) (sym is) ∙ was.holds.0, ap (λ (x : Row). x.name) (sym is) ∙ was.holds.1, kind ∙ ap (λ (x : Row). x.file.kind) (sym is) ∙ was.holds.2))
+        is_some_and (λ (x : Row). (x.parent ≡ root) × (x.name ≡ []) × (x.file.kind ≡ Directory))
+        (ap (map.get changed) same ∙ get-insert_same rows n (record r { file = file })) (
+          ap (λ (x : Row). x.parent) (sym is) ∙ was.holds.0,
+          ap (λ (x : Row). x.name) (sym is) ∙ was.holds.1,
+          kind
+              ∙ ap (λ (x : Row). x.file.kind) (sym is) ∙ was.holds.2,
+        ))
         (λ apart. is_some_and _ (get-insert_other rows n (record r { file = file }) root apart ∙ was.is) was.holds)
         (cases_eq root n);
     unique = unique-stays rows n r (record r { file = file }) there refl refl tree.unique;
-    parents = each_inserted rows n (record r { file = file }) (λ m x. IsSomeAnd (map.get changed x.parent) (λ p. p.file.kind ≡ Directory))
+    parents = each_inserted rows n (record r { file = file })
+        (λ m x. IsSomeAnd (map.get changed x.parent) (λ p. p.file.kind ≡ Directory))
         (directory_after r.parent (tree.parents n r there))
         (λ m x apart e. directory_after x.parent (tree.parents m x e));
     reached = each_inserted rows n (record r { file = file }) (λ m x. (k : ℕ) × (ancestor changed k m ≡ root))
         (let way = tree.reached n r there in (way.0, ancestors_same way.0 n ∙ way.1))
         (λ m x apart e. let way = tree.reached m x e in (way.0, ancestors_same way.0 m ∙ way.1));
-    empty = each_inserted rows n (record r { file = file }) (λ m x. x.file.kind ≡ Directory → x.file.bytes ≡ []) empty (λ m x apart e. tree.empty m x e);
-    numbers = each_inserted rows n (record r { file = file }) (λ m x. m ≢ root → FIRST_INODE ≤ m) (tree.numbers n r there) (λ m x far e. tree.numbers m x e);
+    empty = each_inserted rows n (record r { file = file }) (λ m x. x.file.kind ≡ Directory → x.file.bytes ≡ []) empty
+        (λ m x apart e. tree.empty m x e);
+    numbers = each_inserted rows n (record r { file = file }) (λ m x. m ≢ root → FIRST_INODE ≤ m)
+        (tree.numbers n r there) (λ m x far e. tree.numbers m x e);
   }

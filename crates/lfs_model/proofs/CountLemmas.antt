@@ -1,11 +1,13 @@
 -- How the counts of a journal grow by an entry, and that no number of them is past the journal's length.
-use Rattle.std.proofs.Common.{◌≡◌, ℕ, zero, suc, ◌+◌, ◌-◌, ◌^◌, ◌<◌, ◌≤◌, Bool, true, false, not, ◌&&◌, List, [], ◌∷◌, ◌++◌, length, get_or, map, None, Some, refl, ap, sym, subst, ◌∙◌, arith}
+use Rattle.std.proofs.Common.{◌≡◌, ℕ, zero, suc, ◌+◌, ◌-◌, ◌^◌, ◌<◌, ◌≤◌, Bool, true, false, not, ◌&&◌, List, [], ◌∷◌}
+use Rattle.std.proofs.Common.{◌++◌, length, get_or, map, None, Some, refl, ap, sym, subst, ◌∙◌, arith}
 use Rattle.std.specs.Prelude.{cond, count_by, slice_get, slice_index_or, slice_set}
 use Rattle.std.proofs.lemmas.Bool.{and_parts, not-true}
 use Rattle.std.proofs.lemmas.List.Elements.{All-map}
 use Rattle.std.proofs.lemmas.Slice.Eq.{bytes_eq-Decides}
 use Rattle.std.proofs.lemmas.List.Sums.{count_by-le-length, sum_by_push}
-use Rattle.lfs_model.specs.Counts.{AreFew, count_after, counts_after, counts_of, denials, denials_after, denied_by, is_cleaner, is_denied, is_denied_by, is_refused, is_served, same_rule}
+use Rattle.lfs_model.specs.Counts.{AreFew, count_after, counts_after, counts_of, denials, denials_after, denied_by}
+use Rattle.lfs_model.specs.Counts.{is_cleaner, is_denied, is_denied_by, is_refused, is_served, same_rule}
 use Rattle.lfs_model.specs.declared.counts.Counts.{Counts}
 use Rattle.lfs_model.specs.declared.journal.CleanerKind.{CleanerKind}
 use Rattle.lfs_model.specs.declared.journal.CleanerOutcome.{CleanerOutcome}
@@ -29,12 +31,14 @@ added true number = refl
 added false number = omega arith
 
 -- one more element
-count_push : {X : Type 0} (p : X → Bool) (xs : List X) (x : X) → count_by p (xs ++ x ∷ []) ≡ count_after (p x) (count_by p xs)
+count_push : {X : Type 0} (p : X → Bool) (xs : List X) (x : X) → count_by p (xs ++ x ∷ [])
+    ≡ count_after (p x) (count_by p xs)
 count_push p xs x = sum_by_push (λ y. cond (p y) 1 0) xs x ∙ added (p x) (count_by p xs)
 
 -- the denials by each of a list of rules, with one more entry
 denials_push : (counted : List Rule) (entries : List Entry) (entry : Entry)
-    → map (λ rule. denials rule (entries ++ entry ∷ [])) counted ≡ denials_after (denied_by entry.event) counted (map (λ rule. denials rule entries) counted)
+    → map (λ rule. denials rule (entries ++ entry ∷ [])) counted
+    ≡ denials_after (denied_by entry.event) counted (map (λ rule. denials rule entries) counted)
 denials_push [] entries entry = refl
 denials_push (rule ∷ counted) entries entry =
     let here : denials rule (entries ++ entry ∷ []) ≡ count_after (is_denied_by rule entry.event) (denials rule entries)
@@ -42,7 +46,8 @@ denials_push (rule ∷ counted) entries entry =
     rw (here, denials_push counted entries entry) refl
 
 -- the counts with one more entry
-pub counts_push : (entries : List Entry) (entry : Entry) → counts_of (entries ++ entry ∷ []) ≡ counts_after entry.event (counts_of entries)
+pub counts_push : (entries : List Entry) (entry : Entry) → counts_of (entries ++ entry ∷ [])
+    ≡ counts_after entry.event (counts_of entries)
 counts_push entries entry =
     rw (
       count_push (λ (e : Entry). is_served e.event) entries entry,
@@ -79,7 +84,8 @@ are_apart [] = true
 are_apart (rule ∷ others) = is_apart rule others && are_apart others
 
 -- a rule of the list
-apart_at : (rule : Rule) (others : List Rule) (i : ℕ) (other : Rule) → is_apart rule others ≡ true → slice_get others i ≡ Some other
+apart_at : (rule : Rule) (others : List Rule) (i : ℕ) (other : Rule) → is_apart rule others ≡ true → slice_get others i
+    ≡ Some other
     → same_rule other rule ≡ false
 apart_at rule [] i other apart at = absurd (cc)
 apart_at rule (o ∷ others) zero other apart at =
@@ -89,25 +95,30 @@ apart_at rule (o ∷ others) zero other apart at =
 apart_at rule (o ∷ others) (suc i) other apart at = apart_at rule others i other (and_parts _ _ apart).1 at
 
 -- a denial by a rule that no rule of the list is
-none_denied : (rule : Rule) (others : List Rule) (numbers : List ℕ) → is_apart rule others ≡ true → length numbers ≡ length others
+none_denied : (rule : Rule) (others : List Rule) (numbers : List ℕ) → is_apart rule others ≡ true → length numbers
+    ≡ length others
     → denials_after (Some rule) others numbers ≡ numbers
 none_denied rule [] [] apart e = refl
 none_denied rule [] (n ∷ numbers) apart e = absurd (omega (arith, e))
 none_denied rule (o ∷ others) [] apart e = absurd (omega (arith, e))
 none_denied rule (o ∷ others) (n ∷ numbers) apart e =
     let here : same_rule rule o ≡ false = not-true _ (and_parts _ _ (and_parts _ _ apart).0).0 in
-    let behind : denials_after (Some rule) others numbers ≡ numbers = none_denied rule others numbers (and_parts _ _ apart).1 (omega (arith, e)) in
+    let behind : denials_after (Some rule) others numbers
+    ≡ numbers = none_denied rule others numbers (and_parts _ _ apart).1 (omega (arith, e)) in
     rw (here, behind) refl
 
 -- a rule's number is one more, where the rule stands in the list once
-counted_at : (counted : List Rule) (numbers : List ℕ) (i : ℕ) (rule : Rule) → are_apart counted ≡ true → length numbers ≡ length counted
-    → slice_get counted i ≡ Some rule → slice_set numbers i (slice_index_or numbers i 0 + 1) ≡ denials_after (Some rule) counted numbers
+counted_at : (counted : List Rule) (numbers : List ℕ) (i : ℕ) (rule : Rule) → are_apart counted ≡ true → length numbers
+    ≡ length counted
+    → slice_get counted i ≡ Some rule → slice_set numbers i (slice_index_or numbers i 0 + 1)
+    ≡ denials_after (Some rule) counted numbers
 counted_at [] numbers i rule apart e at = absurd (cc)
 counted_at (r ∷ counted) [] i rule apart e at = absurd (omega (arith, e))
 counted_at (r ∷ counted) (n ∷ numbers) zero rule apart e at =
     let same : r ≡ rule = cc in
     let here : same_rule r r ≡ true = (bytes_eq-Decides (rule_code r) (rule_code r)).1 refl in
-    let behind : denials_after (Some r) counted numbers ≡ numbers = none_denied r counted numbers (and_parts _ _ apart).0 (omega (arith, e)) in
+    let behind : denials_after (Some r) counted numbers
+    ≡ numbers = none_denied r counted numbers (and_parts _ _ apart).0 (omega (arith, e)) in
     subst (λ x. (n + 1) ∷ numbers ≡ denials_after (Some x) (r ∷ counted) (n ∷ numbers)) same (rw (here, behind) refl)
 counted_at (r ∷ counted) (n ∷ numbers) (suc i) rule apart e at =
     let here : same_rule rule r ≡ false = apart_at r counted i rule (and_parts _ _ apart).0 at in
@@ -128,46 +139,128 @@ none_counted (r ∷ counted) (n ∷ numbers) = ap (λ xs. n ∷ xs) (none_counte
 
 -- counts behind a user's call that was served, denied and refused
 pub served_counted : (c : Counts) (request : Request) (given : Answer) (shown : Served) → given ≡ answer.Served shown
-    → record { served = c.served + 1; denied = c.denied; refused = c.refused; cleaner = c.cleaner; rules = c.rules } ≡ counts_after (User request given) c
+    → record { served = c.served + 1; denied = c.denied; refused = c.refused; cleaner = c.cleaner; rules = c.rules }
+    ≡ counts_after (User request given) c
 unfolding is_served is_denied is_refused is_cleaner
 served_counted c request given shown e =
-    subst (λ x. record { served = c.served + 1; denied = c.denied; refused = c.refused; cleaner = c.cleaner; rules = c.rules } ≡ counts_after (User request x) c) (sym e)
-    (ap (λ (xs : List ℕ). record { served = c.served + 1; denied = c.denied; refused = c.refused; cleaner = c.cleaner; rules = xs }) (sym (none_counted rules c.rules)))
+    subst (λ x. record {
+      served = c.served + 1;
+      denied = c.denied;
+      refused = c.refused;
+      cleaner = c.cleaner;
+      rules = c.rules;
+    } ≡ counts_after (User request x) c) (sym e)
+    (ap (λ (xs : List ℕ). record {
+      served = c.served + 1;
+      denied = c.denied;
+      refused = c.refused;
+      cleaner = c.cleaner;
+      rules = xs;
+    }) (sym (none_counted rules c.rules)))
 
-pub denied_counted : (c : Counts) (request : Request) (given : Answer) (denial : Denial) (numbers : List ℕ) → given ≡ answer.Denied denial
+pub denied_counted : (c : Counts) (request : Request) (given : Answer) (denial : Denial) (numbers : List ℕ) → given
+    ≡ answer.Denied denial
     → numbers ≡ denials_after (Some denial.rule) rules c.rules
-    → record { served = c.served; denied = c.denied + 1; refused = c.refused; cleaner = c.cleaner; rules = numbers } ≡ counts_after (User request given) c
+    → record { served = c.served; denied = c.denied + 1; refused = c.refused; cleaner = c.cleaner; rules = numbers }
+    ≡ counts_after (User request given) c
 unfolding is_served is_denied is_refused is_cleaner
 denied_counted c request given denial numbers e counted =
-    subst (λ x. record { served = c.served; denied = c.denied + 1; refused = c.refused; cleaner = c.cleaner; rules = numbers } ≡ counts_after (User request x) c) (sym e)
-    (ap (λ (xs : List ℕ). record { served = c.served; denied = c.denied + 1; refused = c.refused; cleaner = c.cleaner; rules = xs }) counted)
+    subst (λ x. record {
+      served = c.served;
+      denied = c.denied + 1;
+      refused = c.refused;
+      cleaner = c.cleaner;
+      rules = numbers;
+    } ≡ counts_after (User request x) c) (sym e)
+    (ap (λ (xs : List ℕ). record {
+      served = c.served;
+      denied = c.denied + 1;
+      refused = c.refused;
+      cleaner = c.cleaner;
+      rules = xs;
+    }) counted)
 
-pub refused_counted : (c : Counts) (request : Request) (given : Answer) (resource : Resource) → given ≡ answer.Refused resource
-    → record { served = c.served; denied = c.denied; refused = c.refused + 1; cleaner = c.cleaner; rules = c.rules } ≡ counts_after (User request given) c
+pub refused_counted : (c : Counts) (request : Request) (given : Answer) (resource : Resource) → given
+    ≡ answer.Refused resource
+    → record { served = c.served; denied = c.denied; refused = c.refused + 1; cleaner = c.cleaner; rules = c.rules }
+    ≡ counts_after (User request given) c
 unfolding is_served is_denied is_refused is_cleaner
 refused_counted c request given resource e =
-    subst (λ x. record { served = c.served; denied = c.denied; refused = c.refused + 1; cleaner = c.cleaner; rules = c.rules } ≡ counts_after (User request x) c) (sym e)
-    (ap (λ (xs : List ℕ). record { served = c.served; denied = c.denied; refused = c.refused + 1; cleaner = c.cleaner; rules = xs }) (sym (none_counted rules c.rules)))
+    subst (λ x. record {
+      served = c.served;
+      denied = c.denied;
+      refused = c.refused + 1;
+      cleaner = c.cleaner;
+      rules = c.rules;
+    } ≡ counts_after (User request x) c) (sym e)
+    (ap (λ (xs : List ℕ). record {
+      served = c.served;
+      denied = c.denied;
+      refused = c.refused + 1;
+      cleaner = c.cleaner;
+      rules = xs;
+    }) (sym (none_counted rules c.rules)))
 
 -- counts behind a cleaner's call that was denied, did nothing or is done
-pub cleaner_denied_counted : (c : Counts) (kind : CleanerKind) (came : CleanerOutcome) (numbers : List ℕ) → came ≡ outcome.Denied
+pub cleaner_denied_counted : (c : Counts) (kind : CleanerKind) (came : CleanerOutcome) (numbers : List ℕ) → came
+    ≡ outcome.Denied
     → numbers ≡ denials_after (Some IsSuperuser) rules c.rules
-    → record { served = c.served; denied = c.denied; refused = c.refused; cleaner = c.cleaner + 1; rules = numbers } ≡ counts_after (Cleaner kind came) c
+    → record { served = c.served; denied = c.denied; refused = c.refused; cleaner = c.cleaner + 1; rules = numbers }
+    ≡ counts_after (Cleaner kind came) c
 unfolding is_served is_denied is_refused is_cleaner
 cleaner_denied_counted c kind came numbers e counted =
-    subst (λ x. record { served = c.served; denied = c.denied; refused = c.refused; cleaner = c.cleaner + 1; rules = numbers } ≡ counts_after (Cleaner kind x) c) (sym e)
-    (ap (λ (xs : List ℕ). record { served = c.served; denied = c.denied; refused = c.refused; cleaner = c.cleaner + 1; rules = xs }) counted)
+    subst (λ x. record {
+      served = c.served;
+      denied = c.denied;
+      refused = c.refused;
+      cleaner = c.cleaner + 1;
+      rules = numbers;
+    } ≡ counts_after (Cleaner kind x) c) (sym e)
+    (ap (λ (xs : List ℕ). record {
+      served = c.served;
+      denied = c.denied;
+      refused = c.refused;
+      cleaner = c.cleaner + 1;
+      rules = xs;
+    }) counted)
 
-pub fault_counted : (c : Counts) (kind : CleanerKind) (came : CleanerOutcome) (fault : CleanFault) → came ≡ outcome.Fault fault
-    → record { served = c.served; denied = c.denied; refused = c.refused; cleaner = c.cleaner + 1; rules = c.rules } ≡ counts_after (Cleaner kind came) c
+pub fault_counted : (c : Counts) (kind : CleanerKind) (came : CleanerOutcome) (fault : CleanFault) → came
+    ≡ outcome.Fault fault
+    → record { served = c.served; denied = c.denied; refused = c.refused; cleaner = c.cleaner + 1; rules = c.rules }
+    ≡ counts_after (Cleaner kind came) c
 unfolding is_served is_denied is_refused is_cleaner
 fault_counted c kind came fault e =
-    subst (λ x. record { served = c.served; denied = c.denied; refused = c.refused; cleaner = c.cleaner + 1; rules = c.rules } ≡ counts_after (Cleaner kind x) c) (sym e)
-    (ap (λ (xs : List ℕ). record { served = c.served; denied = c.denied; refused = c.refused; cleaner = c.cleaner + 1; rules = xs }) (sym (none_counted rules c.rules)))
+    subst (λ x. record {
+      served = c.served;
+      denied = c.denied;
+      refused = c.refused;
+      cleaner = c.cleaner + 1;
+      rules = c.rules;
+    } ≡ counts_after (Cleaner kind x) c) (sym e)
+    (ap (λ (xs : List ℕ). record {
+      served = c.served;
+      denied = c.denied;
+      refused = c.refused;
+      cleaner = c.cleaner + 1;
+      rules = xs;
+    }) (sym (none_counted rules c.rules)))
 
 pub done_counted : (c : Counts) (kind : CleanerKind) (came : CleanerOutcome) (number : ℕ) → came ≡ outcome.Done number
-    → record { served = c.served; denied = c.denied; refused = c.refused; cleaner = c.cleaner + 1; rules = c.rules } ≡ counts_after (Cleaner kind came) c
+    → record { served = c.served; denied = c.denied; refused = c.refused; cleaner = c.cleaner + 1; rules = c.rules }
+    ≡ counts_after (Cleaner kind came) c
 unfolding is_served is_denied is_refused is_cleaner
 done_counted c kind came number e =
-    subst (λ x. record { served = c.served; denied = c.denied; refused = c.refused; cleaner = c.cleaner + 1; rules = c.rules } ≡ counts_after (Cleaner kind x) c) (sym e)
-    (ap (λ (xs : List ℕ). record { served = c.served; denied = c.denied; refused = c.refused; cleaner = c.cleaner + 1; rules = xs }) (sym (none_counted rules c.rules)))
+    subst (λ x. record {
+      served = c.served;
+      denied = c.denied;
+      refused = c.refused;
+      cleaner = c.cleaner + 1;
+      rules = c.rules;
+    } ≡ counts_after (Cleaner kind x) c) (sym e)
+    (ap (λ (xs : List ℕ). record {
+      served = c.served;
+      denied = c.denied;
+      refused = c.refused;
+      cleaner = c.cleaner + 1;
+      rules = xs;
+    }) (sym (none_counted rules c.rules)))

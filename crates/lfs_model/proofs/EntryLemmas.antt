@@ -15,9 +15,12 @@ abbrev Alike : ℕ → ℕ → List Entry → World → List Entry → World →
 Alike numbers segments users w entries v =
     IsLegal numbers segments users w × (world_after numbers users w ≡ world_after numbers entries v)
 
-left_out : (numbers segments session : ℕ) (caller : Caller) (event : Event) (entries : List Entry) (w : World) → IsEvent numbers segments w caller event
-    → Alike numbers segments (users_alone entries) (after_event numbers w caller event) entries (after_event numbers w caller event)
-    → Alike numbers segments (journaled session caller (users_event event) ++ users_alone entries) w entries (after_event numbers w caller event)
+left_out : (numbers segments session : ℕ) (caller : Caller) (event : Event) (entries : List Entry) (w : World)
+    → IsEvent numbers segments w caller event
+    → Alike numbers segments (users_alone entries) (after_event numbers w caller event) entries
+    (after_event numbers w caller event)
+    → Alike numbers segments (journaled session caller (users_event event) ++ users_alone entries) w entries
+    (after_event numbers w caller event)
 left_out numbers segments session caller (User Sync (Served shown)) entries w is rest = rest
 left_out numbers segments session caller (User Sync (Denied denial)) entries w is rest = rest
 left_out numbers segments session caller (User Sync (Refused resource)) entries w is rest = rest
@@ -26,7 +29,8 @@ left_out numbers segments session caller (User request answer) entries w is rest
 left_out numbers segments session caller (Cleaner kind outcome) entries w is rest = rest
 
 pub users_alone_law : (numbers segments : ℕ) (entries : List Entry) (w : World) → IsLegal numbers segments entries w
-    → IsLegal numbers segments (users_alone entries) w × (world_after numbers (users_alone entries) w ≡ world_after numbers entries w)
+    → IsLegal numbers segments (users_alone entries) w
+    × (world_after numbers (users_alone entries) w ≡ world_after numbers entries w)
 users_alone_law numbers segments [] w legal = (tt, refl)
 users_alone_law numbers segments (e ∷ entries) w legal =
     left_out numbers segments e.session e.cred e.event entries w legal.0

@@ -1,5 +1,6 @@
 -- What `==` of requests and of answers says: that they are the same.
-use Rattle.std.proofs.Common.{◌≡◌, ℕ, ◌-◌, Bool, true, false, not, List, ◌++◌, ◌&&◌, length, take, replicate, refl, sym, ap, subst, ◌∙◌}
+use Rattle.std.proofs.Common.{◌≡◌, ℕ, ◌-◌, Bool, true, false, not, List, ◌++◌, ◌&&◌, length, take, replicate, refl, sym}
+use Rattle.std.proofs.Common.{ap, subst, ◌∙◌}
 use Rattle.std.proofs.lemmas.Bool.{and_parts, not-false, true≢false}
 use Rattle.std.proofs.Math.Seq.{take-append_seam}
 use Rattle.std.specs.Cmp.Lexicographic.{pointwise}
@@ -23,7 +24,9 @@ use Rattle.lfs_types.specs.declared.level.Level.TheVariants as levels
 use Rattle.lfs_types.specs.declared.request.Place.{Place}
 use Rattle.lfs_types.specs.declared.request.Place.TheVariants.{At, End}
 use Rattle.lfs_types.specs.declared.request.Request.{Request}
-use Rattle.lfs_types.specs.declared.request.Request.TheVariants.{Stat, Read, Write, List as Names, SetLength, Create, Mkdir, Unlink, Rmdir, Rename, Chmod, Chown, Chflags, SetLevel, Sync}
+use Rattle.lfs_types.specs.declared.request.Request.TheVariants.{Stat, Read, Write, List as Names, SetLength, Create}
+use Rattle.lfs_types.specs.declared.request.Request.TheVariants.{Mkdir, Unlink, Rmdir, Rename, Chmod, Chown, Chflags}
+use Rattle.lfs_types.specs.declared.request.Request.TheVariants.{SetLevel, Sync}
 use Rattle.lfs_types.specs.declared.rule.Denial.{Denial}
 use Rattle.lfs_types.specs.declared.rule.Rule.{Rule}
 use Rattle.lfs_types.specs.declared.rule.Rule.TheVariants as rules
@@ -50,7 +53,8 @@ bytes xs ys h = (slice_eq-Decides Decides-eqb xs ys (pointwise nat_eq xs ys) ref
 
 names : (p q : List (List ℕ)) → pointwise (pointwise nat_eq) p q ≡ true → p ≡ q
 names p q h =
-    (slice_eq-Decides (λ xs ys. slice_eq-Decides Decides-eqb xs ys (pointwise nat_eq xs ys) refl) p q (pointwise (pointwise nat_eq) p q) refl).0 h
+    (slice_eq-Decides (λ xs ys. slice_eq-Decides Decides-eqb xs ys (pointwise nat_eq xs ys) refl) p q
+    (pointwise (pointwise nat_eq) p q) refl).0 h
 
 levels_same : (a b : Level) → level-eq.ghosts.eq a b ≡ true → a ≡ b
 levels_same levels.PermanentlyInsecure levels.PermanentlyInsecure h = refl
@@ -101,7 +105,8 @@ places_same End End h = refl
 places_same a b h = absurd (true≢false (sym h))
 
 -- two facts of a path and a number
-two : {A : Type 0} (f : List (List ℕ) → ℕ → A) (p q : List (List ℕ)) (m n : ℕ) → (pointwise (pointwise nat_eq) p q && nat_eq m n) ≡ true → f p m ≡ f q n
+two : {A : Type 0} (f : List (List ℕ) → ℕ → A) (p q : List (List ℕ)) (m n : ℕ)
+    → (pointwise (pointwise nat_eq) p q && nat_eq m n) ≡ true → f p m ≡ f q n
 two f p q m n h =
     let both = and_parts (pointwise (pointwise nat_eq) p q) (nat_eq m n) h in
     ap (λ x. f x m) (names p q both.0) ∙ ap (f q) (nats m n both.1)
@@ -114,13 +119,16 @@ three f p q m n k l h =
     ap (λ x. f x m k) (names p q first.0) ∙ ap (λ x. f q x k) (nats m n rest.0) ∙ ap (f q n) (nats k l rest.1)
 
 written : (p q : List (List ℕ)) (at to : Place) (b c : List ℕ)
-    → (pointwise (pointwise nat_eq) p q && (place-eq.ghosts.eq at to && pointwise nat_eq b c)) ≡ true → Write p at b ≡ Write q to c
+    → (pointwise (pointwise nat_eq) p q && (place-eq.ghosts.eq at to && pointwise nat_eq b c)) ≡ true → Write p at b
+    ≡ Write q to c
 written p q at to b c h =
     let first = and_parts (pointwise (pointwise nat_eq) p q) (place-eq.ghosts.eq at to && pointwise nat_eq b c) h in
     let rest = and_parts (place-eq.ghosts.eq at to) (pointwise nat_eq b c) first.1 in
-    ap (λ x. Write x at b) (names p q first.0) ∙ ap (λ x. Write q x b) (places_same at to rest.0) ∙ ap (Write q to) (bytes b c rest.1)
+    ap (λ x. Write x at b) (names p q first.0) ∙ ap (λ x. Write q x b) (places_same at to rest.0)
+    ∙ ap (Write q to) (bytes b c rest.1)
 
-renamed : (p q r s : List (List ℕ)) → (pointwise (pointwise nat_eq) p q && pointwise (pointwise nat_eq) r s) ≡ true → Rename p r ≡ Rename q s
+renamed : (p q r s : List (List ℕ)) → (pointwise (pointwise nat_eq) p q && pointwise (pointwise nat_eq) r s) ≡ true
+    → Rename p r ≡ Rename q s
 renamed p q r s h =
     let both = and_parts (pointwise (pointwise nat_eq) p q) (pointwise (pointwise nat_eq) r s) h in
     ap (λ x. Rename x r) (names p q both.0) ∙ ap (Rename q) (names r s both.1)
@@ -193,16 +201,19 @@ answers_same a b h = absurd (true≢false (sym h))
 abbrev pub caller_eq : Caller → Caller → Bool
 caller_eq a b =
     nat_eq a.uid b.uid && (nat_eq (length a.groups) (length b.groups)
-    && (pointwise nat_eq (a.groups ++ replicate (16 - length a.groups) 0) (b.groups ++ replicate (16 - length b.groups) 0) && beq a.init b.init))
+    && (pointwise nat_eq (a.groups ++ replicate (16 - length a.groups) 0) (b.groups
+    ++ replicate (16 - length b.groups) 0) && beq a.init b.init))
 
 groups_same : (xs ys pad end : List ℕ) → length xs ≡ length ys → xs ++ pad ≡ ys ++ end → xs ≡ ys
 groups_same xs ys pad end many same =
-    sym (take-append_seam xs pad) ∙ ap (λ n. take n (xs ++ pad)) many ∙ ap (take (length ys)) same ∙ take-append_seam ys end
+    sym (take-append_seam xs pad) ∙ ap (λ n. take n (xs ++ pad)) many ∙ ap (take (length ys)) same
+    ∙ take-append_seam ys end
 
 pub callers_same : (a b : Caller) → false ≡ not (caller_eq a b) → a ≡ b
 callers_same a b none =
     let init = beq a.init b.init in
-    let padded = pointwise nat_eq (a.groups ++ replicate (16 - length a.groups) 0) (b.groups ++ replicate (16 - length b.groups) 0) in
+    let padded = pointwise nat_eq (a.groups ++ replicate (16 - length a.groups) 0) (b.groups
+    ++ replicate (16 - length b.groups) 0) in
     let h = not-false (caller_eq a b) (sym none) in
     let h0 = and_parts (nat_eq a.uid b.uid) (nat_eq (length a.groups) (length b.groups) && (padded && init)) h in
     let h1 = and_parts (nat_eq (length a.groups) (length b.groups)) (padded && init) h0.1 in

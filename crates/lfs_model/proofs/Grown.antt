@@ -22,7 +22,8 @@ module _ (rows : Rows) (tree : IsTree rows) (n : ℕ) (row dir : Row)
   grown = map.insert rows n row
 
   other_row : (m : ℕ) (r : Row) → map.get rows m ≡ Some r → m ≢ n
-  other_row m r e same = let none : map.get rows m ≡ None = subst (λ k. map.get rows k ≡ None) (sym same) absent in absurd (cc)
+  other_row m r e same = let none : map.get rows m
+      ≡ None = subst (λ k. map.get rows k ≡ None) (sym same) absent in absurd (cc)
 
   climb : (k m : ℕ) (r : Row) → map.get rows m ≡ Some r → ancestor rows k m ≡ root → ancestor grown k m ≡ root
   unfolding ancestor
@@ -39,7 +40,8 @@ module _ (rows : Rows) (tree : IsTree rows) (n : ℕ) (row dir : Row)
   was_row : (m : ℕ) (r : Row) → map.get grown m ≡ Some r → m ≢ n → map.get rows m ≡ Some r
   was_row m r e other = sym (get-insert_other rows n row m other) ∙ e
 
-  climb_new : (m : ℕ) (r : Row) → map.get grown m ≡ Some r → m ≡ n → (k : ℕ) → ancestor rows k row.parent ≡ root → ancestor grown (suc k) m ≡ root
+  climb_new : (m : ℕ) (r : Row) → map.get grown m ≡ Some r → m ≡ n → (k : ℕ) → ancestor rows k row.parent ≡ root
+      → ancestor grown (suc k) m ≡ root
   unfolding ancestor
   climb_new m r e same k way =
       let is = is_row m r e same in

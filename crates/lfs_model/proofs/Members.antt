@@ -1,5 +1,6 @@
 -- The rows that hang in a directory, and their names.
-use Rattle.std.proofs.Common.{◌≡◌, ◌≢◌, ℕ, ◌<◌, Bool, true, false, List, [], ◌∷◌, length, get_or, T, Option, None, Some, refl, sym, ap, subst, ◌∙◌, arith}
+use Rattle.std.proofs.Common.{◌≡◌, ◌≢◌, ℕ, ◌<◌, Bool, true, false, List, [], ◌∷◌, length, get_or, T, Option, None, Some}
+use Rattle.std.proofs.Common.{refl, sym, ap, subst, ◌∙◌, arith}
 use Rattle.std.specs.Prelude.{◌==◌, not, map as mapped, AllPairs, Contains, Decides}
 use Rattle.std.specs.Cmp.{nat_cmp_total, eq_by_cmp_equiv}
 use Rattle.std.specs.FinMap as map
@@ -32,7 +33,8 @@ pub Contains-map : {X Y : Type 0} (f : X → Y) (xs : List X) (x : X) → Contai
 Contains-map f xs x c = (c.0, omega (arith, length-map xs f, c.1), get_or-map f xs c.0 x (f x) c.1 ∙ ap f c.2)
 
 -- what a mapped list has comes from an element
-pub Contains-from_map : {X Y : Type 0} (f : X → Y) (xs : List X) (d : X) (y : Y) → Contains (mapped f xs) y → (x : X) × Contains xs x × (f x ≡ y)
+pub Contains-from_map : {X Y : Type 0} (f : X → Y) (xs : List X) (d : X) (y : Y) → Contains (mapped f xs) y → (x : X)
+    × Contains xs x × (f x ≡ y)
 Contains-from_map f xs d y c =
     let within : c.0 < length xs = omega (arith, length-map xs f, c.1) in
     (get_or xs c.0 d, Contains-get_or xs c.0 d within, sym (get_or-map f xs c.0 d y within) ∙ c.2)
@@ -49,13 +51,15 @@ true_from true t = refl
 true_from false t = absurd t
 
 module _ {X : Type 0} where
-  each_above : (n : ℕ) (es : List (ℕ × X)) → below_all nat_cmp n es ≡ true → AllByRecursion (λ m. nat_cmp n m ≡ Less) (mapped (λ (e : ℕ × X). e.0) es)
+  each_above : (n : ℕ) (es : List (ℕ × X)) → below_all nat_cmp n es ≡ true
+      → AllByRecursion (λ m. nat_cmp n m ≡ Less) (mapped (λ (e : ℕ × X). e.0) es)
   each_above n [] h = tt
   each_above n (e ∷ es) h =
       let two = and_parts (is_lt (nat_cmp n e.0)) (below_all nat_cmp n es) h in
       (less_is (nat_cmp n e.0) two.0, each_above n es two.1)
 
-  keys_rise : (es : List (ℕ × X)) → is_sorted nat_cmp es ≡ true → IsStrictlySortedBy nat_cmp (mapped (λ (e : ℕ × X). e.0) es)
+  keys_rise : (es : List (ℕ × X)) → is_sorted nat_cmp es ≡ true
+      → IsStrictlySortedBy nat_cmp (mapped (λ (e : ℕ × X). e.0) es)
   unfolding IsStrictlySortedBy
   keys_rise [] h = tt
   keys_rise (e ∷ es) h =
@@ -64,11 +68,18 @@ module _ {X : Type 0} where
 
 -- ---- the rows that hang in a directory
 
-hanging_in : (rows : Rows) (parent n : ℕ) (o : Option Row) → map.get rows n ≡ o → hangs_in parent n o ≡ true → IsChild rows parent (name_of o) n
+hanging_in : (rows : Rows) (parent n : ℕ) (o : Option Row) → map.get rows n ≡ o → hangs_in parent n o ≡ true
+    → IsChild rows parent (name_of o) n
 hanging_in rows parent n None is h = absurd (cc)
 hanging_in rows parent n (Some r) is h =
     let two = and_parts (not (n == root)) (r.parent == parent) h in
-    record { row = r; there = is; below = eqb-false n root (not-true (n == root) two.0); hangs = eqb-true r.parent parent two.1; named = refl }
+    record {
+      row = r;
+      there = is;
+      below = eqb-false n root (not-true (n == root) two.0);
+      hangs = eqb-true r.parent parent two.1;
+      named = refl;
+    }
 
 module _ (rows : Rows) (parent : ℕ) where
   -- what hangs in a directory is one of its rows
@@ -76,9 +87,11 @@ module _ (rows : Rows) (parent : ℕ) where
   unfolding children
   children-has name n c =
       let test = λ (m : ℕ). hangs_in parent m (map.get rows m) in
-      let hangs : test n ≡ true = ap (hangs_in parent n) c.there ∙ and_from _ _ (ap not (ne_eqb n root c.below)) (eq-eqb c.row.parent parent c.hangs) in
+      let hangs : test n ≡ true = ap (hangs_in parent n) c.there
+      ∙ and_from _ _ (ap not (ne_eqb n root c.below)) (eq-eqb c.row.parent parent c.hangs) in
       (is_member-Decides number_eq-Decides (children rows parent) n).0
-      (is_member-filter (eq_by_cmp_equiv nat_cmp_total) test n (λ x same. ap test (number_eq-true n x same)) (map.keys rows)
+      (is_member-filter (eq_by_cmp_equiv nat_cmp_total) test n (λ x same. ap test (number_eq-true n x same))
+      (map.keys rows)
       ∙ and_from _ _ (is_key rows n c.row c.there) hangs)
 
   -- a row of a directory hangs there under its name
@@ -86,28 +99,33 @@ module _ (rows : Rows) (parent : ℕ) where
   unfolding children
   children-hang n c =
       let test = λ (m : ℕ). hangs_in parent m (map.get rows m) in
-      hanging_in rows parent n (map.get rows n) refl (All-contains (λ m. test m ≡ true) (children rows parent) n (filter_passes test (map.keys rows)) c)
+      hanging_in rows parent n (map.get rows n) refl
+      (All-contains (λ m. test m ≡ true) (children rows parent) n (filter_passes test (map.keys rows)) c)
 
   -- a row in which nothing hangs has no children
-  pub children-none : ((name : List ℕ) (n : ℕ) → IsChild rows parent name n → ⊥) → (length (children rows parent) == 0) ≡ true
+  pub children-none : ((name : List ℕ) (n : ℕ) → IsChild rows parent name n → ⊥) → (length (children rows parent) == 0)
+      ≡ true
   children-none none = eq-eqb _ 0 (no_element (children rows parent) (λ n c. none _ n (children-hang n c)))
 
   -- its rows are listed by number
   pub children-sorted : IsStrictlySortedBy nat_cmp (children rows parent)
   unfolding children
   children-sorted =
-      IsStrictlySortedBy-filter nat_cmp (λ m. hangs_in parent m (map.get rows m)) (map.keys rows) (keys_rise (map.entries rows) (true_from _ (map.entries_sorted rows)))
+      IsStrictlySortedBy-filter nat_cmp (λ m. hangs_in parent m (map.get rows m)) (map.keys rows)
+      (keys_rise (map.entries rows) (true_from _ (map.entries_sorted rows)))
 
   -- a directory has each of its rows once
   pub children-rise : AllPairs (λ (m n : ℕ). m < n) (children rows parent)
-  children-rise = AllPairs-from_increasing (children rows parent) (IsStrictlyIncreasing-from_sorted (children rows parent) children-sorted)
+  children-rise = AllPairs-from_increasing (children rows parent)
+      (IsStrictlyIncreasing-from_sorted (children rows parent) children-sorted)
 
   -- ---- their names
 
   -- the names have that of each row that hangs there
   pub names_in-has : (name : List ℕ) (n : ℕ) → IsChild rows parent name n → Contains (names_in rows parent) name
   names_in-has name n c =
-      subst (Contains (names_in rows parent)) (ap name_of c.there ∙ c.named) (Contains-map (λ m. name_of (map.get rows m)) (children rows parent) n (children-has name n c))
+      subst (Contains (names_in rows parent)) (ap name_of c.there ∙ c.named)
+      (Contains-map (λ m. name_of (map.get rows m)) (children rows parent) n (children-has name n c))
 
   -- each of them is such a row's
   pub names_in-hang : (name : List ℕ) → Contains (names_in rows parent) name → (n : ℕ) × IsChild rows parent name n
@@ -125,6 +143,8 @@ module _ (rows : Rows) (parent : ℕ) where
       let m = get_or ns i 0 in
       let n = get_or ns j 0 in
       let names : f m ≡ f n = sym (get_or-map f ns i 0 d earlier) ∙ same ∙ get_or-map f ns j 0 d inside in
-      let one : m ≡ n = unique parent (f n) m n (subst (λ q. IsChild rows parent q m) names (children-hang m (Contains-get_or ns i 0 earlier))) (children-hang n (Contains-get_or ns j 0 inside)) in
+      let one : m ≡ n = unique parent (f n) m n
+      (subst (λ q. IsChild rows parent q m) names (children-hang m (Contains-get_or ns i 0 earlier)))
+      (children-hang n (Contains-get_or ns j 0 inside)) in
       let less : m < n = children-rise i j 0 before inside in
       omega (arith, one, less)

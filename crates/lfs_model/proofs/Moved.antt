@@ -13,7 +13,8 @@ use Rattle.lfs_types.proofs.Somewhere.{some_and, is_some_and}
 
 -- the new parent is a directory, and the row is none of its ancestors
 module _ (rows : Rows) (tree : IsTree rows) (n : ℕ) (old : Row) (was : map.get rows n ≡ Some old) (below : n ≡ root → ⊥)
-    (parent : ℕ) (name : List ℕ) (dir : Row) (there : map.get rows parent ≡ Some dir) (directory : dir.file.kind ≡ Directory)
+    (parent : ℕ) (name : List ℕ) (dir : Row) (there : map.get rows parent ≡ Some dir) (directory : dir.file.kind
+    ≡ Directory)
     (free : child rows parent name ≡ None)
     (apart : (k : ℕ) → ancestor rows k parent ≢ n) where
   abbrev row : Row
@@ -52,7 +53,8 @@ module _ (rows : Rows) (tree : IsTree rows) (n : ℕ) (old : Row) (was : map.get
       (cases_eq m n)
 
   -- a directory is a directory still
-  directory_after : (m : ℕ) → IsSomeAnd (map.get rows m) (λ p. p.file.kind ≡ Directory) → IsSomeAnd (map.get moved m) (λ p. p.file.kind ≡ Directory)
+  directory_after : (m : ℕ) → IsSomeAnd (map.get rows m) (λ p. p.file.kind ≡ Directory)
+      → IsSomeAnd (map.get moved m) (λ p. p.file.kind ≡ Directory)
   directory_after m h =
       let one = some_and (map.get rows m) _ h in
       ⊎_elim
@@ -74,6 +76,8 @@ module _ (rows : Rows) (tree : IsTree rows) (n : ℕ) (old : Row) (was : map.get
     reached = each_inserted rows n row (λ m x. (k : ℕ) × (ancestor moved k m ≡ root))
         (climb_moved n refl)
         (λ m x far e. let way = tree.reached m x e in climb way.0 m way.1);
-    empty = each_inserted rows n row (λ m x. x.file.kind ≡ Directory → x.file.bytes ≡ []) (tree.empty n old was) (λ m x far e. tree.empty m x e);
-    numbers = each_inserted rows n row (λ m x. m ≢ root → FIRST_INODE ≤ m) (tree.numbers n old was) (λ m x far e. tree.numbers m x e);
+    empty = each_inserted rows n row (λ m x. x.file.kind ≡ Directory → x.file.bytes ≡ []) (tree.empty n old was)
+        (λ m x far e. tree.empty m x e);
+    numbers = each_inserted rows n row (λ m x. m ≢ root → FIRST_INODE ≤ m) (tree.numbers n old was)
+        (λ m x far e. tree.numbers m x e);
   }

@@ -8,7 +8,9 @@ use Rattle.lfs_types.specs.Tree.{File, Row, World, root, fresh_root, opening_con
 use Rattle.lfs_types.specs.declared.answer.Answer.{Answer}
 use Rattle.lfs_types.specs.declared.attrs.Kind.TheVariants.{Directory}
 use Rattle.lfs_types.specs.declared.request.Request.{Request}
-use Rattle.lfs_types.specs.declared.request.Request.TheVariants.{Stat, Read, Write, List as Names, SetLength, Create, Mkdir, Unlink, Rmdir, Rename, Chmod, Chown, Chflags, SetLevel, Sync}
+use Rattle.lfs_types.specs.declared.request.Request.TheVariants.{Stat, Read, Write, List as Names, SetLength, Create}
+use Rattle.lfs_types.specs.declared.request.Request.TheVariants.{Mkdir, Unlink, Rmdir, Rename, Chmod, Chown, Chflags}
+use Rattle.lfs_types.specs.declared.request.Request.TheVariants.{SetLevel, Sync}
 use Rattle.lfs_model.specs.declared.journal.Call.{Call}
 use Rattle.lfs_model.specs.declared.journal.Entry.{Entry}
 use Rattle.lfs_model.specs.World.{Rows, ancestor, IsTree, IsChild}
@@ -49,7 +51,8 @@ opening_tree = record {
   rooted = is_some_and _ (get-insert_same map.empty root root_row) (refl, refl, refl);
   unique = λ parent name m n c d. absurd (no_child parent name m c);
   parents = λ n r e. let is = only_root n r e in
-      subst (λ (x : Row). IsSomeAnd (map.get opening_rows x.parent) (λ p. p.file.kind ≡ Directory)) is.1 (is_some_and _ (get-insert_same map.empty root root_row) refl);
+      subst (λ (x : Row). IsSomeAnd (map.get opening_rows x.parent) (λ p. p.file.kind ≡ Directory)) is.1
+      (is_some_and _ (get-insert_same map.empty root root_row) refl);
   reached = λ n r e. (0, (only_root n r e).0);
   empty = λ n r e k. let is = only_root n r e in ap (λ (x : Row). x.file.bytes) (sym is.1);
   numbers = λ n r e apart. absurd (apart (only_root n r e).0);
@@ -61,13 +64,16 @@ none_contained e h = absurd (omega (arith, h.1))
 -- ---- an entry more
 
 -- the world after some entries and others is the one that the others leave of it
-pub world_after-append : (numbers : ℕ) (es fs : List Entry) (w : World) → world_after numbers (es ++ fs) w ≡ world_after numbers fs (world_after numbers es w)
+pub world_after-append : (numbers : ℕ) (es fs : List Entry) (w : World) → world_after numbers (es ++ fs) w
+    ≡ world_after numbers fs (world_after numbers es w)
 world_after-append numbers [] fs w = refl
 world_after-append numbers (e ∷ es) fs w = world_after-append numbers es fs (after_event numbers w e.cred e.event)
 
-pub IsLegal-append : (numbers segments : ℕ) (es : List Entry) (e : Entry) (w : World) → IsLegal numbers segments es w → IsEvent numbers segments (world_after numbers es w) e.cred e.event → IsLegal numbers segments (es ++ e ∷ []) w
+pub IsLegal-append : (numbers segments : ℕ) (es : List Entry) (e : Entry) (w : World) → IsLegal numbers segments es w
+    → IsEvent numbers segments (world_after numbers es w) e.cred e.event → IsLegal numbers segments (es ++ e ∷ []) w
 IsLegal-append numbers segments [] e w legal is = (is, tt)
-IsLegal-append numbers segments (x ∷ es) e w legal is = (legal.0, IsLegal-append numbers segments es e (after_event numbers w x.cred x.event) legal.1 is)
+IsLegal-append numbers segments (x ∷ es) e w legal is =
+    (legal.0, IsLegal-append numbers segments es e (after_event numbers w x.cred x.event) legal.1 is)
 
 -- what is shown as a list is copied
 pub list_copies : (w : World) (request : Request) → IsList (answer_of w request) → IsCopying request
@@ -90,11 +96,14 @@ list_copies w Sync h = absurd h
 -- ---- runs
 
 -- what a call more keeps
-pub kept-append : (calls : List Call) (answers : List Answer) (call : Call) (answer : Answer) → length answers ≡ length calls
-    → kept (calls ++ call ∷ []) (answers ++ answer ∷ []) ≡ kept calls answers ++ kept_entry call.session call.cred call.request answer
+pub kept-append : (calls : List Call) (answers : List Answer) (call : Call) (answer : Answer) → length answers
+    ≡ length calls
+    → kept (calls ++ call ∷ []) (answers ++ answer ∷ []) ≡ kept calls answers
+    ++ kept_entry call.session call.cred call.request answer
 kept-append [] [] call answer h = append-nil (kept_entry call.session call.cred call.request answer)
 kept-append [] (a ∷ answers) call answer h = absurd (omega (arith, h))
 kept-append (c ∷ calls) [] call answer h = absurd (omega (arith, h))
 kept-append (c ∷ calls) (a ∷ answers) call answer h =
     ap (λ l. kept_entry c.session c.cred c.request a ++ l) (kept-append calls answers call answer (omega (arith, h)))
-    ∙ sym (append_assoc (kept_entry c.session c.cred c.request a) (kept calls answers) (kept_entry call.session call.cred call.request answer))
+    ∙ sym (append_assoc (kept_entry c.session c.cred c.request a) (kept calls answers)
+    (kept_entry call.session call.cred call.request answer))

@@ -16,16 +16,31 @@ module _ (rows : Rows) (n : ℕ) where
   -- a row that is left isn't the removed one, and is what it was
   pub row_left : (m : ℕ) (r : Row) → map.get (map.remove rows n) m ≡ Some r → (m ≢ n) × (map.get rows m ≡ Some r)
   row_left m r e =
-      let other : m ≢ n = λ same. let none : map.get (map.remove rows n) m ≡ None = ap (map.get (map.remove rows n)) same ∙ get-remove_same rows n in absurd (cc) in
+      let other : m ≢ n = λ same. let none : map.get (map.remove rows n) m
+      ≡ None = ap (map.get (map.remove rows n)) same ∙ get-remove_same rows n in absurd (cc) in
       (other, sym (get-remove_other rows n m other) ∙ e)
 
   -- a row that is left hangs where it hung
-  pub hung : (parent : ℕ) (name : List ℕ) (m : ℕ) → IsChild (map.remove rows n) parent name m → IsChild rows parent name m
-  hung parent name m c = record { row = c.row; there = (row_left m c.row c.there).1; below = c.below; hangs = c.hangs; named = c.named }
+  pub hung : (parent : ℕ) (name : List ℕ) (m : ℕ) → IsChild (map.remove rows n) parent name m
+      → IsChild rows parent name m
+  hung parent name m c = record {
+    row = c.row;
+    there = (row_left m c.row c.there).1;
+    below = c.below;
+    hangs = c.hangs;
+    named = c.named;
+  }
 
   -- another row hangs where it hung
-  pub hangs_still : (parent : ℕ) (name : List ℕ) (m : ℕ) → m ≢ n → IsChild rows parent name m → IsChild (map.remove rows n) parent name m
-  hangs_still parent name m other c = record { row = c.row; there = get-remove_other rows n m other ∙ c.there; below = c.below; hangs = c.hangs; named = c.named }
+  pub hangs_still : (parent : ℕ) (name : List ℕ) (m : ℕ) → m ≢ n → IsChild rows parent name m
+      → IsChild (map.remove rows n) parent name m
+  hangs_still parent name m other c = record {
+    row = c.row;
+    there = get-remove_other rows n m other ∙ c.there;
+    below = c.below;
+    hangs = c.hangs;
+    named = c.named;
+  }
 
   -- no two rows hang under one parent and name
   pub unique-shrunk : IsUnique rows → IsUnique (map.remove rows n)
@@ -33,29 +48,36 @@ module _ (rows : Rows) (n : ℕ) where
 
   module _ (unique : IsUnique rows) where
     -- where the removed row hung, nothing hangs
-    pub child-removed : (parent : ℕ) (name : List ℕ) → IsChild rows parent name n → child (map.remove rows n) parent name ≡ None
+    pub child-removed : (parent : ℕ) (name : List ℕ) → IsChild rows parent name n
+        → child (map.remove rows n) parent name ≡ None
     child-removed parent name c = child-answer _ (unique-shrunk unique) parent name None
         (λ m d. (row_left m d.row d.there).0 (unique parent name m n (hung parent name m d) c))
 
-    same_answer : (parent : ℕ) (name : List ℕ) → (IsChild rows parent name n → ⊥) → (found : Option ℕ) → child rows parent name ≡ found → IsChildAnswer (map.remove rows n) parent name found
+    same_answer : (parent : ℕ) (name : List ℕ) → (IsChild rows parent name n → ⊥) → (found : Option ℕ)
+        → child rows parent name ≡ found → IsChildAnswer (map.remove rows n) parent name found
     same_answer parent name apart None e = λ m d. child-none rows parent name e m (hung parent name m d)
     same_answer parent name apart (Some m) e =
         let c = child-is rows parent name m e in
         hangs_still parent name m (λ same. apart (subst (IsChild rows parent name) same c)) c
 
     -- elsewhere what hung hangs still
-    pub child-left : (parent : ℕ) (name : List ℕ) → (IsChild rows parent name n → ⊥) → child (map.remove rows n) parent name ≡ child rows parent name
-    child-left parent name apart = child-answer _ (unique-shrunk unique) parent name (child rows parent name) (same_answer parent name apart _ refl)
+    pub child-left : (parent : ℕ) (name : List ℕ) → (IsChild rows parent name n → ⊥)
+        → child (map.remove rows n) parent name ≡ child rows parent name
+    child-left parent name apart = child-answer _ (unique-shrunk unique) parent name (child rows parent name)
+        (same_answer parent name apart _ refl)
 
     -- the removed row hung in one place only
-    pub child-left_elsewhere : (parent : ℕ) (name : List ℕ) → IsChild rows parent name n → (p : ℕ) (q : List ℕ) → (p ≡ parent → q ≡ name → ⊥) → child (map.remove rows n) p q ≡ child rows p q
+    pub child-left_elsewhere : (parent : ℕ) (name : List ℕ) → IsChild rows parent name n → (p : ℕ) (q : List ℕ)
+        → (p ≡ parent → q ≡ name → ⊥) → child (map.remove rows n) p q ≡ child rows p q
     child-left_elsewhere parent name c p q apart = child-left p q (λ d.
         let one : d.row ≡ c.row = cc (d.there, c.there) in
-        apart (sym d.hangs ∙ ap (λ (r : Row). r.parent) one ∙ c.hangs) (sym d.named ∙ ap (λ (r : Row). r.name) one ∙ c.named))
+        apart (sym d.hangs ∙ ap (λ (r : Row). r.parent) one ∙ c.hangs) (sym d.named ∙ ap (λ (r : Row). r.name) one
+        ∙ c.named))
 
 -- ---- the tree
 
-module _ (rows : Rows) (tree : IsTree rows) (n : ℕ) (below : n ≡ root → ⊥) (childless : (name : List ℕ) (m : ℕ) → IsChild rows n name m → ⊥) where
+module _ (rows : Rows) (tree : IsTree rows) (n : ℕ) (below : n ≡ root → ⊥) (childless : (name : List ℕ) (m : ℕ)
+    → IsChild rows n name m → ⊥) where
   abbrev shrunk : Rows
   shrunk = map.remove rows n
 
@@ -76,7 +98,8 @@ module _ (rows : Rows) (tree : IsTree rows) (n : ℕ) (below : n ≡ root → �
       let here : map.get shrunk m ≡ Some r = get-remove_other rows n m other ∙ e in
       let up = some_and (map.get rows r.parent) _ (tree.parents m r e) in
       let from : ancestor rows k r.parent ≡ root = subst (λ o. ancestor rows k (parent_of o) ≡ root) e h in
-      subst (λ o. ancestor shrunk k (parent_of o) ≡ root) (sym here) (climb k r.parent up.value (parent_apart m r e) up.is from)
+      subst (λ o. ancestor shrunk k (parent_of o) ≡ root) (sym here)
+      (climb k r.parent up.value (parent_apart m r e) up.is from)
 
   -- the way up of a row that is left is what it was
   pub ancestors_left : (k m : ℕ) (r : Row) → m ≢ n → map.get rows m ≡ Some r → ancestor shrunk k m ≡ ancestor rows k m

@@ -23,7 +23,8 @@ root_above rows tree =
     stuck rows root (ap parent_of r.is ∙ r.holds.0)
 
 -- no row but the root hangs in itself
-pub not_in_itself : (rows : Rows) → IsTree rows → (parent : ℕ) (name : List ℕ) (n : ℕ) → IsChild rows parent name n → parent ≢ n
+pub not_in_itself : (rows : Rows) → IsTree rows → (parent : ℕ) (name : List ℕ) (n : ℕ) → IsChild rows parent name n
+    → parent ≢ n
 not_in_itself rows tree parent name n c = λ same.
     let way = tree.reached n c.row c.there in
     c.below (sym (stuck rows n (ap parent_of c.there ∙ c.hangs ∙ same) way.0) ∙ way.1)
@@ -37,7 +38,8 @@ no_directory o r h e k =
     absurd (cc)
 
 -- nothing hangs in what is no directory
-pub no_parent : (rows : Rows) → IsTree rows → (n : ℕ) → is_directory_row (map.get rows n) ≡ false → (name : List ℕ) (m : ℕ) → IsChild rows n name m → ⊥
+pub no_parent : (rows : Rows) → IsTree rows → (n : ℕ) → is_directory_row (map.get rows n) ≡ false
+    → (name : List ℕ) (m : ℕ) → IsChild rows n name m → ⊥
 no_parent rows tree n h name m c =
     let up = some_and (map.get rows c.row.parent) _ (tree.parents m c.row c.there) in
     no_directory (map.get rows n) up.value h (ap (map.get rows) (sym c.hangs) ∙ up.is) up.holds

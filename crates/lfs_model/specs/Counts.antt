@@ -1,5 +1,6 @@
 -- How the calls of a journal were answered: what each number of them counts.
-use Rattle.std.specs.Prelude.{ℕ, ◌+◌, ◌-◌, ◌<◌, ◌^◌, All, Bool, true, false, List, [], ◌∷◌, Option, None, Some, count_by, if◌then◌else◌, map}
+use Rattle.std.specs.Prelude.{ℕ, ◌+◌, ◌-◌, ◌<◌, ◌^◌, All, Bool, true, false, List, [], ◌∷◌, Option, None, Some}
+use Rattle.std.specs.Prelude.{count_by, if◌then◌else◌, map}
 use Rattle.std.specs.Option.{option_eq}
 use Rattle.std.specs.Str.{bytes_eq}
 use Rattle.lfs_model.specs.declared.counts.Counts.{Counts}

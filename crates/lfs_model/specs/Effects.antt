@@ -1,5 +1,6 @@
 -- What allowed calls do, and what they show.
-use Rattle.std.specs.Prelude.{ℕ, zero, suc, ◌+◌, ◌==◌, min, List, [], ◌∷◌, length, Option, None, Some, is_some, if◌then◌else◌}
+use Rattle.std.specs.Prelude.{ℕ, zero, suc, ◌+◌, ◌==◌, min, List, [], ◌∷◌, length, Option, None, Some, is_some}
+use Rattle.std.specs.Prelude.{if◌then◌else◌}
 use Rattle.std.specs.FinMap as map
 use Rattle.std.specs.Ordering.{nat_cmp, is_lt}
 use Rattle.std.specs.Cmp.Lexicographic.{slice_cmp}
@@ -15,7 +16,9 @@ use Rattle.lfs_types.specs.declared.attrs.Kind.TheVariants.{File as Regular, Dir
 use Rattle.lfs_types.specs.declared.limits.TheConstants.{FIRST_INODE, TRANSFER_BYTES}
 use Rattle.lfs_types.specs.declared.request.Place.{Place}
 use Rattle.lfs_types.specs.declared.request.Request.{Request}
-use Rattle.lfs_types.specs.declared.request.Request.TheVariants.{Stat, Read, Write, List as Names, SetLength, Create, Mkdir, Unlink, Rmdir, Rename, Chmod, Chown, Chflags, SetLevel, Sync}
+use Rattle.lfs_types.specs.declared.request.Request.TheVariants.{Stat, Read, Write, List as Names, SetLength, Create}
+use Rattle.lfs_types.specs.declared.request.Request.TheVariants.{Mkdir, Unlink, Rmdir, Rename, Chmod, Chown, Chflags}
+use Rattle.lfs_types.specs.declared.request.Request.TheVariants.{SetLevel, Sync}
 use Rattle.lfs_rules.specs.SetId.{set_id_cleared}
 use Rattle.lfs_model.specs.World.{Rows, file_at, name_of, child, children}
 use Rattle.lfs_model.specs.Rules.{front, last, reached, start_in}
@@ -36,7 +39,10 @@ mode_after caller mode = if caller.uid == 0 then mode else set_id_cleared mode
 
 -- a file with bytes written to it
 abbrev pub written : Caller → Place → List ℕ → File → File
-written caller place bytes f = record f { mode = mode_after caller f.mode; bytes = splice f.bytes (start_in place (length f.bytes)) bytes }
+written caller place bytes f = record f {
+  mode = mode_after caller f.mode;
+  bytes = splice f.bytes (start_in place (length f.bytes)) bytes;
+}
 
 -- the world after a Write: no bytes change nothing
 abbrev pub after_write : World → Caller → List (List ℕ) → Place → List ℕ → World
@@ -68,9 +74,13 @@ without_row n w = record w { rows = map.remove w.rows n }
 -- the world with a row under another parent and another name
 abbrev pub with_place : Option Row → ℕ → ℕ → List ℕ → World → World
 with_place None n parent name w = w
-with_place (Some r) n parent name w = record w { rows = map.insert w.rows n (record r { parent = parent; name = name }) }
+with_place (Some r) n parent name w = record w {
+  rows =
+      map.insert w.rows n (record r { parent = parent; name = name });
+}
 
--- the world after a row got a place to which a name leads here: another row is taken away from it, and a row that has it
+-- the world after a row got a place to which a name leads here: another row is taken away from it, and a row that has
+-- it
 -- already stays
 abbrev pub after_rename : World → ℕ → Option ℕ → ℕ → List ℕ → World
 after_rename w n None parent name = with_place (map.get w.rows n) n parent name w
@@ -116,7 +126,8 @@ read_max = TRANSFER_BYTES
 -- a name put into names in byte order, before the first that isn't less
 unfoldable pub put_in_order : List ℕ → List (List ℕ) → List (List ℕ)
 put_in_order name [] = name ∷ []
-put_in_order name (first ∷ names) = if is_lt (slice_cmp nat_cmp first name) then first ∷ put_in_order name names else name ∷ first ∷ names
+put_in_order name (first ∷ names) = if is_lt (slice_cmp nat_cmp first name) then first ∷ put_in_order name names
+    else name ∷ first ∷ names
 
 -- names in byte order
 unfoldable pub in_byte_order : List (List ℕ) → List (List ℕ)
@@ -130,7 +141,8 @@ names_in rows parent = lists.map (λ n. name_of (map.get rows n)) (children rows
 -- what an allowed call shows of the world before it
 abbrev pub answer_of : World → Request → Served
 answer_of w (Stat path) = let n = reached w.rows root path in served.Stat n (attrs_of (file_at (map.get w.rows n)))
-answer_of w (Read path off len) = served.Bytes (slice_of (file_at (map.get w.rows (reached w.rows root path))).bytes off (min len read_max))
+answer_of w (Read path off len) = served.Bytes
+    (slice_of (file_at (map.get w.rows (reached w.rows root path))).bytes off (min len read_max))
 answer_of w (Names path) = served.Names (in_byte_order (names_in w.rows (reached w.rows root path)))
 answer_of w (Write path place bytes) = served.Done
 answer_of w (SetLength path len) = served.Done

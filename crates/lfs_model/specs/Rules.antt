@@ -1,5 +1,6 @@
 -- The rules that a call must pass, in order, and the first that fails.
-use Rattle.std.specs.Prelude.{◌≡◌, ℕ, ◌+◌, ◌==◌, nat_le, not, ◌||◌, Bool, true, false, List, [], ◌∷◌, ◌++◌, length, Option, None, Some, Result, Ok, Err, is_some, is_none, unwrap_or, if◌then◌else◌}
+use Rattle.std.specs.Prelude.{◌≡◌, ℕ, ◌+◌, ◌==◌, nat_le, not, ◌||◌, Bool, true, false, List, [], ◌∷◌, ◌++◌, length}
+use Rattle.std.specs.Prelude.{Option, None, Some, Result, Ok, Err, is_some, is_none, unwrap_or, if◌then◌else◌}
 use Rattle.std.specs.FinMap as map
 use Rattle.std.specs.List.{list_any}
 use Rattle.lfs_types.specs.Caller.{Caller}
@@ -13,10 +14,16 @@ use Rattle.lfs_types.specs.declared.limits.TheConstants.{FILE_BYTES}
 use Rattle.lfs_types.specs.declared.request.Place.{Place}
 use Rattle.lfs_types.specs.declared.request.Place.TheVariants.{At, End}
 use Rattle.lfs_types.specs.declared.request.Request.{Request}
-use Rattle.lfs_types.specs.declared.request.Request.TheVariants.{Stat, Read, Write, List as Names, SetLength, Create, Mkdir, Unlink, Rmdir, Rename, Chmod, Chown, Chflags, SetLevel, Sync}
+use Rattle.lfs_types.specs.declared.request.Request.TheVariants.{Stat, Read, Write, List as Names, SetLength, Create}
+use Rattle.lfs_types.specs.declared.request.Request.TheVariants.{Mkdir, Unlink, Rmdir, Rename, Chmod, Chown, Chflags}
+use Rattle.lfs_types.specs.declared.request.Request.TheVariants.{SetLevel, Sync}
 use Rattle.lfs_types.specs.declared.rule.Denial.{Denial}
 use Rattle.lfs_types.specs.declared.rule.Rule.{Rule}
-use Rattle.lfs_types.specs.declared.rule.Rule.TheVariants.{IsDirectory, GrantsSearch, NameThere, NameFree, IsNoDirectory, IsEmpty, IsNotRoot, IsNotBeneathItself, IsMutable, IsNotAppendOnly, GrantsRead, GrantsWrite, PassesSticky, IsOwner, MaySetOwner, IsSuperuser, MaySetFlags, KeepsSystemLocks, MaySetLevel, FitsFile}
+use Rattle.lfs_types.specs.declared.rule.Rule.TheVariants.{IsDirectory, GrantsSearch, NameThere, NameFree}
+use Rattle.lfs_types.specs.declared.rule.Rule.TheVariants.{IsNoDirectory, IsEmpty, IsNotRoot, IsNotBeneathItself}
+use Rattle.lfs_types.specs.declared.rule.Rule.TheVariants.{IsMutable, IsNotAppendOnly, GrantsRead, GrantsWrite}
+use Rattle.lfs_types.specs.declared.rule.Rule.TheVariants.{PassesSticky, IsOwner, MaySetOwner, IsSuperuser, MaySetFlags}
+use Rattle.lfs_types.specs.declared.rule.Rule.TheVariants.{KeepsSystemLocks, MaySetLevel, FitsFile}
 use Rattle.lfs_rules.specs.Grants.{grants_of}
 use Rattle.lfs_rules.specs.Locks.{is_immutable, is_append_only, may_set_flags, keeps_system_locks}
 use Rattle.lfs_rules.specs.Owners.{is_the_superuser, is_owner_or_superuser, may_set_owner}
@@ -142,7 +149,8 @@ making rows caller names =
     asks (not (length names == 0)) NameFree 0 0
     ∷ walk rows caller 0 0 root parents ++ making_tests caller free (attrs_at rows dir) (length parents)
 
--- the tests of a directory, at component k of the path of this index, and of what hangs in it, whose name is to be taken
+-- the tests of a directory, at component k of the path of this index, and of what hangs in it, whose name is to be
+-- taken
 -- away
 abbrev pub removing_tests : Caller → ℕ → Attrs → Attrs → ℕ → List Check
 removing_tests caller path dir file k =
@@ -221,18 +229,21 @@ abbrev pub moving_tests : Rows → Caller → List (List ℕ) → List (List ℕ
 moving_tests rows caller from to there =
     let moved = reached rows root from in
     if is_there moved there then [] else
-    placing_tests rows caller moved (reached rows root (front to)) there (length (front to)) ++ last_tests rows caller from to
+    placing_tests rows caller moved (reached rows root (front to)) there (length (front to))
+    ++ last_tests rows caller from to
 
 -- the tests of the way to a place, up to whether a name may be looked for there
 abbrev pub arriving : Rows → Caller → List (List ℕ) → List Check
 arriving rows caller names =
     let parents = front names in
     asks (not (length names == 0)) IsNotRoot 1 0
-    ∷ walk rows caller 1 0 root parents ++ searching_tests caller 1 (attrs_at rows (reached rows root parents)) (length parents)
+    ∷ walk rows caller 1 0 root parents ++ searching_tests caller 1 (attrs_at rows (reached rows root parents))
+    (length parents)
 
 -- the tests of what a path leads to: the walk, and tests of its attributes at the last component
 abbrev pub reaching : Rows → Caller → List (List ℕ) → (Attrs → ℕ → List Check) → List Check
-reaching rows caller path tests = walk rows caller 0 0 root path ++ tests (attrs_at rows (reached rows root path)) (length path)
+reaching rows caller path tests = walk rows caller 0 0 root path
+    ++ tests (attrs_at rows (reached rows root path)) (length path)
 
 -- no tests behind a walk
 abbrev pub stat_tests : Attrs → ℕ → List Check

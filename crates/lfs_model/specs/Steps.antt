@@ -6,10 +6,12 @@ use Rattle.lfs_types.specs.Tree.{World, root, opening_world}
 use Rattle.lfs_types.specs.declared.answer.Answer.{Answer}
 use Rattle.lfs_types.specs.declared.answer.Answer.TheVariants.{Served, Denied, Refused}
 use Rattle.lfs_types.specs.declared.answer.Resource.{Resource}
-use Rattle.lfs_types.specs.declared.answer.Resource.TheVariants.{NoMemory, NoSpace, NoInodes, DirectoryFull, JournalFull}
+use Rattle.lfs_types.specs.declared.answer.Resource.TheVariants.{NoMemory, NoSpace, NoInodes, DirectoryFull}
+use Rattle.lfs_types.specs.declared.answer.Resource.TheVariants.{JournalFull}
 use Rattle.lfs_types.specs.declared.limits.TheConstants.{FILE_BLOCKS, FIRST_INODE}
 use Rattle.lfs_types.specs.declared.request.Request.{Request}
-use Rattle.lfs_types.specs.declared.request.Request.TheVariants.{Stat, Read, List as Names, Create, Mkdir, Rename, SetLevel}
+use Rattle.lfs_types.specs.declared.request.Request.TheVariants.{Stat, Read, List as Names, Create, Mkdir, Rename}
+use Rattle.lfs_types.specs.declared.request.Request.TheVariants.{SetLevel}
 use Rattle.lfs_model.specs.declared.journal.Entry.{Entry}
 use Rattle.lfs_model.specs.declared.journal.Event.{Event}
 use Rattle.lfs_model.specs.declared.journal.Event.TheVariants.{User, Cleaner}
@@ -58,7 +60,8 @@ abbrev pub IsAnswer : ℕ → World → Caller → Request → Answer → Type 0
 IsAnswer numbers w caller request (Served shown) =
     (decide w caller request ≡ None) × ¬ (LacksInodes numbers w request) × (shown ≡ answer_of w request)
 IsAnswer numbers w caller request (Denied denial) = decide w caller request ≡ Some denial
-IsAnswer numbers w caller request (Refused resource) = (decide w caller request ≡ None) × MayLack numbers w request resource
+IsAnswer numbers w caller request (Refused resource) = (decide w caller request ≡ None)
+    × MayLack numbers w request resource
 
 -- the world after a user's call that was answered so
 abbrev pub after_answer : ℕ → World → Caller → Request → Answer → World

@@ -30,7 +30,8 @@ and_then (Err denial) next = Err denial
 -- the row at which a walk ends, or the denial of its first failing test
 unfoldable pub walked : Rows → Caller → ℕ → ℕ → ℕ → List (List ℕ) → Result ℕ Denial
 walked rows caller path k at [] = Ok at
-walked rows caller path k at (name ∷ names) = and_then (stepped rows caller path k at name) (λ n. walked rows caller path (k + 1) n names)
+walked rows caller path k at (name ∷ names) =
+    and_then (stepped rows caller path k at name) (λ n. walked rows caller path (k + 1) n names)
 
 -- whether names lead from the root through a row
 abbrev pub is_on_way : Rows → List (List ℕ) → ℕ → Bool

@@ -1,5 +1,6 @@
 -- The tree that users see: rows that hang by parent and name.
-use Rattle.std.specs.Prelude.{◌≡◌, ◌≢◌, ◌≤◌, ℕ, zero, suc, ◌==◌, ◌&&◌, not, Bool, false, List, [], find, filter, Option, None, Some, bytes_eq, IsSomeAnd}
+use Rattle.std.specs.Prelude.{◌≡◌, ◌≢◌, ◌≤◌, ℕ, zero, suc, ◌==◌, ◌&&◌, not, Bool, false, List, [], find, filter, Option}
+use Rattle.std.specs.Prelude.{None, Some, bytes_eq, IsSomeAnd}
 use Rattle.std.specs.Ordering.{nat_cmp}
 use Rattle.std.specs.FinMap as map
 use Rattle.std.specs.FinMap.{FinMap}
@@ -52,7 +53,8 @@ pub record IsChild (rows : Rows) (parent : ℕ) (name : List ℕ) (n : ℕ) : Ty
 pub record IsTree (rows : Rows) : Type 0 where
   pub rooted : IsSomeAnd (map.get rows root) (λ r. (r.parent ≡ root) × (r.name ≡ []) × (r.file.kind ≡ Directory))
   pub unique : (parent : ℕ) (name : List ℕ) (m n : ℕ) → IsChild rows parent name m → IsChild rows parent name n → m ≡ n
-  pub parents : (n : ℕ) (r : Row) → map.get rows n ≡ Some r → IsSomeAnd (map.get rows r.parent) (λ p. p.file.kind ≡ Directory)
+  pub parents : (n : ℕ) (r : Row) → map.get rows n ≡ Some r
+      → IsSomeAnd (map.get rows r.parent) (λ p. p.file.kind ≡ Directory)
   pub reached : (n : ℕ) (r : Row) → map.get rows n ≡ Some r → (k : ℕ) × (ancestor rows k n ≡ root)
   pub empty : (n : ℕ) (r : Row) → map.get rows n ≡ Some r → r.file.kind ≡ Directory → r.file.bytes ≡ []
   pub numbers : (n : ℕ) (r : Row) → map.get rows n ≡ Some r → n ≢ root → FIRST_INODE ≤ n

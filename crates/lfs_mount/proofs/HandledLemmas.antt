@@ -15,11 +15,15 @@ use Rattle.lfs_fuse_calls.specs.Telling.{refusal_in, seen_in}
 use Rattle.lfs_fuse_calls.specs.declared.telling.Seen.{Seen as Stat}
 use Rattle.lfs_fuse_calls.specs.declared.told.Told.{Told}
 use Rattle.lfs_fuse_calls.specs.declared.told.Told.TheVariants.{Error}
-use Rattle.lfs_mount.specs.Handled.{AreAskedAndMade, Behind, BehindFree, BehindMissing, IsLookedAt, IsRenamed, IsSought, is_missing}
+use Rattle.lfs_mount.specs.Handled.{AreAskedAndMade, Behind, BehindFree, BehindMissing, IsLookedAt, IsRenamed, IsSought}
+use Rattle.lfs_mount.specs.Handled.{is_missing}
 use Rattle.lfs_mount.specs.Making.{AreMade}
 
-pub looked_refused : {F : Type 0} (state : F → StoreState) (is_settled : F → Type 0) (caller : Caller) (hangs : ℕ → Option Hang) (node : ℕ) (message : Said) (reply : Told) (old new : Seen F) (Goes : Seen F → Attrs → Type 0) (answers : List Answer) (error : Errno)
-    → AreAskedAndMade state is_settled caller hangs node message answers old new → refusal_in answers ≡ Some error → reply ≡ Error error
+pub looked_refused : {F : Type 0} (state : F → StoreState) (is_settled : F → Type 0) (caller : Caller) (hangs : ℕ
+    → Option Hang) (node : ℕ) (message : Said) (reply : Told) (old new : Seen F) (Goes : Seen F → Attrs → Type 0)
+    (answers : List Answer) (error : Errno)
+    → AreAskedAndMade state is_settled caller hangs node message answers old new → refusal_in answers ≡ Some error
+    → reply ≡ Error error
     → IsLookedAt state is_settled caller hangs node message reply old new Goes
 looked_refused state is_settled caller hangs node message reply old new Goes answers error made refused told = record {
   answers = answers;
@@ -28,8 +32,11 @@ looked_refused state is_settled caller hangs node message reply old new Goes ans
   behind = subst (λ o. Behind o (seen_in answers) reply (new ≡ new) (Goes new)) (sym refused) (told, refl);
 }
 
-pub looked_unseen : {F : Type 0} (state : F → StoreState) (is_settled : F → Type 0) (caller : Caller) (hangs : ℕ → Option Hang) (node : ℕ) (message : Said) (reply : Told) (old new : Seen F) (Goes : Seen F → Attrs → Type 0) (answers : List Answer)
-    → AreAskedAndMade state is_settled caller hangs node message answers old new → refusal_in answers ≡ None → seen_in answers ≡ None → reply ≡ Error EIO
+pub looked_unseen : {F : Type 0} (state : F → StoreState) (is_settled : F → Type 0) (caller : Caller) (hangs : ℕ
+    → Option Hang) (node : ℕ) (message : Said) (reply : Told) (old new : Seen F) (Goes : Seen F → Attrs → Type 0)
+    (answers : List Answer)
+    → AreAskedAndMade state is_settled caller hangs node message answers old new → refusal_in answers ≡ None
+    → seen_in answers ≡ None → reply ≡ Error EIO
     → IsLookedAt state is_settled caller hangs node message reply old new Goes
 looked_unseen state is_settled caller hangs node message reply old new Goes answers made served unseen told = record {
   answers = answers;
@@ -39,56 +46,73 @@ looked_unseen state is_settled caller hangs node message reply old new Goes answ
       (subst (λ (s : Option Stat). Behind None s reply (new ≡ new) (Goes new)) (sym unseen) (told, refl));
 }
 
-pub looked_on : {F : Type 0} (state : F → StoreState) (is_settled : F → Type 0) (caller : Caller) (hangs : ℕ → Option Hang) (node : ℕ) (message : Said) (reply : Told) (old between new : Seen F) (Goes : Seen F → Attrs → Type 0) (answers : List Answer) (seen : Stat)
-    → AreAskedAndMade state is_settled caller hangs node message answers old between → refusal_in answers ≡ None → seen_in answers ≡ Some seen → Goes between seen.attrs
+pub looked_on : {F : Type 0} (state : F → StoreState) (is_settled : F → Type 0) (caller : Caller) (hangs : ℕ
+    → Option Hang) (node : ℕ) (message : Said) (reply : Told) (old between new : Seen F) (Goes : Seen F → Attrs
+    → Type 0) (answers : List Answer) (seen : Stat)
+    → AreAskedAndMade state is_settled caller hangs node message answers old between → refusal_in answers ≡ None
+    → seen_in answers ≡ Some seen → Goes between seen.attrs
     → IsLookedAt state is_settled caller hangs node message reply old new Goes
-looked_on state is_settled caller hangs node message reply old between new Goes answers seen made served was goes = record {
-  answers = answers;
-  between = between;
-  looked = made;
-  behind = subst (λ o. Behind o (seen_in answers) reply (new ≡ between) (Goes between)) (sym served)
-      (subst (λ (s : Option Stat). Behind None s reply (new ≡ between) (Goes between)) (sym was) goes);
-}
+looked_on state is_settled caller hangs node message reply old between new Goes answers seen made served was goes =
+    record {
+      answers = answers;
+      between = between;
+      looked = made;
+      behind = subst (λ o. Behind o (seen_in answers) reply (new ≡ between) (Goes between)) (sym served)
+          (subst (λ (s : Option Stat). Behind None s reply (new ≡ between) (Goes between)) (sym was) goes);
+    }
 
-pub sought_there : {F : Type 0} (state : F → StoreState) (is_settled : F → Type 0) (caller : Caller) (hangs : ℕ → Option Hang) (node : ℕ) (name : List ℕ) (directory : ℕ) (new_name : List ℕ) (reply : Told) (old new : Seen F) (to : List (List ℕ)) (answers : List Answer)
-    → IsPathOf hangs directory (Some new_name) to → AreMade state is_settled caller (Stats to ∷ []) answers old new → refusal_in answers ≡ None → reply ≡ Error EEXIST
+pub sought_there : {F : Type 0} (state : F → StoreState) (is_settled : F → Type 0) (caller : Caller) (hangs : ℕ
+    → Option Hang) (node : ℕ) (name : List ℕ) (directory : ℕ) (new_name : List ℕ) (reply : Told) (old new : Seen F)
+    (to : List (List ℕ)) (answers : List Answer)
+    → IsPathOf hangs directory (Some new_name) to → AreMade state is_settled caller (Stats to ∷ []) answers old new
+    → refusal_in answers ≡ None → reply ≡ Error EEXIST
     → IsSought state is_settled caller hangs node name directory new_name reply old new
-sought_there state is_settled caller hangs node name directory new_name reply old new to answers leads made served told = record {
-  to = to;
-  leads_to = leads;
-  answers = answers;
-  between = new;
-  made = made;
-  behind = subst (λ o. BehindFree o reply (new ≡ new) (IsRenamed state is_settled caller hangs node name directory new_name reply new new)) (sym served) (told, refl);
-}
+sought_there state is_settled caller hangs node name directory new_name reply old new to answers leads made served
+    told = record {
+      to = to;
+      leads_to = leads;
+      answers = answers;
+      between = new;
+      made = made;
+      behind = subst (λ o. BehindFree o reply (new ≡ new)
+          (IsRenamed state is_settled caller hangs node name directory new_name reply new new)) (sym served) (told, refl);
+    }
 
-pub sought_refused : {F : Type 0} (state : F → StoreState) (is_settled : F → Type 0) (caller : Caller) (hangs : ℕ → Option Hang) (node : ℕ) (name : List ℕ) (directory : ℕ) (new_name : List ℕ) (reply : Told) (old new : Seen F) (to : List (List ℕ)) (answers : List Answer) (error : Errno)
-    → IsPathOf hangs directory (Some new_name) to → AreMade state is_settled caller (Stats to ∷ []) answers old new → refusal_in answers ≡ Some error → is_missing error ≡ false → reply ≡ Error error
+pub sought_refused : {F : Type 0} (state : F → StoreState) (is_settled : F → Type 0) (caller : Caller) (hangs : ℕ
+    → Option Hang) (node : ℕ) (name : List ℕ) (directory : ℕ) (new_name : List ℕ) (reply : Told) (old new : Seen F)
+    (to : List (List ℕ)) (answers : List Answer) (error : Errno)
+    → IsPathOf hangs directory (Some new_name) to → AreMade state is_settled caller (Stats to ∷ []) answers old new
+    → refusal_in answers ≡ Some error → is_missing error ≡ false → reply ≡ Error error
     → IsSought state is_settled caller hangs node name directory new_name reply old new
-sought_refused state is_settled caller hangs node name directory new_name reply old new to answers error leads made refused other told = record {
-  to = to;
-  leads_to = leads;
-  answers = answers;
-  between = new;
-  made = made;
-  behind =
-      let Goes = IsRenamed state is_settled caller hangs node name directory new_name reply new new in
-      subst (λ o. BehindFree o reply (new ≡ new) Goes) (sym refused)
-      (subst (λ b. BehindMissing b error reply (new ≡ new) Goes) (sym other) (told, refl));
-}
+sought_refused state is_settled caller hangs node name directory new_name reply old new to answers error leads made
+    refused other told = record {
+      to = to;
+      leads_to = leads;
+      answers = answers;
+      between = new;
+      made = made;
+      behind =
+          let Goes = IsRenamed state is_settled caller hangs node name directory new_name reply new new in
+          subst (λ o. BehindFree o reply (new ≡ new) Goes) (sym refused)
+          (subst (λ b. BehindMissing b error reply (new ≡ new) Goes) (sym other) (told, refl));
+    }
 
-pub sought_free : {F : Type 0} (state : F → StoreState) (is_settled : F → Type 0) (caller : Caller) (hangs : ℕ → Option Hang) (node : ℕ) (name : List ℕ) (directory : ℕ) (new_name : List ℕ) (reply : Told) (old between new : Seen F) (to : List (List ℕ)) (answers : List Answer) (error : Errno)
-    → IsPathOf hangs directory (Some new_name) to → AreMade state is_settled caller (Stats to ∷ []) answers old between → refusal_in answers ≡ Some error → is_missing error ≡ true
+pub sought_free : {F : Type 0} (state : F → StoreState) (is_settled : F → Type 0) (caller : Caller) (hangs : ℕ
+    → Option Hang) (node : ℕ) (name : List ℕ) (directory : ℕ) (new_name : List ℕ) (reply : Told)
+    (old between new : Seen F) (to : List (List ℕ)) (answers : List Answer) (error : Errno)
+    → IsPathOf hangs directory (Some new_name) to → AreMade state is_settled caller (Stats to ∷ []) answers old between
+    → refusal_in answers ≡ Some error → is_missing error ≡ true
     → IsRenamed state is_settled caller hangs node name directory new_name reply between new
     → IsSought state is_settled caller hangs node name directory new_name reply old new
-sought_free state is_settled caller hangs node name directory new_name reply old between new to answers error leads made refused missing renamed = record {
-  to = to;
-  leads_to = leads;
-  answers = answers;
-  between = between;
-  made = made;
-  behind =
-      let Goes = IsRenamed state is_settled caller hangs node name directory new_name reply between new in
-      subst (λ o. BehindFree o reply (new ≡ between) Goes) (sym refused)
-      (subst (λ b. BehindMissing b error reply (new ≡ between) Goes) (sym missing) renamed);
-}
+sought_free state is_settled caller hangs node name directory new_name reply old between new to answers error leads made
+    refused missing renamed = record {
+      to = to;
+      leads_to = leads;
+      answers = answers;
+      between = between;
+      made = made;
+      behind =
+          let Goes = IsRenamed state is_settled caller hangs node name directory new_name reply between new in
+          subst (λ o. BehindFree o reply (new ≡ between) Goes) (sym refused)
+          (subst (λ b. BehindMissing b error reply (new ≡ between) Goes) (sym missing) renamed);
+    }

@@ -32,12 +32,14 @@ AllFull [] (answer ∷ answers) = ⊥
 AllFull (request ∷ requests) [] = ⊥
 AllFull (request ∷ requests) (answer ∷ answers) = (is_full (wanted_by request) answer ≡ true) × AllFull requests answers
 
-pub AllFull-append : (requests : List Request) (answers : List Answer) (request : Request) (answer : Answer) → AllFull requests answers
+pub AllFull-append : (requests : List Request) (answers : List Answer) (request : Request) (answer : Answer)
+    → AllFull requests answers
     → is_full (wanted_by request) answer ≡ true → AllFull (requests ++ request ∷ []) (answers ++ answer ∷ [])
 AllFull-append [] [] request answer all full = (full, tt)
 AllFull-append [] (a ∷ answers) request answer all full = absurd all
 AllFull-append (r ∷ requests) [] request answer all full = absurd all
-AllFull-append (r ∷ requests) (a ∷ answers) request answer all full = (all.0, AllFull-append requests answers request answer all.1 full)
+AllFull-append (r ∷ requests) (a ∷ answers) request answer all full =
+    (all.0, AllFull-append requests answers request answer all.1 full)
 
 pub up_to_all : (requests : List Request) (answers : List Answer) → AllFull requests answers → GoUpTo requests answers
 up_to_all [] [] all = tt
@@ -46,55 +48,79 @@ up_to_all (r ∷ requests) [] all = absurd all
 up_to_all (r ∷ requests) (a ∷ answers) all =
     subst (λ b. EndsOr b (GoUpTo requests answers) answers) (sym all.0) (up_to_all requests answers all.1)
 
-pub up_to_one : (requests rest : List Request) (answers : List Answer) (request : Request) (answer : Answer) → AllFull requests answers
+pub up_to_one : (requests rest : List Request) (answers : List Answer) (request : Request) (answer : Answer)
+    → AllFull requests answers
     → is_full (wanted_by request) answer ≡ false → GoUpTo (requests ++ request ∷ rest) (answers ++ answer ∷ [])
 up_to_one [] rest [] request answer all not_full = subst (λ b. EndsOr b (GoUpTo rest []) []) (sym not_full) refl
 up_to_one [] rest (a ∷ answers) request answer all not_full = absurd all
 up_to_one (r ∷ requests) rest [] request answer all not_full = absurd all
 up_to_one (r ∷ requests) rest (a ∷ answers) request answer all not_full =
-    subst (λ b. EndsOr b (GoUpTo (requests ++ request ∷ rest) (answers ++ answer ∷ [])) (answers ++ answer ∷ [])) (sym all.0)
+    subst (λ b. EndsOr b (GoUpTo (requests ++ request ∷ rest) (answers ++ answer ∷ [])) (answers ++ answer ∷ []))
+    (sym all.0)
     (up_to_one requests rest answers request answer all.1 not_full)
 
 -- one more call was answered
-pub one_more : {F : Type 0} (state : F → StoreState) (is_settled : F → Type 0) (caller : Caller) (old before next : Seen F) (done : List Request) (answers : List Answer) (request : Request) (answer : Answer)
-    → Since (state old.since) old.since_level (λ from. AreAnswers state is_settled old.limit from old.journal old.store (calls_as caller done) answers before.store)
+pub one_more : {F : Type 0} (state : F → StoreState) (is_settled : F → Type 0) (caller : Caller)
+    (old before next : Seen F) (done : List Request) (answers : List Answer) (request : Request) (answer : Answer)
+    → Since (state old.since) old.since_level
+    (λ from. AreAnswers state is_settled old.limit from old.journal old.store
+    (calls_as caller done) answers before.store)
     → before.journal ≡ old.journal ++ kept (calls_as caller done) answers
     → before.since ≡ old.since → before.since_level ≡ old.since_level → before.limit ≡ old.limit
-    → Since (state before.since) before.since_level (λ from. IsCallMade state is_settled before.limit from before.journal before.store caller request answer next.store)
-    → Since (state old.since) old.since_level (λ from. AreAnswers state is_settled old.limit from old.journal old.store (calls_as caller (done ++ request ∷ [])) (answers ++ answer ∷ []) next.store)
-one_more {F} state is_settled caller old before next done answers request answer each entered since since_level limit made =
+    → Since (state before.since) before.since_level
+    (λ from. IsCallMade state is_settled before.limit from before.journal before.store caller request answer
+    next.store)
+    → Since (state old.since) old.since_level
+    (λ from. AreAnswers state is_settled old.limit from old.journal old.store
+    (calls_as caller (done ++ request ∷ [])) (answers ++ answer ∷ []) next.store)
+one_more {F} state is_settled caller old before next done answers request answer each entered since since_level limit
+    made =
     λ from begins.
     let here : Begins (state before.since) before.since_level from =
-    subst (λ l. Begins (state before.since) l from) (sym since_level) (subst (λ (s : F). Begins (state s) old.since_level from) (sym since) begins) in
-    subst (λ calls. AreAnswers state is_settled old.limit from old.journal old.store calls (answers ++ answer ∷ []) next.store) (sym (calls_as-append caller done request))
-    (AreAnswers-append state is_settled old.limit from old.journal old.store before.store next.store (calls_as caller done) answers (call_as caller request) answer (each from begins)
-    (subst (λ n. IsCallMade state is_settled n from (old.journal ++ kept (calls_as caller done) answers) before.store caller request answer next.store) limit
-    (subst (λ j. IsCallMade state is_settled before.limit from j before.store caller request answer next.store) entered (made from here))))
+    subst (λ l. Begins (state before.since) l from) (sym since_level)
+    (subst (λ (s : F). Begins (state s) old.since_level from) (sym since) begins) in
+    subst (λ calls. AreAnswers state is_settled old.limit from old.journal old.store calls (answers ++ answer
+    ∷ []) next.store) (sym (calls_as-append caller done request))
+    (AreAnswers-append state is_settled old.limit from old.journal old.store before.store next.store
+    (calls_as caller done) answers (call_as caller request) answer (each from begins)
+    (subst (λ n. IsCallMade state is_settled n from (old.journal
+    ++ kept (calls_as caller done) answers) before.store caller request answer next.store) limit
+    (subst (λ j. IsCallMade state is_settled before.limit from j before.store caller request answer next.store) entered
+    (made from here))))
 
 -- what was entered, with one more
-pub entered_more : (caller : Caller) (old before next : List Entry) (done : List Request) (answers : List Answer) (request : Request) (answer : Answer)
-    → length answers ≡ length done → before ≡ old ++ kept (calls_as caller done) answers → next ≡ before ++ kept_entry 0 caller request answer
+pub entered_more : (caller : Caller) (old before next : List Entry) (done : List Request) (answers : List Answer)
+    (request : Request) (answer : Answer)
+    → length answers ≡ length done → before ≡ old ++ kept (calls_as caller done) answers → next ≡ before
+    ++ kept_entry 0 caller request answer
     → next ≡ old ++ kept (calls_as caller (done ++ request ∷ [])) (answers ++ answer ∷ [])
 entered_more caller old before next done answers request answer count entered more =
     more
     ∙ ap (λ j. j ++ kept_entry 0 caller request answer) entered
     ∙ append_assoc old (kept (calls_as caller done) answers) (kept_entry 0 caller request answer)
     ∙ ap (λ l. old ++ l)
-    (sym (kept-append (calls_as caller done) answers (call_as caller request) answer (count ∙ sym (length-calls_as caller done)))
+    (sym (kept-append (calls_as caller done) answers (call_as caller request) answer (count
+    ∙ sym (length-calls_as caller done)))
     ∙ ap (λ calls. kept calls (answers ++ answer ∷ [])) (sym (calls_as-append caller done request)))
 
 -- calls that have answers, of those that were asked for
-pub are_made : {F : Type 0} (state : F → StoreState) (is_settled : F → Type 0) (caller : Caller) (requests done rest : List Request) (answers : List Answer) (old new : Seen F)
+pub are_made : {F : Type 0} (state : F → StoreState) (is_settled : F → Type 0) (caller : Caller)
+    (requests done rest : List Request) (answers : List Answer) (old new : Seen F)
     → done ++ rest ≡ requests → length answers ≡ length done
-    → Since (state old.since) old.since_level (λ from. AreAnswers state is_settled old.limit from old.journal old.store (calls_as caller done) answers new.store)
+    → Since (state old.since) old.since_level
+    (λ from. AreAnswers state is_settled old.limit from old.journal old.store
+    (calls_as caller done) answers new.store)
     → new.journal ≡ old.journal ++ kept (calls_as caller done) answers → GoUpTo requests answers
     → new.since ≡ old.since → new.since_level ≡ old.since_level → new.limit ≡ old.limit
     → AreMade state is_settled caller requests answers old new
-are_made state is_settled caller requests done rest answers old new all count each entered up_to since since_level limit =
+are_made state is_settled caller requests done rest answers old new all count each entered up_to since since_level
+    limit =
     let made : take (length answers) requests ≡ done =
     ap (λ n. take n requests) count ∙ ap (take (length done)) (sym all) ∙ take-append_seam done rest in
     record {
-      each = subst (λ l. Since (state old.since) old.since_level (λ from. AreAnswers state is_settled old.limit from old.journal old.store (calls_as caller l) answers new.store)) (sym made) each;
+      each = subst (λ l. Since (state old.since) old.since_level
+          (λ from. AreAnswers state is_settled old.limit from old.journal old.store
+          (calls_as caller l) answers new.store)) (sym made) each;
       entered = entered ∙ ap (λ l. old.journal ++ kept (calls_as caller l) answers) (sym made);
       up_to = up_to;
       since = since;

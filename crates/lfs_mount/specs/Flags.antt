@@ -17,7 +17,8 @@ number_if false number = 0
 -- immutable, append-only and nodump, by the user's or the system's flag, as these three bits
 abbrev pub flags_shown : ℕ → ℕ → ℕ → ℕ → ℕ
 flags_shown flags immutable append nodump =
-    number_if (has_any flags 0x20002) immutable + number_if (has_any flags 0x40004) append + number_if (has_any flags 0x1) nodump
+    number_if (has_any flags 0x20002) immutable + number_if (has_any flags 0x40004) append
+    + number_if (has_any flags 0x1) nodump
 
 -- the user's flags that FS_IOC_SETFLAGS asks for
 abbrev pub user_flags : ℕ → ℕ

@@ -21,7 +21,8 @@ handle_for (Some mode) = 1
 
 -- what is told of a message: a file that it made has handle 1 where it was made with more than its mode
 abbrev pub told_with : ℕ → Told → Told
-told_with handle (told.Create entry opened) = told.Create entry (record { handle = handle; direct_io = opened.direct_io })
+told_with handle (told.Create entry opened) =
+    told.Create entry (record { handle = handle; direct_io = opened.direct_io })
 told_with handle reply = reply
 
 abbrev pub with_handle : Said → Told → Told

@@ -1,5 +1,6 @@
 -- What holds a node, and what is left where one that nothing holds is dropped.
-use Rattle.std.proofs.Common.{◌≡◌, ◌≢◌, ℕ, Bool, Option, None, Some, true, false, refl, sym, ap, subst, ◌∙◌, ⊎_elim, arith}
+use Rattle.std.proofs.Common.{◌≡◌, ◌≢◌, ℕ, Bool, Option, None, Some, true, false, refl, sym, ap, subst, ◌∙◌, ⊎_elim}
+use Rattle.std.proofs.Common.{arith}
 use Rattle.std.specs.Prelude.{◌||◌, nat_lt, ◌+◌, ◌<◌, ◌≤◌, OnSome, is_some, if◌then◌else◌}
 use Rattle.std.specs.Option.{option_map}
 use Rattle.std.proofs.lemmas.Bool.{or_parts, or_left, cases_eq, cases_Bool, ltb-false}
@@ -26,7 +27,8 @@ live_number (Some m) n e = live m.hang m n refl e
     live : (h : Hang) (m : Node) (n : ℕ) → m.hang ≡ h → live_row (Some m) ≡ Some n → number_in (Some m) ≡ Some n
     live Root m n is e = subst (λ h. live_row (Some (record m { hang = h })) ≡ Some n) is e
     live (At place) m n is e = subst (λ h. live_row (Some (record m { hang = h })) ≡ Some n) is e
-    live Gone m n is e = let wrong : live_row (Some (record m { hang = Gone })) ≡ Some n = subst (λ h. live_row (Some (record m { hang = h })) ≡ Some n) is e in absurd (cc)
+    live Gone m n is e = let wrong : live_row (Some (record m { hang = Gone }))
+        ≡ Some n = subst (λ h. live_row (Some (record m { hang = h })) ≡ Some n) is e in absurd (cc)
 
 root_is : (h : Hang) → is_root h ≡ false → h ≢ Root
 root_is h e same = let yes : is_root h ≡ true = ap is_root same in absurd (cc)
@@ -45,12 +47,14 @@ known_held : (o : Option Node) → is_known_held (option_map shown o) ≡ true �
 known_held None e = absurd (cc)
 known_held (Some n) e = or_left _ _ e
 
-module _ (K L : ℕ → Option Node) (o : Option Node) (id : ℕ) (is : K id ≡ option_map shown o) (dropped : is_held o ≡ false → L id ≡ None)
+module _ (K L : ℕ → Option Node) (o : Option Node) (id : ℕ) (is : K id ≡ option_map shown o) (dropped : is_held o
+    ≡ false → L id ≡ None)
     (held : is_held o ≡ true → L id ≡ K id) (others : (q : ℕ) → q ≢ id → L q ≡ K q) where
   -- what the kernel holds stays
   pub step_held : (q : ℕ) → is_known_held (K q) ≡ true → L q ≡ K q
   step_held q e = ⊎_elim
-      (λ same. ap L same ∙ held (known_held o (sym (ap is_known_held is) ∙ ap (λ x. is_known_held (K x)) (sym same) ∙ e)) ∙ ap K (sym same))
+      (λ same. ap L same ∙ held (known_held o (sym (ap is_known_held is) ∙ ap (λ x. is_known_held (K x)) (sym same)
+      ∙ e)) ∙ ap K (sym same))
       (λ ne. others q ne)
       (cases_eq q id)
 

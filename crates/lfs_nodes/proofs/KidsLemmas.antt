@@ -1,5 +1,6 @@
 -- How many nodes hang in a directory, after one of them changed its place.
-use Rattle.std.proofs.Common.{◌≡◌, ◌≢◌, ℕ, zero, suc, ◌+◌, ◌<◌, ◌≤◌, Option, None, Some, true, false, refl, sym, ap, ◌∙◌, ⊎_elim, arith}
+use Rattle.std.proofs.Common.{◌≡◌, ◌≢◌, ℕ, zero, suc, ◌+◌, ◌<◌, ◌≤◌, Option, None, Some, true, false, refl, sym, ap}
+use Rattle.std.proofs.Common.{◌∙◌, ⊎_elim, arith}
 use Rattle.std.specs.Prelude.{◌==◌}
 use Rattle.std.proofs.lemmas.Bool.{cond-true, cond-false, eq-eqb, ne_eqb, cases_eq}
 use Rattle.lfs_nodes.specs.declared.place.Place.{Place}
@@ -29,7 +30,8 @@ module _ (P Q : ℕ → Option Place) (p : ℕ) where
       omega (arith, before, here)
 
   -- where one id changes its place, it leaves the old directory and comes to the new one
-  pub kids_moved : (k n : ℕ) → k < n → ((q : ℕ) → q ≢ k → Q q ≡ P q) → kids Q p n + beneath p (P k) ≡ kids P p n + beneath p (Q k)
+  pub kids_moved : (k n : ℕ) → k < n → ((q : ℕ) → q ≢ k → Q q ≡ P q) → kids Q p n + beneath p (P k) ≡ kids P p n
+      + beneath p (Q k)
   unfolding kids
   kids_moved k zero h same = absurd (omega arith)
   kids_moved k (suc n) h same = ⊎_elim
@@ -67,7 +69,8 @@ module _ (P : ℕ → Option Place) (p : ℕ) where
   kids_some zero q place h is in_it = absurd (omega arith)
   kids_some (suc n) q place h is in_it = ⊎_elim
       (λ (e : q ≡ n).
-      let here : beneath p (P n) ≡ 1 = ap (λ x. beneath p (P x)) (sym e) ∙ ap (beneath p) is ∙ beneath_here p place in_it in
+      let here : beneath p (P n) ≡ 1 = ap (λ x. beneath p (P x)) (sym e) ∙ ap (beneath p) is
+      ∙ beneath_here p place in_it in
       omega (arith, here))
       (λ (ne : q ≡ n → ⊥). let before = kids_some n q place (omega arith) is in_it in omega (arith, before))
       (cases_eq q n)

@@ -11,7 +11,9 @@ use Rattle.lfs_nodes.specs.declared.node.Node.{Node}
 use Rattle.lfs_nodes.specs.Nodes.{AreNodes, live_row}
 
 -- each name that is there stays
-pub nodes_kept : (rows after : Rows) (K : ℕ → Option Node) → ((p : ℕ) (name : List ℕ) (n : ℕ) → IsChild rows p name n → IsChild after p name n) → AreNodes rows K → AreNodes after K
+pub nodes_kept : (rows after : Rows) (K : ℕ → Option Node)
+    → ((p : ℕ) (name : List ℕ) (n : ℕ) → IsChild rows p name n → IsChild after p name n) → AreNodes rows K
+    → AreNodes after K
 nodes_kept rows after K keeps are = record {
   hung = λ q place n e f.
       let up = some_and (live_row (K place.parent)) (λ p. IsChild rows p place.name n) (are.hung q place n e f) in
@@ -20,25 +22,42 @@ nodes_kept rows after K keeps are = record {
 }
 
 -- the file of a row changes
-pub nodes_changed : (w : World) (n : ℕ) (change : File → File) (K : ℕ → Option Node) (o : Option Row) → map.get w.rows n ≡ o → AreNodes w.rows K → AreNodes (with_file o n change w).rows K
+pub nodes_changed : (w : World) (n : ℕ) (change : File → File) (K : ℕ → Option Node) (o : Option Row) → map.get w.rows n
+    ≡ o → AreNodes w.rows K → AreNodes (with_file o n change w).rows K
 nodes_changed w n change K None e are = are
-nodes_changed w n change K (Some r) e are = nodes_kept w.rows (map.insert w.rows n (record r { file = change r.file })) K
+nodes_changed w n change K (Some r) e are =
+    nodes_kept w.rows (map.insert w.rows n (record r { file = change r.file })) K
     (λ p name m c. ⊎_elim
     (λ same.
     let one : r ≡ c.row = cc (e, c.there, ap (map.get w.rows) same) in
     record {
       row = record r { file = change r.file };
-      there = ap (map.get (map.insert w.rows n (record r { file = change r.file }))) same ∙ get-insert_same w.rows n (record r { file = change r.file });
+      there = ap (map.get (map.insert w.rows n (record r { file = change r.file }))) same
+          ∙ get-insert_same w.rows n (record r { file = change r.file });
       below = c.below;
       hangs = ap (λ (x : Row). x.parent) one ∙ c.hangs;
       named = ap (λ (x : Row). x.name) one ∙ c.named;
     })
-    (λ ne. record { row = c.row; there = get-insert_other w.rows n (record r { file = change r.file }) m ne ∙ c.there; below = c.below; hangs = c.hangs; named = c.named })
+    (λ ne. record {
+      row = c.row;
+      there = get-insert_other w.rows n (record r { file = change r.file }) m ne ∙ c.there;
+      below = c.below;
+      hangs = c.hangs;
+      named = c.named;
+    })
     (cases_eq m n)) are
 
 -- a new row
-pub nodes_grown : (rows : Rows) (n : ℕ) (r : Row) (K : ℕ → Option Node) → map.get rows n ≡ None → AreNodes rows K → AreNodes (map.insert rows n r) K
+pub nodes_grown : (rows : Rows) (n : ℕ) (r : Row) (K : ℕ → Option Node) → map.get rows n ≡ None → AreNodes rows K
+    → AreNodes (map.insert rows n r) K
 nodes_grown rows n r K absent are = nodes_kept rows (map.insert rows n r) K
     (λ p name m c.
-    let ne : m ≢ n = λ same. let wrong : None ≡ Some c.row = sym absent ∙ ap (map.get rows) (sym same) ∙ c.there in absurd (cc) in
-    record { row = c.row; there = get-insert_other rows n r m ne ∙ c.there; below = c.below; hangs = c.hangs; named = c.named }) are
+    let ne : m ≢ n = λ same. let wrong : None ≡ Some c.row = sym absent ∙ ap (map.get rows) (sym same)
+    ∙ c.there in absurd (cc) in
+    record {
+      row = c.row;
+      there = get-insert_other rows n r m ne ∙ c.there;
+      below = c.below;
+      hangs = c.hangs;
+      named = c.named;
+    }) are

@@ -23,7 +23,8 @@ same_place-apart a b h = false_from_ne_true _ (λ t. h (sym (same_place-true a b
 pub cases_place : (a b : Place) → (a ≡ b) ⊎ (a ≢ b)
 cases_place a b = ⊎_elim
     (λ t. inl (same_place-true a b t))
-    (λ f. inr (λ e. let t : same_place a b ≡ true = subst (λ x. same_place a x ≡ true) e (same_place-self a) in absurd (cc)))
+    (λ f. inr (λ e. let t : same_place a b ≡ true = subst (λ x. same_place a x ≡ true) e (same_place-self a) in
+    absurd (cc)))
     (cases_Bool (same_place a b))
 
 -- what holds where there is a value

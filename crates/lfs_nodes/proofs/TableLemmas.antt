@@ -15,7 +15,8 @@ use Rattle.lfs_nodes.specs.Places.{place_of}
 
 module _ (F G : ℕ → Option Node) (id : ℕ) (change : Node → Node) where
   -- a node that is there is changed
-  pub changed_there : (n : Node) → F id ≡ Some n → G id ≡ Some (change n) → ((q : ℕ) → nat_eq id q ≡ false → G q ≡ F q) → (q : ℕ) → G q ≡ changed_at id change F q
+  pub changed_there : (n : Node) → F id ≡ Some n → G id ≡ Some (change n) → ((q : ℕ) → nat_eq id q ≡ false → G q ≡ F q)
+      → (q : ℕ) → G q ≡ changed_at id change F q
   changed_there n here new others q = ⊎_elim
       (λ e. ap G e ∙ new ∙ sym (ap (option_map change) (ap F e ∙ here)) ∙ sym (cond-true (q == id) _ _ (eq-eqb q id e)))
       (λ ne. others q (ne_eqb id q (λ e. ne (sym e))) ∙ sym (cond-false (q == id) _ _ (ne_eqb q id ne)))
@@ -24,7 +25,8 @@ module _ (F G : ℕ → Option Node) (id : ℕ) (change : Node → Node) where
   -- where there is none, nothing is changed
   pub changed_none : F id ≡ None → ((q : ℕ) → G q ≡ F q) → (q : ℕ) → G q ≡ changed_at id change F q
   changed_none none same q = ⊎_elim
-      (λ e. same q ∙ ap F e ∙ none ∙ sym (ap (option_map change) (ap F e ∙ none)) ∙ sym (cond-true (q == id) _ _ (eq-eqb q id e)))
+      (λ e. same q ∙ ap F e ∙ none ∙ sym (ap (option_map change) (ap F e ∙ none))
+      ∙ sym (cond-true (q == id) _ _ (eq-eqb q id e)))
       (λ ne. same q ∙ sym (cond-false (q == id) _ _ (ne_eqb q id ne)))
       (cases_eq q id)
 
@@ -38,9 +40,11 @@ module _ (F : ℕ → Option Node) (id : ℕ) (change : Node → Node) where
   changed_else q ne = cond-false (q == id) _ _ (ne_eqb q id ne)
 
   -- what the change keeps of each node is what it was
-  pub changed_keeps : {X : Type 0} (read : Node → X) → ((n : Node) → read (change n) ≡ read n) → (q : ℕ) → option_map read (changed_at id change F q) ≡ option_map read (F q)
+  pub changed_keeps : {X : Type 0} (read : Node → X) → ((n : Node) → read (change n) ≡ read n) → (q : ℕ)
+      → option_map read (changed_at id change F q) ≡ option_map read (F q)
   changed_keeps read keeps q = ⊎_elim
-      (λ e. ap (λ x. option_map read (changed_at id change F x)) e ∙ ap (option_map read) changed_here ∙ kept (F id) ∙ ap (λ x. option_map read (F x)) (sym e))
+      (λ e. ap (λ x. option_map read (changed_at id change F x)) e ∙ ap (option_map read) changed_here ∙ kept (F id)
+      ∙ ap (λ x. option_map read (F x)) (sym e))
       (λ ne. ap (option_map read) (changed_else q ne))
       (cases_eq q id)
     where
@@ -52,13 +56,15 @@ hung_to : (h : Hang) (o : Option Node) → IsSome o → hang_in (option_map (hun
 hung_to h None some = absurd (cc)
 hung_to h (Some n) some = refl
 
-count_of : (g : ℕ → ℕ) (o : Option Node) → children_in (option_map (λ (n : Node). record n { children = g n.children }) o) ≡ option_map g (children_in o)
+count_of : (g : ℕ → ℕ) (o : Option Node)
+    → children_in (option_map (λ (n : Node). record n { children = g n.children }) o) ≡ option_map g (children_in o)
 count_of g None = refl
 count_of g (Some n) = refl
 
 -- ---- one node hangs elsewhere, and one is counted anew
 
-module _ (F G E : ℕ → Option Node) (id p : ℕ) (h : Hang) (g : ℕ → ℕ) (first : (q : ℕ) → G q ≡ changed_at id (hung h) F q)
+module _ (F G E : ℕ → Option Node) (id p : ℕ) (h : Hang) (g : ℕ → ℕ) (first : (q : ℕ) → G q
+    ≡ changed_at id (hung h) F q)
     (second : (q : ℕ) → E q ≡ changed_at p (λ (n : Node). record n { children = g n.children }) G q) where
   abbrev recount : Node → Node
   recount n = record n { children = g n.children }
@@ -81,7 +87,8 @@ module _ (F G E : ℕ → Option Node) (id p : ℕ) (h : Hang) (g : ℕ → ℕ)
   counts_before q = ap children_in (first q) ∙ changed_keeps F id (hung h) (λ n. n.children) (λ n. refl) q
 
   pub recounted_here : children_in (E p) ≡ option_map g (children_in (F p))
-  recounted_here = ap children_in (second p ∙ changed_here G p recount) ∙ count_of g (G p) ∙ ap (option_map g) (counts_before p)
+  recounted_here = ap children_in (second p ∙ changed_here G p recount) ∙ count_of g (G p)
+      ∙ ap (option_map g) (counts_before p)
 
   pub recounted_else : (q : ℕ) → q ≢ p → children_in (E q) ≡ children_in (F q)
   recounted_else q ne = ap children_in (second q ∙ changed_else G p recount q ne) ∙ counts_before q
@@ -101,11 +108,14 @@ hung_known None place e = absurd (cc)
 hung_known (Some n) place e = refl
 
 -- a node that hangs nowhere and isn't the root is gone already
-pub still_gone : (o : Option Node) → place_of (hang_in o) ≡ None → (hang_in o ≡ Some Root → ⊥) → hang_in (option_map (hung Gone) o) ≡ hang_in o
+pub still_gone : (o : Option Node) → place_of (hang_in o) ≡ None → (hang_in o ≡ Some Root → ⊥)
+    → hang_in (option_map (hung Gone) o) ≡ hang_in o
 still_gone None e below = refl
 still_gone (Some n) e below = gone n.hang n refl e below
   where
-    gone : (h : Hang) (n : Node) → n.hang ≡ h → place_of (Some n.hang) ≡ None → (Some n.hang ≡ Some Root → ⊥) → Some Gone ≡ Some n.hang
+    gone : (h : Hang) (n : Node) → n.hang ≡ h → place_of (Some n.hang) ≡ None → (Some n.hang ≡ Some Root → ⊥)
+        → Some Gone ≡ Some n.hang
     gone Root n is e below = absurd (below (ap Some is))
-    gone (At place) n is e below = let wrong : Some place ≡ None = sym (ap (λ h. place_of (Some h)) is) ∙ e in absurd (cc)
+    gone (At place) n is e below = let wrong : Some place ≡ None = sym (ap (λ h. place_of (Some h)) is)
+        ∙ e in absurd (cc)
     gone Gone n is e below = ap Some (sym is)

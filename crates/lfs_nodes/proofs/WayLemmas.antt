@@ -1,5 +1,6 @@
 -- The names up from a node, and down from the root.
-use Rattle.std.proofs.Common.{◌≡◌, ◌≢◌, ℕ, suc, ◌+◌, List, [], ◌∷◌, ◌++◌, length, Option, None, Some, Ok, refl, sym, ap, subst, ◌∙◌, arith, length-append, append_assoc}
+use Rattle.std.proofs.Common.{◌≡◌, ◌≢◌, ℕ, suc, ◌+◌, List, [], ◌∷◌, ◌++◌, length, Option, None, Some, Ok, refl, sym, ap}
+use Rattle.std.proofs.Common.{subst, ◌∙◌, arith, length-append, append_assoc}
 use Rattle.std.specs.Prelude.{unwrap_or, IsSomeAnd}
 use mathlib.Core.List.{reverse}
 use Rattle.std.proofs.lemmas.List.{reverse-append}
@@ -19,12 +20,14 @@ use Rattle.lfs_nodes.specs.Ways.{LeadsUp}
 use Rattle.lfs_nodes.proofs.NodesLemmas.{hung_row}
 
 -- one name more
-pub leads_more : (hangs : ℕ → Option Hang) (id : ℕ) (names : List (List ℕ)) (top : ℕ) (place : Place) → LeadsUp hangs id names top → place_of (hangs top) ≡ Some place
+pub leads_more : (hangs : ℕ → Option Hang) (id : ℕ) (names : List (List ℕ)) (top : ℕ) (place : Place)
+    → LeadsUp hangs id names top → place_of (hangs top) ≡ Some place
     → LeadsUp hangs id (names ++ place.name ∷ []) place.parent
 leads_more hangs id [] top place up e = (place.parent, ap (λ x. place_of (hangs x)) up ∙ e, refl)
 leads_more hangs id (name ∷ names) top place up e = (up.0, up.1, leads_more hangs up.0 names top place up.2 e)
 
-pub slashed_more : (names : List (List ℕ)) (name : List ℕ) → length (slashed (names ++ name ∷ [])) ≡ length (slashed names) + (length name + 1)
+pub slashed_more : (names : List (List ℕ)) (name : List ℕ) → length (slashed (names ++ name ∷ []))
+    ≡ length (slashed names) + (length name + 1)
 slashed_more [] name = let all = length-append name [] in omega (arith, all)
 slashed_more (n ∷ names) name =
     let more = slashed_more names name in
@@ -41,16 +44,21 @@ slashed_reversed (n ∷ names) =
     let turned = ap (λ ns. length (slashed ns)) (reverse-append (n ∷ []) names) in
     omega (arith, more, before, all, turned)
 
-reached_more : (rows : Rows) (at : ℕ) (names : List (List ℕ)) (name : List ℕ) → reached rows at (names ++ name ∷ []) ≡ next rows (reached rows at names) name
+reached_more : (rows : Rows) (at : ℕ) (names : List (List ℕ)) (name : List ℕ) → reached rows at (names ++ name ∷ [])
+    ≡ next rows (reached rows at names) name
 reached_more rows at [] name = refl
 reached_more rows at (n ∷ names) name = reached_more rows (next rows at n) names name
 
 -- the names of a node, from the root on, lead to its row
-pub leads_down : (rows : Rows) (K : ℕ → Option Node) → IsTree rows → AreNodes rows K → (id top n m : ℕ) (names : List (List ℕ)) → LeadsUp (λ q. hang_in (K q)) id names top
+pub leads_down : (rows : Rows) (K : ℕ → Option Node) → IsTree rows → AreNodes rows K
+    → (id top n m : ℕ) (names : List (List ℕ)) → LeadsUp (λ q. hang_in (K q)) id names top
     → live_row (K top) ≡ Some n → live_row (K id) ≡ Some m → reached rows n (reverse names) ≡ m
-leads_down rows K tree are id top n m [] up e f = let one : Some n ≡ Some m = sym e ∙ ap (λ x. live_row (K x)) (sym up) ∙ f in (cc)
+leads_down rows K tree are id top n m [] up e f = let one : Some n ≡ Some m = sym e ∙ ap (λ x. live_row (K x)) (sym up)
+    ∙ f in (cc)
 leads_down rows K tree are id top n m (name ∷ names) up e f =
     let above = some_and _ _ (are.hung id (record { parent = up.0; name = name }) m up.1 f) in
-    let before : reached rows n (reverse names) ≡ above.value = leads_down rows K tree are up.0 top n above.value names up.2 e above.is in
-    ap (reached rows n) (reverse-append (name ∷ []) names) ∙ reached_more rows n (reverse names) name ∙ ap (λ x. next rows x name) before
+    let before : reached rows n (reverse names)
+    ≡ above.value = leads_down rows K tree are up.0 top n above.value names up.2 e above.is in
+    ap (reached rows n) (reverse-append (name ∷ []) names) ∙ reached_more rows n (reverse names) name
+    ∙ ap (λ x. next rows x name) before
     ∙ ap (λ o. unwrap_or o 0) (child-answer rows tree.unique above.value name (Some m) above.holds)

@@ -33,10 +33,12 @@ abbrev pub live_row : Option Node → Option ℕ
 live_row None = None
 live_row (Some n) = if is_live n.hang then Some n.row else None
 
--- Nodes are true of rows: each that hangs under a name hangs in a node of a row, in which its own row has that name; and no two
+-- Nodes are true of rows: each that hangs under a name hangs in a node of a row, in which its own row has that name;
+-- and no two
 -- that hang are of one row. (That node 1 is the root's and that no two hang at one place holds of all nodes.)
 pub record AreNodes (rows : Rows) (nodes : ℕ → Option Node) : Type 0 where
-  pub hung : (id : ℕ) (place : Place) (n : ℕ) → place_of (hang_in (nodes id)) ≡ Some place → live_row (nodes id) ≡ Some n
+  pub hung : (id : ℕ) (place : Place) (n : ℕ) → place_of (hang_in (nodes id)) ≡ Some place → live_row (nodes id)
+      ≡ Some n
       → IsSomeAnd (live_row (nodes place.parent)) (λ p. IsChild rows p place.name n)
   pub apart : (i j n : ℕ) → live_row (nodes i) ≡ Some n → live_row (nodes j) ≡ Some n → i ≡ j
 

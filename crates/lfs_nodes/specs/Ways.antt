@@ -13,7 +13,8 @@ use Rattle.lfs_nodes.specs.Places.{place_of}
 -- these names, its own first, lead up from a node to another
 abbrev pub LeadsUp : (ℕ → Option Hang) → ℕ → List (List ℕ) → ℕ → Type 0
 LeadsUp hangs id [] top = id ≡ top
-LeadsUp hangs id (name ∷ names) top = (parent : ℕ) × (place_of (hangs id) ≡ Some (record { parent = parent; name = name })) × LeadsUp hangs parent names top
+LeadsUp hangs id (name ∷ names) top = (parent : ℕ)
+    × (place_of (hangs id) ≡ Some (record { parent = parent; name = name })) × LeadsUp hangs parent names top
 
 -- names lead up from a node to one of which this holds
 pub record LeadsTo (hangs : ℕ → Option Hang) (id : ℕ) (holds : List (List ℕ) → ℕ → Type 0) : Type 0 where
@@ -22,10 +23,12 @@ pub record LeadsTo (hangs : ℕ → Option Hang) (id : ℕ) (holds : List (List 
   pub up : LeadsUp hangs id names top
   pub holding : holds names top
 
--- what may be said of the names of a node, its own first: the names up to the root, which are short enough for a path; that
+-- what may be said of the names of a node, its own first: the names up to the root, which are short enough for a path;
+-- that
 -- the node, or one above it, isn't known or is gone; or that the names take too many bytes
 abbrev pub NamesUp : (ℕ → Option Hang) → ℕ → Result (List (List ℕ)) PathFault → Type 0
-NamesUp hangs id (Ok names) = LeadsTo hangs id (λ ns top. (ns ≡ names) × (hangs top ≡ Some Root)) × (length (slashed names) ≤ 1024)
+NamesUp hangs id (Ok names) = LeadsTo hangs id (λ ns top. (ns ≡ names) × (hangs top ≡ Some Root))
+    × (length (slashed names) ≤ 1024)
 NamesUp hangs id (Err Unknown) = LeadsTo hangs id (λ ns top. hangs top ≡ None)
 NamesUp hangs id (Err Stale) = LeadsTo hangs id (λ ns top. hangs top ≡ Some Gone)
 NamesUp hangs id (Err Long) = LeadsTo hangs id (λ ns top. 1024 < length (slashed ns))
@@ -44,5 +47,6 @@ IsAbove hang (Err (Name fault)) = ⊥
 
 -- what may be said of the names of a node from the root on: as of those up to the root, in the other order
 abbrev pub NamesDown : (ℕ → Option Hang) → ℕ → Result (List (List ℕ)) PathFault → Type 0
-NamesDown hangs id (Ok names) = LeadsTo hangs id (λ ns top. (reverse ns ≡ names) × (hangs top ≡ Some Root)) × (length (slashed names) ≤ 1024)
+NamesDown hangs id (Ok names) = LeadsTo hangs id (λ ns top. (reverse ns ≡ names) × (hangs top ≡ Some Root))
+    × (length (slashed names) ≤ 1024)
 NamesDown hangs id (Err fault) = NamesUp hangs id (Err fault)

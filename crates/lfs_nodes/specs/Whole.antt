@@ -1,5 +1,6 @@
 -- When the maps of nodes agree.
-use Rattle.std.specs.Prelude.{◌≡◌, ℕ, zero, suc, ◌+◌, ◌<◌, ◌≤◌, ◌==◌, Bool, true, false, Option, None, Some, IsSome, if◌then◌else◌}
+use Rattle.std.specs.Prelude.{◌≡◌, ℕ, zero, suc, ◌+◌, ◌<◌, ◌≤◌, ◌==◌, Bool, true, false, Option, None, Some, IsSome}
+use Rattle.std.specs.Prelude.{if◌then◌else◌}
 use Rattle.lfs_types.specs.Tree.{root as root_row}
 use Rattle.lfs_nodes.specs.declared.place.Place.{Place}
 use Rattle.lfs_nodes.specs.declared.place.TheConstants.{ROOT_ID}
@@ -20,10 +21,13 @@ unfoldable pub kids : (ℕ → Option Place) → ℕ → ℕ → ℕ
 kids places parent zero = 0
 kids places parent (suc n) = kids places parent n + beneath parent (places n)
 
--- Where each id hangs, the number of its row, how many hang beneath it, the id at each place, and the next id agree: node 1 is
--- the root alone, and of row 2; the index has each place; no id is as large as the next; what a node hangs in is known; and
+-- Where each id hangs, the number of its row, how many hang beneath it, the id at each place, and the next id agree:
+-- node 1 is
+-- the root alone, and of row 2; the index has each place; no id is as large as the next; what a node hangs in is known;
+-- and
 -- what hangs beneath a node is counted.
-pub record AreWhole (hangs : ℕ → Option Hang) (numbers counts : ℕ → Option ℕ) (index : Place → Option ℕ) (next : ℕ) : Type 0 where
+pub record AreWhole (hangs : ℕ → Option Hang) (numbers counts : ℕ → Option ℕ) (index : Place → Option ℕ)
+    (next : ℕ) : Type 0 where
   pub root : hangs ROOT_ID ≡ Some Root
   pub row : numbers ROOT_ID ≡ Some root_row
   pub rooted : (id : ℕ) → hangs id ≡ Some Root → id ≡ ROOT_ID
@@ -36,4 +40,5 @@ pub record AreWhole (hangs : ℕ → Option Hang) (numbers counts : ℕ → Opti
 
 -- the maps of nodes agree
 abbrev pub IsWhole : Parts → Type 0
-IsWhole parts = AreWhole (λ q. hang_in (node_at parts.table q)) (λ q. number_in (node_at parts.table q)) (λ q. children_in (node_at parts.table q)) (id_at parts.index) parts.next
+IsWhole parts = AreWhole (λ q. hang_in (node_at parts.table q)) (λ q. number_in (node_at parts.table q))
+    (λ q. children_in (node_at parts.table q)) (id_at parts.index) parts.next

@@ -1,5 +1,6 @@
 -- Lines grow by their words.
-use Rattle.std.proofs.Common.{◌≡◌, ℕ, ◌+◌, ◌<◌, ◌≤◌, List, [], ◌∷◌, ◌++◌, length, map, take, get_or, codes, ap, ◌∙◌, append_assoc}
+use Rattle.std.proofs.Common.{◌≡◌, ℕ, ◌+◌, ◌<◌, ◌≤◌, List, [], ◌∷◌, ◌++◌, length, map, take, get_or, codes, ap, ◌∙◌}
+use Rattle.std.proofs.Common.{append_assoc}
 use Rattle.std.proofs.lemmas.List.{append-nil, flat_map_more, map-append, take_all, take_more}
 use Rattle.std.specs.Prelude.{decimal}
 use Rattle.lfs_model.specs.declared.journal.CleanerAnswer.{CleanerAnswer}
@@ -32,11 +33,15 @@ denial_added out a b d e f code error name path at denial one coded two errs nam
     rw (five, place, four, goes, three, named, errs, two, coded, one) (simp (append_assoc, append-nil))
 
 -- one more name
-pub name_more : (out done new : List ℕ) (names : List (List ℕ)) (i : ℕ) (name : List ℕ) → i < length names → name ≡ get_or names i name
-    → done ≡ out ++ spaced (map name_text (take i names)) → new ≡ done ++ 32 ∷ name_text name → new ≡ out ++ spaced (map name_text (take (i + 1) names))
+pub name_more : (out done new : List ℕ) (names : List (List ℕ)) (i : ℕ) (name : List ℕ) → i < length names → name
+    ≡ get_or names i name
+    → done ≡ out ++ spaced (map name_text (take i names)) → new ≡ done ++ 32 ∷ name_text name → new ≡ out
+    ++ spaced (map name_text (take (i + 1) names))
 name_more out done new names i name lt is so_far grown =
-    rw (grown, so_far, take_more names i name lt, ← is, map-append) (flat_map_more (λ word. 32 ∷ word) out (map name_text (take i names)) (name_text name))
+    rw (grown, so_far, take_more names i name lt, ← is, map-append)
+    (flat_map_more (λ word. 32 ∷ word) out (map name_text (take i names)) (name_text name))
 
 -- all names
-pub names_all : (out done : List ℕ) (names : List (List ℕ)) (i : ℕ) → length names ≤ i → done ≡ out ++ spaced (map name_text (take i names)) → done ≡ out ++ spaced (map name_text names)
+pub names_all : (out done : List ℕ) (names : List (List ℕ)) (i : ℕ) → length names ≤ i → done ≡ out
+    ++ spaced (map name_text (take i names)) → done ≡ out ++ spaced (map name_text names)
 names_all out done names i le so_far = so_far ∙ ap (λ xs. out ++ spaced (map name_text xs)) (take_all i names le)

@@ -1,5 +1,6 @@
 -- The report grows by its lines.
-use Rattle.std.proofs.Common.{◌≡◌, ℕ, ◌+◌, ◌<◌, ◌≤◌, List, [], ◌∷◌, ◌++◌, length, take, get_or, map, codes, refl, ap, sym, ◌∙◌, append_assoc, arith}
+use Rattle.std.proofs.Common.{◌≡◌, ℕ, ◌+◌, ◌<◌, ◌≤◌, List, [], ◌∷◌, ◌++◌, length, take, get_or, map, codes, refl, ap}
+use Rattle.std.proofs.Common.{sym, ◌∙◌, append_assoc, arith}
 use Rattle.std.specs.Prelude.{◌≢◌, cond, count_by, decimal}
 use Rattle.std.specs.List.{flat_map, zip}
 use Rattle.std.proofs.lemmas.Bool.{eq-eqb, ne_eqb}
@@ -16,8 +17,10 @@ use Rattle.lfs_types.specs.declared.rule.Rule.{Rule}
 use Rattle.lfs_print.specs.ReportText.{count_line, counts_text, denials_line, report_text, rule_line, users_lines}
 
 -- the lines of the report, part by part
-pub report_added : (out a b d e : List ℕ) (cleaner : ℕ) (entries : List Entry) → a ≡ out ++ count_line (codes "entries") (length entries)
-    → b ≡ a ++ users_lines entries → cleaner ≡ count_by (λ entry. is_cleaner entry.event) entries → d ≡ b ++ count_line (codes "cleaner") cleaner
+pub report_added : (out a b d e : List ℕ) (cleaner : ℕ) (entries : List Entry) → a ≡ out
+    ++ count_line (codes "entries") (length entries)
+    → b ≡ a ++ users_lines entries → cleaner ≡ count_by (λ entry. is_cleaner entry.event) entries → d ≡ b
+    ++ count_line (codes "cleaner") cleaner
     → e ≡ d ++ flat_map (rule_line entries) rules
     → e ≡ out ++ report_text entries
 report_added out a b d e cleaner entries one two made three four =
@@ -33,7 +36,8 @@ rule_more out done new entries all i d lt so_far grown =
 -- all rules
 pub rules_all : (out done : List ℕ) (entries : List Entry) (all : List Rule) (i : ℕ) → length all ≤ i
     → done ≡ out ++ flat_map (rule_line entries) (take i all) → done ≡ out ++ flat_map (rule_line entries) all
-rules_all out done entries all i le so_far = so_far ∙ ap (λ xs. out ++ flat_map (rule_line entries) xs) (take_all i all le)
+rules_all out done entries all i le so_far = so_far
+    ∙ ap (λ xs. out ++ flat_map (rule_line entries) xs) (take_all i all le)
 
 -- a rule that denied no call
 pub rule_none : (out : List ℕ) (rule : Rule) (number : ℕ) → number ≡ 0 → out ≡ out ++ denials_line (rule, number)
@@ -44,37 +48,47 @@ rule_none out rule number none =
 
 -- a rule that denied some
 pub rule_added : (out a new code : List ℕ) (rule : Rule) (number : ℕ) → number ≢ 0
-    → a ≡ out ++ codes "rule " → code ≡ rule_code rule → new ≡ a ++ count_line code number → new ≡ out ++ denials_line (rule, number)
+    → a ≡ out ++ codes "rule " → code ≡ rule_code rule → new ≡ a ++ count_line code number → new ≡ out
+    ++ denials_line (rule, number)
 unfolding count_line denials_line
 rule_added out a new code rule number some one coded two =
     let line = codes "rule" ++ 32 ∷ rule_code rule ++ 32 ∷ decimal number ++ 10 ∷ [] in
     let shown : denials_line (rule, number) ≡ line = rw (ne_eqb number 0 some) refl in
-    rw (two, coded, one) (append_assoc out (codes "rule ") (rule_code rule ++ 32 ∷ decimal number ++ 10 ∷ []) ∙ ap (λ xs. out ++ xs) (sym shown))
+    rw (two, coded, one) (append_assoc out (codes "rule ") (rule_code rule ++ 32 ∷ decimal number ++ 10 ∷ [])
+    ∙ ap (λ xs. out ++ xs) (sym shown))
 
 -- one more rule and its number
-pub denials_more : (out done new : List ℕ) (all : List Rule) (numbers : List ℕ) (i number : ℕ) (d : Rule) → length numbers ≡ length all → i < length all
+pub denials_more : (out done new : List ℕ) (all : List Rule) (numbers : List ℕ) (i number : ℕ) (d : Rule)
+    → length numbers ≡ length all → i < length all
     → number ≡ get_or numbers i 0
-    → done ≡ out ++ flat_map denials_line (take i (zip all numbers)) → new ≡ done ++ denials_line (get_or all i d, number)
+    → done ≡ out ++ flat_map denials_line (take i (zip all numbers)) → new ≡ done
+    ++ denials_line (get_or all i d, number)
     → new ≡ out ++ flat_map denials_line (take (i + 1) (zip all numbers))
 denials_more out done new all numbers i number d same lt is so_far grown =
     let long : i < length (zip all numbers) = omega (arith, length-zip all numbers, same) in
-    let here : get_or (zip all numbers) i (d, 0) ≡ (get_or all i d, get_or numbers i 0) = get_or-zip all numbers i (d, 0) lt (omega (arith, same)) in
-    rw (grown, is, so_far, take_more (zip all numbers) i (d, 0) long, sym here) (flat_map_more denials_line out (take i (zip all numbers)) (get_or (zip all numbers) i (d, 0)))
+    let here : get_or (zip all numbers) i (d, 0)
+    ≡ (get_or all i d, get_or numbers i 0) = get_or-zip all numbers i (d, 0) lt (omega (arith, same)) in
+    rw (grown, is, so_far, take_more (zip all numbers) i (d, 0) long, sym here)
+    (flat_map_more denials_line out (take i (zip all numbers)) (get_or (zip all numbers) i (d, 0)))
 
 -- all of them
 pub denials_all : (out done : List ℕ) (all : List Rule) (numbers : List ℕ) (i : ℕ) → length all ≤ i
-    → done ≡ out ++ flat_map denials_line (take i (zip all numbers)) → done ≡ out ++ flat_map denials_line (zip all numbers)
+    → done ≡ out ++ flat_map denials_line (take i (zip all numbers)) → done ≡ out
+    ++ flat_map denials_line (zip all numbers)
 denials_all out done all numbers i le so_far =
-    so_far ∙ ap (λ xs. out ++ flat_map denials_line xs) (take_all i (zip all numbers) (omega (arith, length-zip all numbers)))
+    so_far ∙ ap (λ xs. out ++ flat_map denials_line xs)
+    (take_all i (zip all numbers) (omega (arith, length-zip all numbers)))
 
 -- the lines of rules with the numbers that a journal has of them
-zipped : (entries : List Entry) (all : List Rule) → flat_map denials_line (zip all (map (λ rule. denials rule entries) all)) ≡ flat_map (rule_line entries) all
+zipped : (entries : List Entry) (all : List Rule)
+    → flat_map denials_line (zip all (map (λ rule. denials rule entries) all)) ≡ flat_map (rule_line entries) all
 zipped entries [] = refl
 zipped entries (rule ∷ others) = ap (λ xs. denials_line (rule, denials rule entries) ++ xs) (zipped entries others)
 
 -- an event is one of the four
 four : (event : Event)
-    → cond (is_served event) 1 0 + cond (is_denied event) 1 0 + cond (is_refused event) 1 0 + cond (is_cleaner event) 1 0 ≡ 1
+    → cond (is_served event) 1 0 + cond (is_denied event) 1 0 + cond (is_refused event) 1 0
+    + cond (is_cleaner event) 1 0 ≡ 1
 unfolding is_served is_denied is_refused is_cleaner
 four (User request (answer.Served shown)) = refl
 four (User request (answer.Denied denial)) = refl
@@ -84,7 +98,8 @@ four (Cleaner kind came) = refl
 -- so their numbers are those of the entries
 sum_of : (entries : List Entry)
     → count_by (λ entry. is_served entry.event) entries + count_by (λ entry. is_denied entry.event) entries
-    + count_by (λ entry. is_refused entry.event) entries + count_by (λ entry. is_cleaner entry.event) entries ≡ length entries
+    + count_by (λ entry. is_refused entry.event) entries + count_by (λ entry. is_cleaner entry.event) entries
+    ≡ length entries
 sum_of [] = refl
 sum_of (entry ∷ entries) = omega (
   arith,

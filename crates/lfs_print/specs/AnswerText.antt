@@ -4,7 +4,8 @@ use Rattle.lfs_types.specs.RuleCodes.{rule_code, rule_error, error_name}
 use Rattle.lfs_types.specs.declared.answer.Answer.{Answer}
 use Rattle.lfs_types.specs.declared.answer.Answer.TheVariants.{Served as Shows, Denied, Refused}
 use Rattle.lfs_types.specs.declared.answer.Resource.{Resource}
-use Rattle.lfs_types.specs.declared.answer.Resource.TheVariants.{NoMemory, NoSpace, NoInodes, DirectoryFull, JournalFull}
+use Rattle.lfs_types.specs.declared.answer.Resource.TheVariants.{NoMemory, NoSpace, NoInodes, DirectoryFull}
+use Rattle.lfs_types.specs.declared.answer.Resource.TheVariants.{JournalFull}
 use Rattle.lfs_types.specs.declared.answer.Served.{Served}
 use Rattle.lfs_types.specs.declared.answer.Served.TheVariants.{Stat, Bytes, Names, Done}
 use Rattle.lfs_types.specs.declared.attrs.Attrs.{Attrs}
@@ -45,7 +46,8 @@ served_words Done = codes "ok" ∷ []
 -- the words of a denial: the rule's code and error, the path and the component
 abbrev pub denial_words : Denial → List (List ℕ)
 denial_words denial =
-    codes "denied" ∷ rule_code denial.rule ∷ error_name (rule_error denial.rule) ∷ decimal denial.path ∷ decimal denial.at ∷ []
+    codes "denied" ∷ rule_code denial.rule ∷ error_name (rule_error denial.rule) ∷ decimal denial.path
+    ∷ decimal denial.at ∷ []
 
 -- the words of an answer
 abbrev pub answer_words : Answer → List (List ℕ)

@@ -14,8 +14,10 @@ use Rattle.lfs_programs.specs.Ends.{EndsUnasked}
 
 -- a text is that of a run of a script as was asked: on the caller's thread, or each session on a thread of its own
 pub record IsAskedText (options : Options) (script text : List ℕ) : Type 0 where
-  pub alone : options.threads ≡ false → IsLogOutput script options.params.segments options.params.inodes options.params.frames options.params.journal text
-  pub together : options.threads ≡ true → IsThreadsOutput script options.params.segments options.params.inodes options.params.journal text
+  pub alone : options.threads ≡ false → IsLogOutput script options.params.segments options.params.inodes
+      options.params.frames options.params.journal text
+  pub together : options.threads ≡ true → IsThreadsOutput script options.params.segments options.params.inodes
+      options.params.journal text
 
 -- a run of a script on the caller's thread may end in this fault
 abbrev pub IsAloneFault : Option (List ℕ) → Params → ThreadsFault → Type 0
@@ -26,11 +28,13 @@ IsAloneFault known params (threads.Serve fault) = ⊥
 -- a run as it was asked for, of a script of these bytes, where they are known, may end in this fault
 pub record IsAskedFault (options : Options) (known : Option (List ℕ)) (fault : ThreadsFault) : Type 0 where
   pub alone : options.threads ≡ false → IsAloneFault known options.params fault
-  pub together : options.threads ≡ true → IsThreadsFault known options.params.segments options.params.inodes options.params.frames fault
+  pub together : options.threads ≡ true → IsThreadsFault known options.params.segments options.params.inodes
+      options.params.frames fault
 
 -- a writer got the text of a run of a script of these bytes, where they are known
 abbrev pub HasGotText : Options → Option (List ℕ) → Option (List ℕ) → Option (List ℕ) → Type 0
-HasGotText options known start out = IfSome known (λ script. (text : List ℕ) × IsAskedText options script text × Appends start out text)
+HasGotText options known start out = IfSome known (λ script. (text : List ℕ) × IsAskedText options script text
+    × Appends start out text)
 
 -- a run ended in a fault, which has its cause, and up to some faults nothing was written
 pub record HasFailed (options : Options) (known start out : Option (List ℕ)) : Type 0 where
@@ -40,15 +44,18 @@ pub record HasFailed (options : Options) (known start out : Option (List ℕ)) :
 
 -- A program that was asked for a run ends with this status: 0 where it is done and its text is written, of which
 -- nothing is told; else 1, and the run ended in a fault.
-pub record EndsRun {D : Type 0} (options : Options) (known start out : Option (List ℕ)) (status : ℕ) (err_before err_after : D) : Type 0 where
+pub record EndsRun {D : Type 0} (options : Options) (known start out : Option (List ℕ)) (status : ℕ)
+    (err_before err_after : D) : Type 0 where
   pub either : status ≤ 1
   pub done : status ≡ 0 → HasGotText options known start out × (err_after ≡ err_before)
   pub failed : status ≢ 0 → HasFailed options known start out
 
 -- `lfsd` ends with this status by what it was asked for: options whose numbers are in their ranges, as a run of that
 -- kind ends, or else nothing is read
-pub record IsServerEnd {R W D : Type 0} (known start out : Option (List ℕ)) (status : ℕ) (in_before in_after : R) (out_before out_after : W) (err_before err_after : D) : Type 0 where
+pub record IsServerEnd {R W D : Type 0} (known start out : Option (List ℕ)) (status : ℕ) (in_before in_after : R)
+    (out_before out_after : W) (err_before err_after : D) : Type 0 where
   pub asked : Result Options Error
   pub ranges : IfOk asked (λ options. IsInRange 100000 options.params)
   pub run : IfOk asked (λ options. EndsRun options known start out status err_before err_after)
-  pub not_run : IfErr asked (λ error. (in_after ≡ in_before) × EndsUnasked (kind_of error) status out_before out_after err_before err_after)
+  pub not_run : IfErr asked (λ error. (in_after ≡ in_before)
+      × EndsUnasked (kind_of error) status out_before out_after err_before err_after)

@@ -21,7 +21,8 @@ HasTalked params known start out =
 -- the same up to a read that failed
 abbrev pub HasTalkedSoFar : Params → Option (List ℕ) → Option (List ℕ) → Option (List ℕ) → Type 0
 HasTalkedSoFar params known start out =
-    (left : Option (List ℕ)) × HasHeardOfLog params.segments params.inodes params.frames params.journal known left start out
+    (left : Option (List ℕ)) × HasHeardOfLog params.segments params.inodes params.frames params.journal known left start
+    out
 
 -- a file, whose bytes these are where they are known, got the page of a film
 pub record HasPage {F : Type 0} (contents : F → Option (List ℕ)) (reel : Reel) : Type 0 where
@@ -48,7 +49,8 @@ pub record HasBrokenOff (options : ShellOptions) (known start out : Option (List
 
 -- A program that was asked for a talk ends with this status: 0 where it has its end, a film that is asked for is
 -- written to a file, and nothing is told; else 1.
-pub record EndsTalk {D F : Type 0} (contents : F → Option (List ℕ)) (options : ShellOptions) (known start out : Option (List ℕ)) (status : ℕ) (err_before err_after : D) : Type 0 where
+pub record EndsTalk {D F : Type 0} (contents : F → Option (List ℕ)) (options : ShellOptions)
+    (known start out : Option (List ℕ)) (status : ℕ) (err_before err_after : D) : Type 0 where
   pub either : status ≤ 1
   pub done : status ≡ 0 → HasTalked options.params known start out × (err_after ≡ err_before)
   pub filmed : status ≡ 0 → IfSome options.film (λ _. IsFilmed contents)
@@ -56,8 +58,10 @@ pub record EndsTalk {D F : Type 0} (contents : F → Option (List ℕ)) (options
 
 -- `lfs_shell` ends with this status by what it was asked for: options whose numbers are in their ranges, as a talk
 -- ends, or else nothing is read
-pub record IsShellEnd {R W D F : Type 0} (contents : F → Option (List ℕ)) (known start out : Option (List ℕ)) (status : ℕ) (in_before in_after : R) (out_before out_after : W) (err_before err_after : D) : Type 0 where
+pub record IsShellEnd {R W D F : Type 0} (contents : F → Option (List ℕ)) (known start out : Option (List ℕ))
+    (status : ℕ) (in_before in_after : R) (out_before out_after : W) (err_before err_after : D) : Type 0 where
   pub asked : Result ShellOptions Error
   pub ranges : IfOk asked (λ options. IsInRange 1000000 options.params)
   pub talk : IfOk asked (λ options. EndsTalk contents options known start out status err_before err_after)
-  pub not_run : IfErr asked (λ error. (in_after ≡ in_before) × EndsUnasked (kind_of error) status out_before out_after err_before err_after)
+  pub not_run : IfErr asked (λ error. (in_after ≡ in_before)
+      × EndsUnasked (kind_of error) status out_before out_after err_before err_after)

@@ -1,5 +1,6 @@
 -- The lists of the queues after a number has left them or come in.
-use Rattle.std.proofs.Common.{◌≡◌, ◌≢◌, ◌⊎◌, ℕ, suc, ◌+◌, ◌<◌, ◌≤◌, Bool, true, false, cond, ◌==◌, nat_lt, List, [], ◌∷◌, length, refl, sym, ap, subst, ◌∙◌, inl, inr, zero-add, arith}
+use Rattle.std.proofs.Common.{◌≡◌, ◌≢◌, ◌⊎◌, ℕ, suc, ◌+◌, ◌<◌, ◌≤◌, Bool, true, false, cond, ◌==◌, nat_lt, List, []}
+use Rattle.std.proofs.Common.{◌∷◌, length, refl, sym, ap, subst, ◌∙◌, inl, inr, zero-add, arith}
 use Rattle.std.proofs.lemmas.Bool.Decides.{eqb_tells, nat_tests}
 use Rattle.lfs_recency.specs.declared.queue.Queue.{Queue}
 use Rattle.lfs_recency.specs.declared.queue.Queue.TheVariants.{Locked, Lru, Age, Empty}
@@ -19,9 +20,13 @@ less_test a b l = grind (arith, nat_tests)
 pub times-without_same : (f : ℕ) (xs : List ℕ) → times f (without f xs) ≡ 0
 times-without_same f [] = refl
 times-without_same f (x ∷ xs) =
-    elim (eqb_tells x f) as (λ _. times f (without f (x ∷ xs)) ≡ 0) [ inl h ↦ simp h.0 (times-without_same f xs) | inr h ↦ simp h.0 (times-without_same f xs) ]
+    elim (eqb_tells x f) as (λ _. times f (without f (x ∷ xs)) ≡ 0) [
+      | inl h ↦ simp h.0 (times-without_same f xs)
+      | inr h ↦ simp h.0 (times-without_same f xs)
+    ]
 
-times_step : (f g x : ℕ) (xs : List ℕ) → g ≢ f → times g (without f xs) ≡ times g xs → times g (without f (x ∷ xs)) ≡ times g (x ∷ xs)
+times_step : (f g x : ℕ) (xs : List ℕ) → g ≢ f → times g (without f xs) ≡ times g xs → times g (without f (x ∷ xs))
+    ≡ times g (x ∷ xs)
 times_step f g x xs ne known =
     elim (eqb_tells x f) as (λ _. times g (without f (x ∷ xs)) ≡ times g (x ∷ xs)) [
       | inl h ↦ let off : (x == g) ≡ false = other_test x g (λ e. ne (sym e ∙ h.1)) in simp (h.0, off) known
@@ -32,7 +37,8 @@ pub times-without_other : (f g : ℕ) (xs : List ℕ) → g ≢ f → times g (w
 times-without_other f g [] ne = refl
 times-without_other f g (x ∷ xs) ne = times_step f g x xs ne (times-without_other f g xs ne)
 
-length_step : (f x : ℕ) (xs : List ℕ) → length (without f xs) + times f xs ≡ length xs → length (without f (x ∷ xs)) + times f (x ∷ xs) ≡ length (x ∷ xs)
+length_step : (f x : ℕ) (xs : List ℕ) → length (without f xs) + times f xs ≡ length xs → length (without f (x ∷ xs))
+    + times f (x ∷ xs) ≡ length (x ∷ xs)
 length_step f x xs known =
     elim (eqb_tells x f) as (λ _. length (without f (x ∷ xs)) + times f (x ∷ xs) ≡ length (x ∷ xs))
     [ inl h ↦ simp h.0 (omega (arith, known)) | inr h ↦ simp h.0 (omega (arith, known)) ]
@@ -45,14 +51,19 @@ module _ (P : ℕ → Type 0) where
   pub Every-without : (f : ℕ) (xs : List ℕ) → Every P xs → Every P (without f xs)
   Every-without f [] h = tt
   Every-without f (x ∷ xs) h =
-      elim (eqb_tells x f) as (λ _. Every P (without f (x ∷ xs)))
-      [ inl t ↦ let e = t.0 in rw e (Every-without f xs h.1) | inr t ↦ let e = t.0 in rw e (h.0, Every-without f xs h.1) ]
+      elim (eqb_tells x f) as (λ _. Every P (without f (x ∷ xs))) [
+        | inl t ↦ let e = t.0 in rw e (Every-without f xs h.1)
+        | inr t ↦ let e = t.0 in rw e (h.0, Every-without f xs h.1)
+      ]
 
   pub Every-times : (f : ℕ) (xs : List ℕ) → Every P xs → 0 < times f xs → P f
   Every-times f [] h some = absurd (omega arith)
   Every-times f (x ∷ xs) h some =
-      elim (eqb_tells x f) as (λ _. P f)
-      [ inl t ↦ subst P t.1 h.0 | inr t ↦ Every-times f xs h.1 (subst (λ (b : Bool). 0 < cond b (suc (times f xs)) (times f xs)) t.0 some) ]
+      elim (eqb_tells x f) as (λ _. P f) [
+        | inl t ↦ subst P t.1 h.0
+        | inr t ↦ Every-times f xs h.1
+            (subst (λ (b : Bool). 0 < cond b (suc (times f xs)) (times f xs)) t.0 some)
+      ]
 
   pub Every-map : (Q : ℕ → Type 0) → ((i : ℕ) → P i → Q i) → (xs : List ℕ) → Every P xs → Every Q xs
   Every-map Q to [] h = tt
@@ -62,7 +73,8 @@ pub Every-lacks : (f : ℕ) (xs : List ℕ) → times f xs ≡ 0 → Every (λ i
 Every-lacks f [] h = tt
 Every-lacks f (x ∷ xs) h =
     elim (eqb_tells x f) as (λ _. Every (λ i. i ≢ f) (x ∷ xs)) [
-      | inl t ↦ absurd (let none : suc (times f xs) ≡ 0 = subst (λ (b : Bool). cond b (suc (times f xs)) (times f xs) ≡ 0) t.0 h in omega arith)
+      | inl t ↦ absurd (let none : suc (times f xs)
+          ≡ 0 = subst (λ (b : Bool). cond b (suc (times f xs)) (times f xs) ≡ 0) t.0 h in omega arith)
       | inr t ↦ (t.1, Every-lacks f xs (subst (λ (b : Bool). cond b (suc (times f xs)) (times f xs) ≡ 0) t.0 h))
     ]
 
@@ -78,7 +90,8 @@ listed-taken f s Age = refl
 listed-taken f s Empty = refl
 
 -- the list of the queue p after f has come into the queue q: either p is q, or p has another head
-pub listed-pushed : (n f : ℕ) (s : FrameLists) (p q : Queue) → ((p ≡ q) × (listed p (pushed f q s) ≡ f ∷ listed p s)) ⊎ ((head_of n p ≢ head_of n q) × (listed p (pushed f q s) ≡ listed p s))
+pub listed-pushed : (n f : ℕ) (s : FrameLists) (p q : Queue) → ((p ≡ q) × (listed p (pushed f q s) ≡ f ∷ listed p s))
+    ⊎ ((head_of n p ≢ head_of n q) × (listed p (pushed f q s) ≡ listed p s))
 listed-pushed n f s Locked Locked = inl (refl, refl)
 listed-pushed n f s Locked Lru = inr ((λ e. omega arith), refl)
 listed-pushed n f s Locked Age = inr ((λ e. omega arith), refl)
@@ -121,20 +134,34 @@ count-pushed f s Age = omega arith
 count-pushed f s Empty = omega arith
 
 pub count-taken : (f : ℕ) (s : FrameLists) → count_all (taken f s) + times_in_all f s ≡ count_all s
-count-taken f s = omega (arith, length-without f s.locked, length-without f s.lru, length-without f s.age, length-without f s.empty)
+count-taken f s = omega (
+  arith,
+  length-without f s.locked,
+  length-without f s.lru,
+  length-without f s.age,
+  length-without f s.empty,
+)
 
 times_here : (f g : ℕ) (xs : List ℕ) (rest : ℕ) → times g (f ∷ xs) + rest ≡ cond (f == g) 1 0 + (times g xs + rest)
 times_here f g xs rest =
-    elim (eqb_tells f g) as (λ _. times g (f ∷ xs) + rest ≡ cond (f == g) 1 0 + (times g xs + rest)) [ inl h ↦ simp h.0 (omega arith) | inr h ↦ simp h.0 (omega arith) ]
+    elim (eqb_tells f g) as (λ _. times g (f ∷ xs) + rest ≡ cond (f == g) 1 0
+    + (times g xs + rest)) [ inl h ↦ simp h.0 (omega arith) | inr h ↦ simp h.0 (omega arith) ]
 
-pub times-pushed : (f g : ℕ) (s : FrameLists) (q : Queue) → times_in_all g (pushed f q s) ≡ cond (f == g) 1 0 + times_in_all g s
+pub times-pushed : (f g : ℕ) (s : FrameLists) (q : Queue) → times_in_all g (pushed f q s) ≡ cond (f == g) 1 0
+    + times_in_all g s
 times-pushed f g s Locked = omega (arith, times_here f g s.locked (times g s.lru + times g s.age + times g s.empty))
 times-pushed f g s Lru = omega (arith, times_here f g s.lru (times g s.locked + times g s.age + times g s.empty))
 times-pushed f g s Age = omega (arith, times_here f g s.age (times g s.lru + times g s.locked + times g s.empty))
 times-pushed f g s Empty = omega (arith, times_here f g s.empty (times g s.lru + times g s.age + times g s.locked))
 
 pub times-taken_same : (f : ℕ) (s : FrameLists) → times_in_all f (taken f s) ≡ 0
-times-taken_same f s = omega (arith, times-without_same f s.locked, times-without_same f s.lru, times-without_same f s.age, times-without_same f s.empty)
+times-taken_same f s = omega (
+  arith,
+  times-without_same f s.locked,
+  times-without_same f s.lru,
+  times-without_same f s.age,
+  times-without_same f s.empty,
+)
 
 pub times-taken_other : (f g : ℕ) (s : FrameLists) → g ≢ f → times_in_all g (taken f s) ≡ times_in_all g s
 times-taken_other f g s ne =
@@ -154,11 +181,14 @@ length-listed s Age = omega arith
 length-listed s Empty = omega arith
 
 -- a number below n that is in no list, after it has come in
-pub whole-pushed : (n f : ℕ) (s : FrameLists) (q : Queue) → f < n → ((g : ℕ) → g ≢ f → times_in_all g s ≡ cond (nat_lt g n) 1 0) → times_in_all f s ≡ 0
+pub whole-pushed : (n f : ℕ) (s : FrameLists) (q : Queue) → f < n
+    → ((g : ℕ) → g ≢ f → times_in_all g s ≡ cond (nat_lt g n) 1 0) → times_in_all f s ≡ 0
     → (g : ℕ) → times_in_all g (pushed f q s) ≡ cond (nat_lt g n) 1 0
 whole-pushed n f s q below others none g =
     elim (eqb_tells f g) as (λ _. times_in_all g (pushed f q s) ≡ cond (nat_lt g n) 1 0) [
       | inl t ↦ let on : nat_lt g n ≡ true = subst (λ k. nat_lt k n ≡ true) t.1 (less_test f n below) in
-          times-pushed f g s q ∙ (ap (λ b. cond b 1 0 + times_in_all g s) t.0 ∙ (ap (λ k. 1 + times_in_all k s) (sym t.1) ∙ (ap (λ k. 1 + k) none ∙ ap (λ b. cond b 1 0) (sym on))))
-      | inr t ↦ times-pushed f g s q ∙ (ap (λ b. cond b 1 0 + times_in_all g s) t.0 ∙ (zero-add (times_in_all g s) ∙ others g (λ e. t.1 (sym e))))
+          times-pushed f g s q ∙ (ap (λ b. cond b 1 0 + times_in_all g s) t.0
+          ∙ (ap (λ k. 1 + times_in_all k s) (sym t.1) ∙ (ap (λ k. 1 + k) none ∙ ap (λ b. cond b 1 0) (sym on))))
+      | inr t ↦ times-pushed f g s q ∙ (ap (λ b. cond b 1 0 + times_in_all g s) t.0
+          ∙ (zero-add (times_in_all g s) ∙ others g (λ e. t.1 (sym e))))
     ]

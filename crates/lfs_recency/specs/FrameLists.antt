@@ -28,7 +28,13 @@ without f (x ∷ xs) = cond (x == f) (without f xs) (x ∷ without f xs)
 
 -- f leaves its list
 abbrev pub taken : ℕ → FrameLists → FrameLists
-taken f s = record { locked = without f s.locked; lru = without f s.lru; age = without f s.age; empty = without f s.empty; blocks = s.blocks }
+taken f s = record {
+  locked = without f s.locked;
+  lru = without f s.lru;
+  age = without f s.age;
+  empty = without f s.empty;
+  blocks = s.blocks;
+}
 
 -- f stands first in the list of a queue
 abbrev pub pushed : ℕ → Queue → FrameLists → FrameLists
@@ -50,7 +56,8 @@ times f (x ∷ xs) = cond (x == f) (suc (times f xs)) (times f xs)
 abbrev pub times_in_all : ℕ → FrameLists → ℕ
 times_in_all f s = times f s.locked + times f s.lru + times f s.age + times f s.empty
 
--- the four lists together are a permutation of the frames' numbers: each stands in one list, once, and nothing else does
+-- the four lists together are a permutation of the frames' numbers: each stands in one list, once, and nothing else
+-- does
 abbrev pub IsWhole : FrameLists → Type 0
 IsWhole s = (f : ℕ) → times_in_all f s ≡ cond (nat_lt f (frame_count s)) 1 0
 

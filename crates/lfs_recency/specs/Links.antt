@@ -1,5 +1,6 @@
 -- The frames as they are linked: the frames proper and then a head for each queue, each link a pointer.
-use Rattle.std.specs.Prelude.{◌≡◌, ◌≢◌, ℕ, zero, suc, ◌+◌, ◌<◌, ◌≤◌, cond, nat_lt, min, List, [], ◌∷◌, map, take, length, slice_index_or, slice_set}
+use Rattle.std.specs.Prelude.{◌≡◌, ◌≢◌, ℕ, zero, suc, ◌+◌, ◌<◌, ◌≤◌, cond, nat_lt, min, List, [], ◌∷◌, map, take}
+use Rattle.std.specs.Prelude.{length, slice_index_or, slice_set}
 use Rattle.std.specs.Mem.{type_size}
 use denote.RawPtr.{Ptr, null_ptr, InBlock}
 use Rattle.lfs_recency.specs.declared.queue.Queue.{Queue}
@@ -68,15 +69,18 @@ module _ (size : ℕ) (base : Ptr) where
 
   -- the links after frame f has left its ring: its neighbours lead to one another
   abbrev pub unlinked : ℕ → List Frame → List Frame
-  unlinked f fs = with_prev (with_next fs (step_by (prev_at fs) f) (next_at fs f)) (step_by (next_at fs) f) (prev_at fs f)
+  unlinked f fs = with_prev (with_next fs (step_by (prev_at fs) f) (next_at fs f)) (step_by (next_at fs) f)
+      (prev_at fs f)
 
   -- frame f between the head of a queue and what follows that
   abbrev pub placed_after : ℕ → ℕ → Queue → List Frame → List Frame
-  placed_after head f q fs = slice_set fs f (record (frame_at fs f) { prev = item_place size base head; next = next_at fs head; queue = q })
+  placed_after head f q fs = slice_set fs f
+      (record (frame_at fs f) { prev = item_place size base head; next = next_at fs head; queue = q })
 
   -- the links after frame f has come right after the head of a queue
   abbrev pub linked_after : ℕ → ℕ → Queue → List Frame → List Frame
-  linked_after head f q fs = with_next (with_prev (placed_after head f q fs) (step_by (next_at fs) head) (item_place size base f)) head (item_place size base f)
+  linked_after head f q fs = with_next (with_prev (placed_after head f q fs) (step_by (next_at fs) head)
+      (item_place size base f)) head (item_place size base f)
 
   -- the numbers in the ring of a queue, of n frames
   abbrev pub ring : ℕ → List Frame → Queue → List ℕ
@@ -84,13 +88,23 @@ module _ (size : ℕ) (base : Ptr) where
 
   -- the lists that the links show
   abbrev pub shown : ℕ → List Frame → FrameLists
-  shown n fs = record { locked = ring n fs Locked; lru = ring n fs Lru; age = ring n fs Age; empty = ring n fs Empty; blocks = take n (map (λ f. f.bytes) fs) }
+  shown n fs = record {
+    locked = ring n fs Locked;
+    lru = ring n fs Lru;
+    age = ring n fs Age;
+    empty = ring n fs Empty;
+    blocks = take n (map (λ f. f.bytes) fs);
+  }
 
--- n frames and then their heads, which lie from base on, are linked as the lists say, all but the one of the number `but`
-pub record IsLinked (size : ℕ) (base : Ptr) (n : ℕ) (next prev : ℕ → Ptr) (number : ℕ → ℕ) (queue : ℕ → Queue) (but : ℕ) (s : FrameLists) : Type 0 where
+-- n frames and then their heads, which lie from base on, are linked as the lists say, all but the one of the number
+-- `but`
+pub record IsLinked (size : ℕ) (base : Ptr) (n : ℕ) (next prev : ℕ → Ptr) (number : ℕ → ℕ) (queue : ℕ → Queue) (but : ℕ)
+    (s : FrameLists) : Type 0 where
   pub places : (i : ℕ) → i < n + 4 → IsItemPlace size base (n + 4) (next i) × IsItemPlace size base (n + 4) (prev i)
-  pub forth : (i : ℕ) → i < n + 4 → i ≢ but → (step_by size base prev (step_by size base next i) ≡ i) × (step_by size base next i ≢ but)
-  pub back : (i : ℕ) → i < n + 4 → i ≢ but → (step_by size base next (step_by size base prev i) ≡ i) × (step_by size base prev i ≢ but)
+  pub forth : (i : ℕ) → i < n + 4 → i ≢ but → (step_by size base prev (step_by size base next i) ≡ i)
+      × (step_by size base next i ≢ but)
+  pub back : (i : ℕ) → i < n + 4 → i ≢ but → (step_by size base next (step_by size base prev i) ≡ i)
+      × (step_by size base prev i ≢ but)
   pub numbers : (i : ℕ) → i < n + 4 → number i ≡ min i n
   pub rings : (q : Queue) → IsPath (step_by size base next) (head_of n q) (listed q s) (head_of n q)
   pub members : (q : Queue) → Every (λ i. (i < n) × (queue i ≡ q)) (listed q s)
@@ -121,7 +135,13 @@ pub record AreAlone (size : ℕ) (base : Ptr) (n : ℕ) (fs : List Frame) : Type
 
 -- the lists when the first i of n frames are in EMPTY, and the others in no queue yet
 abbrev pub first_lists : ℕ → ℕ → List Frame → FrameLists
-first_lists n i fs = record { locked = []; lru = []; age = []; empty = descending i; blocks = take n (map (λ f. f.bytes) fs) }
+first_lists n i fs = record {
+  locked = [];
+  lru = [];
+  age = [];
+  empty = descending i;
+  blocks = take n (map (λ f. f.bytes) fs);
+}
 
 -- the first i of n frames are in EMPTY, and each other one is in a ring of its own
 pub record AreFilled (size : ℕ) (base : Ptr) (n i : ℕ) (fs : List Frame) : Type 0 where

@@ -23,7 +23,8 @@ other_mask Read = 0o4
 other_mask Write = 0o2
 other_mask Search = 0o1
 
--- User 0: yes. The owner: the owner's bit alone. Else a member of the group: the group's bit alone. Else the others' bit.
+-- User 0: yes. The owner: the owner's bit alone. Else a member of the group: the group's bit alone. Else the others'
+-- bit.
 abbrev pub grants_of : Caller → Attrs → Bit → Bool
 grants_of caller attrs bit =
     if is_the_superuser caller then true else

@@ -1,5 +1,6 @@
 -- A line of words says what its words say.
-use Rattle.std.proofs.Common.{◌≡◌, ℕ, ◌<◌, ◌≤◌, ◌==◌, Bool, true, false, cond, List, [], ◌∷◌, ◌++◌, length, get_or, codes, None, Some, Ok, refl, ap, sym, subst, ◌∙◌, arith, rules, tests}
+use Rattle.std.proofs.Common.{◌≡◌, ℕ, ◌<◌, ◌≤◌, ◌==◌, Bool, true, false, cond, List, [], ◌∷◌, ◌++◌, length, get_or}
+use Rattle.std.proofs.Common.{codes, None, Some, Ok, refl, ap, sym, subst, ◌∙◌, arith, rules, tests}
 use Rattle.std.specs.Prelude.{decimal, nat_le, not, ◌&&◌}
 use Rattle.std.specs.List.{All, flat_map, list_all, list_any, slice_split}
 use Rattle.std.specs.Str.{bytes_eq}
@@ -117,5 +118,6 @@ words_asked asked words request said =
 pub line_back : (request : Request) → IsSaid request → line_said (request_line request) ≡ Ok (Act (User request))
 line_back request said =
     let word = is_verb (kind_of request) in
-    line_of_words (request_word (kind_of request)) (operands request) word.word said.words (word.says (spaced (operands request)))
+    line_of_words (request_word (kind_of request)) (operands request) word.word said.words
+    (word.says (spaced (operands request)))
     ∙ words_asked (kind_of request) (operands request) request said.said

@@ -1,5 +1,6 @@
 -- What parsing a script may answer.
-use Rattle.std.specs.Prelude.{◌≡◌, ◌≢◌, ℕ, ◌-◌, ◌<◌, ◌≤◌, true, List, [], ◌∷◌, length, slice_index_or, Result, Ok, Err, IfErr}
+use Rattle.std.specs.Prelude.{◌≡◌, ◌≢◌, ℕ, ◌-◌, ◌<◌, ◌≤◌, true, List, [], ◌∷◌, length, slice_index_or, Result, Ok, Err}
+use Rattle.std.specs.Prelude.{IfErr}
 use Rattle.lfs_words.specs.Lines.{is_printable}
 use Rattle.lfs_words.specs.declared.fault.FaultKind.TheVariants.{Memory}
 use Rattle.lfs_script.specs.PlanTypes.{Planned}

@@ -1,5 +1,6 @@
 -- The plan of a script: a function of its text.
-use Rattle.std.specs.Prelude.{ℕ, ◌+◌, ◌==◌, max, false, List, [], ◌∷◌, ◌++◌, length, Option, None, Some, Result, Ok, Err, if◌then◌else◌}
+use Rattle.std.specs.Prelude.{ℕ, ◌+◌, ◌==◌, max, false, List, [], ◌∷◌, ◌++◌, length, Option, None, Some, Result, Ok}
+use Rattle.std.specs.Prelude.{Err, if◌then◌else◌}
 use Rattle.std.specs.List.{list_any, slice_split}
 use Rattle.lfs_words.specs.Callers.{caller_said}
 use Rattle.lfs_script.specs.CleanerCalls.{cleaner_said}
@@ -74,7 +75,8 @@ abbrev pub planned : Drafted → Planned
 planned draft = record { steps = draft.steps; sessions = draft.sessions }
 
 -- a value, or a fault of this line
-abbrev pub at_line : {X : Type 0} → ℕ → Result X FaultKind → (X → Result Planned ScriptFault) → Result Planned ScriptFault
+abbrev pub at_line : {X : Type 0} → ℕ → Result X FaultKind → (X → Result Planned ScriptFault)
+    → Result Planned ScriptFault
 at_line line (Ok x) next = next x
 at_line line (Err kind) next = Err (record { line = line; kind = kind })
 

@@ -4,7 +4,9 @@ use Rattle.std.specs.Str.{bytes_eq}
 use Rattle.lfs_types.specs.declared.request.Place.{Place}
 use Rattle.lfs_types.specs.declared.request.Place.TheVariants.{At, End}
 use Rattle.lfs_types.specs.declared.request.Request.{Request}
-use Rattle.lfs_types.specs.declared.request.Request.TheVariants.{Stat, Read, Write, List as Names, SetLength, Create, Mkdir, Unlink, Rmdir, Rename, Chmod, Chown, Chflags, SetLevel, Sync}
+use Rattle.lfs_types.specs.declared.request.Request.TheVariants.{Stat, Read, Write, List as Names, SetLength, Create}
+use Rattle.lfs_types.specs.declared.request.Request.TheVariants.{Mkdir, Unlink, Rmdir, Rename, Chmod, Chown, Chflags}
+use Rattle.lfs_types.specs.declared.request.Request.TheVariants.{SetLevel, Sync}
 use Rattle.lfs_words.specs.BytesText.{bytes_of}
 use Rattle.lfs_words.specs.Faults.{◌>>=◌}
 use Rattle.lfs_words.specs.FlagText.{flags_of}
@@ -37,7 +39,8 @@ write_words [] = Err Words
 write_words (path ∷ []) = Err Words
 write_words (path ∷ mark ∷ []) = Err Words
 write_words (path ∷ mark ∷ bytes ∷ []) = if bytes_eq mark (codes "end") then Ok (path, None, bytes) else Err Words
-write_words (path ∷ mark ∷ off ∷ bytes ∷ []) = if bytes_eq mark (codes "at") then Ok (path, Some off, bytes) else Err Words
+write_words (path ∷ mark ∷ off ∷ bytes ∷ []) = if bytes_eq mark (codes "at") then Ok (path, Some off, bytes)
+    else Err Words
 write_words (path ∷ mark ∷ off ∷ bytes ∷ fifth ∷ more) = Err Words
 
 -- a place: at a byte, or at the end where no word says at which

@@ -4,7 +4,9 @@ use Rattle.std.specs.List.{list_all}
 use Rattle.lfs_types.specs.declared.request.Place.{Place}
 use Rattle.lfs_types.specs.declared.request.Place.TheVariants.{At, End}
 use Rattle.lfs_types.specs.declared.request.Request.{Request}
-use Rattle.lfs_types.specs.declared.request.Request.TheVariants.{Stat, Read, Write, List as Names, SetLength, Create, Mkdir, Unlink, Rmdir, Rename, Chmod, Chown, Chflags, SetLevel, Sync}
+use Rattle.lfs_types.specs.declared.request.Request.TheVariants.{Stat, Read, Write, List as Names, SetLength, Create}
+use Rattle.lfs_types.specs.declared.request.Request.TheVariants.{Mkdir, Unlink, Rmdir, Rename, Chmod, Chown, Chflags}
+use Rattle.lfs_types.specs.declared.request.Request.TheVariants.{SetLevel, Sync}
 use Rattle.lfs_words.specs.BytesText.{bytes_text}
 use Rattle.lfs_words.specs.LevelText.{level_text}
 use Rattle.lfs_words.specs.NameText.{flags_text, mode_text}

@@ -1,5 +1,6 @@
 -- Plans as scripts of sessions.
-use Rattle.std.specs.Prelude.{◌≡◌, ℕ, ◌<◌, ◌==◌, Bool, true, false, nat_lt, List, [], ◌∷◌, ◌++◌, length, slice_index_or, slice_set, Option, None, Some, if◌then◌else◌}
+use Rattle.std.specs.Prelude.{◌≡◌, ℕ, ◌<◌, ◌==◌, Bool, true, false, nat_lt, List, [], ◌∷◌, ◌++◌, length, slice_index_or}
+use Rattle.std.specs.Prelude.{slice_set, Option, None, Some, if◌then◌else◌}
 use Rattle.std.specs.List.{filter_map}
 use Rattle.lfs_types.specs.Caller.{Caller}
 use Rattle.lfs_types.specs.declared.request.Request.{Request}
@@ -30,7 +31,8 @@ act_call cred Pass = None
 
 -- the users' calls of a session, in order
 abbrev pub calls_of : ℕ → List Step → List (Caller × Request)
-calls_of session steps = filter_map (λ step. if step.session == session then act_call step.cred step.act else None) steps
+calls_of session steps = filter_map (λ step. if step.session == session then act_call step.cred step.act
+    else None) steps
 
 -- list k has the calls of session k, for each session below `count`
 abbrev pub Sorts : List Step → ℕ → List (List (Caller × Request)) → Type 0
@@ -39,4 +41,5 @@ Sorts steps count lists = (session : ℕ) → session < count → slice_index_or
 -- lists with one more call in the list of its session, where there is one
 abbrev pub with_call : List (List (Caller × Request)) → ℕ → Caller × Request → List (List (Caller × Request))
 with_call lists session call =
-    if nat_lt session (length lists) then slice_set lists session (slice_index_or lists session [] ++ call ∷ []) else lists
+    if nat_lt session (length lists) then slice_set lists session (slice_index_or lists session [] ++ call ∷ [])
+    else lists

@@ -4,7 +4,9 @@ use Rattle.std.specs.Str.{bytes_eq}
 use Rattle.lfs_print.specs.CleanerWords.{cleaner_word}
 use Rattle.lfs_model.specs.declared.journal.CleanerKind.TheVariants.{Ifile, Infos, Bmapv, Markv, Segclean}
 use Rattle.lfs_script.specs.declared.verb.RequestKind.{RequestKind}
-use Rattle.lfs_script.specs.declared.verb.RequestKind.TheVariants.{Stat, Read, Write, List as Names, SetLength, Create, Mkdir, Unlink, Rmdir, Rename, Chmod, Chown, Chflags, SetLevel, Sync}
+use Rattle.lfs_script.specs.declared.verb.RequestKind.TheVariants.{Stat, Read, Write, List as Names, SetLength, Create}
+use Rattle.lfs_script.specs.declared.verb.RequestKind.TheVariants.{Mkdir, Unlink, Rmdir, Rename, Chmod, Chown, Chflags}
+use Rattle.lfs_script.specs.declared.verb.RequestKind.TheVariants.{SetLevel, Sync}
 use Rattle.lfs_script.specs.declared.verb.Verb.{Verb}
 use Rattle.lfs_script.specs.declared.verb.Verb.TheVariants.{Session, As, User, Cleaner, Pass}
 

@@ -1,9 +1,11 @@
 -- What the log of a segment expects and names, address by address.
-use Rattle.std.proofs.Common.{◌≡◌, ℕ, zero, suc, ◌+◌, ◌-◌, ◌*◌, ◌/◌, ◌<◌, ◌≤◌, List, [], ◌∷◌, ◌++◌, Option, Some, None, option_and_then, length, drop, refl, sym, ap, ◌∙◌, arith, append_assoc, append-nil}
+use Rattle.std.proofs.Common.{◌≡◌, ℕ, zero, suc, ◌+◌, ◌-◌, ◌*◌, ◌/◌, ◌<◌, ◌≤◌, List, [], ◌∷◌, ◌++◌, Option, Some, None}
+use Rattle.std.proofs.Common.{option_and_then, length, drop, refl, sym, ap, ◌∙◌, arith, append_assoc, append-nil}
 use Rattle.std.specs.List.{slice_get}
 use Rattle.lfs_types.specs.Blocks.{zero_block}
 use Rattle.lfs_segments.specs.declared.entry.SummaryEntry.{SummaryEntry}
-use Rattle.lfs_segments.specs.Log.{Expects, after_block, entry_at, expected, expected_at, first_of, log_block, named_one, names_from}
+use Rattle.lfs_segments.specs.Log.{Expects, after_block, entry_at, expected, expected_at, first_of, log_block}
+use Rattle.lfs_segments.specs.Log.{named_one, names_from}
 use Rattle.lfs_segments.specs.Memory.{IsLaidOut, SegmentMemory, block_at, next_address}
 use Rattle.lfs_segments.specs.Reading.{summary_entries}
 use Rattle.lfs_segments.proofs.MemoryLemmas.{log_start-le}
@@ -21,7 +23,8 @@ expected-same f g (suc n) same =
     rw (expected-same f g n (λ k below. same k (omega arith)), same n (omega arith)) refl
 
 -- one block more
-pub expected-more : (f : ℕ → List ℕ) (n : ℕ) (entries : List SummaryEntry) → expected f n ≡ Some entries → expected f (n + 1) ≡ after_block entries (f n)
+pub expected-more : (f : ℕ → List ℕ) (n : ℕ) (entries : List SummaryEntry) → expected f n ≡ Some entries
+    → expected f (n + 1) ≡ after_block entries (f n)
 unfolding expected
 expected-more f n entries e = let one : n + 1 ≡ suc n = omega arith in rw (one, e) refl
 
@@ -32,7 +35,8 @@ expected-ended f n zero e = let none : n + 0 ≡ n = omega arith in rw (none, e)
 expected-ended f n (suc j) e = let one : n + suc j ≡ suc (n + j) = omega arith in rw (one, expected-ended f n j e) refl
 
 -- the blocks of the entries are expected in turn, whatever they are
-pub expected-entries : (f : ℕ → List ℕ) (n j : ℕ) (entries : List SummaryEntry) → expected f n ≡ Some entries → j ≤ length entries → expected f (n + j) ≡ Some (drop j entries)
+pub expected-entries : (f : ℕ → List ℕ) (n j : ℕ) (entries : List SummaryEntry) → expected f n ≡ Some entries
+    → j ≤ length entries → expected f (n + j) ≡ Some (drop j entries)
 expected-entries f n zero entries e within = let none : n + 0 ≡ n = omega arith in rw none e
 expected-entries f n (suc j) [] e within = absurd (omega arith)
 expected-entries f n (suc j) (entry ∷ entries) e within =
@@ -40,28 +44,34 @@ expected-entries f n (suc j) (entry ∷ entries) e within =
     ap (expected f) one ∙ expected-entries f (n + 1) j entries (expected-more f n (entry ∷ entries) e) (omega arith)
 
 -- behind whole partial segments zeros are no log
-pub expected-zeros : (f : ℕ → List ℕ) (n j : ℕ) → expected f n ≡ Some [] → f n ≡ zero_block → expected f (n + suc j) ≡ None
+pub expected-zeros : (f : ℕ → List ℕ) (n j : ℕ) → expected f n ≡ Some [] → f n ≡ zero_block → expected f (n + suc j)
+    ≡ None
 expected-zeros f n j e at =
     let one : n + suc j ≡ n + 1 + j = omega arith in
-    ap (expected f) one ∙ expected-ended f (n + 1) j (expected-more f n [] e ∙ ap summary_entries at ∙ summary_entries-zero_block)
+    ap (expected f) one ∙ expected-ended f (n + 1) j (expected-more f n [] e ∙ ap summary_entries at
+    ∙ summary_entries-zero_block)
 
 -- and name nothing
-next_entry-zeros : (f : ℕ → List ℕ) (n j : ℕ) → expected f n ≡ Some [] → (0 < j → f n ≡ zero_block) → next_entry (expected f (n + j)) ≡ None
+next_entry-zeros : (f : ℕ → List ℕ) (n j : ℕ) → expected f n ≡ Some [] → (0 < j → f n ≡ zero_block)
+    → next_entry (expected f (n + j)) ≡ None
 next_entry-zeros f n zero e at = let none : n + 0 ≡ n = omega arith in rw (none, e) refl
 next_entry-zeros f n (suc j) e at = rw (expected-zeros f n j e (at (omega arith))) refl
 
-pub next_entry-zeros_from : (f : ℕ → List ℕ) (n k : ℕ) → n ≤ k → expected f n ≡ Some [] → (n < k → f n ≡ zero_block) → next_entry (expected f k) ≡ None
+pub next_entry-zeros_from : (f : ℕ → List ℕ) (n k : ℕ) → n ≤ k → expected f n ≡ Some [] → (n < k → f n ≡ zero_block)
+    → next_entry (expected f k) ≡ None
 next_entry-zeros_from f n k from e at =
     let sum : k ≡ n + (k - n) = omega arith in
     ap (λ (i : ℕ). next_entry (expected f i)) sum ∙ next_entry-zeros f n (k - n) e (λ some. at (omega arith))
 
 -- an address whose segment is known
-pub entry_at-in : (m : SegmentMemory) (segment address : ℕ) → address / 64 ≡ segment → entry_at m address ≡ next_entry (expected_at m segment address)
+pub entry_at-in : (m : SegmentMemory) (segment address : ℕ) → address / 64 ≡ segment → entry_at m address
+    ≡ next_entry (expected_at m segment address)
 unfolding entry_at
 entry_at-in m segment address here = ap (λ (s : ℕ). next_entry (expected_at m s address)) here
 
 -- one address more, of a segment's log
-pub expected_at-more : (m : SegmentMemory) (segment address : ℕ) (entries : List SummaryEntry) → first_of segment ≤ address → expected_at m segment address ≡ Some entries
+pub expected_at-more : (m : SegmentMemory) (segment address : ℕ) (entries : List SummaryEntry)
+    → first_of segment ≤ address → expected_at m segment address ≡ Some entries
     → expected_at m segment (address + 1) ≡ after_block entries (block_at m address)
 expected_at-more m segment address entries from e =
     let one : address + 1 - first_of segment ≡ address - first_of segment + 1 = omega arith in
@@ -76,7 +86,8 @@ unfolding expected
 expected_at-first m segment = let none : first_of segment - first_of segment ≡ 0 = omega arith in rw none refl
 
 -- where it has ended, nothing more is named
-pub entry_at-ended : (m : SegmentMemory) (segment end address : ℕ) → expected_at m segment end ≡ None → end ≤ address → address / 64 ≡ segment → first_of segment ≤ end → entry_at m address ≡ None
+pub entry_at-ended : (m : SegmentMemory) (segment end address : ℕ) → expected_at m segment end ≡ None → end ≤ address
+    → address / 64 ≡ segment → first_of segment ≤ end → entry_at m address ≡ None
 entry_at-ended m segment end address e past inside from =
     let sum : address - first_of segment ≡ end - first_of segment + (address - end) = omega arith in
     entry_at-in m segment address inside
@@ -84,42 +95,60 @@ entry_at-ended m segment end address e past inside from =
     ∙ ap next_entry (expected-ended (log_block m segment) (end - first_of segment) (address - end) e)
 
 -- the entry of an address rests on the earlier blocks of its segment
-pub entry_at-same : (m n : SegmentMemory) (address : ℕ) → ((a : ℕ) → address / 64 * 64 ≤ a → a < address → block_at n a ≡ block_at m a) → entry_at n address ≡ entry_at m address
+pub entry_at-same : (m n : SegmentMemory) (address : ℕ)
+    → ((a : ℕ) → address / 64 * 64 ≤ a → a < address → block_at n a ≡ block_at m a) → entry_at n address
+    ≡ entry_at m address
 unfolding entry_at
 entry_at-same m n address same =
     let segment : ℕ = address / 64 in
-    ap next_entry (expected-same (log_block n segment) (log_block m segment) (address - first_of segment) (λ k below. same (first_of segment + k) (omega arith) (omega arith)))
+    ap next_entry (expected-same (log_block n segment) (log_block m segment) (address - first_of segment)
+    (λ k below. same (first_of segment + k) (omega arith) (omega arith)))
 
 -- the names of addresses whose entries are the same
-pub names_from-same : (m n : SegmentMemory) (first count : ℕ) → ((a : ℕ) → first ≤ a → a < first + count → entry_at n a ≡ entry_at m a) → names_from n first count ≡ names_from m first count
+pub names_from-same : (m n : SegmentMemory) (first count : ℕ)
+    → ((a : ℕ) → first ≤ a → a < first + count → entry_at n a ≡ entry_at m a) → names_from n first count
+    ≡ names_from m first count
 unfolding names_from
 names_from-same m n first zero same = refl
 names_from-same m n first (suc count) same =
-    rw (names_from-same m n first count (λ a from below. same a from (omega arith)), same (first + count) (omega arith) (omega arith)) refl
+    rw (
+      names_from-same m n first count (λ a from below. same a from (omega arith)),
+      same (first + count) (omega arith) (omega arith),
+    ) refl
 
 -- one address more
-pub names_from-more : (m : SegmentMemory) (first count : ℕ) → names_from m first (count + 1) ≡ names_from m first count ++ named_one (first + count) (entry_at m (first + count))
+pub names_from-more : (m : SegmentMemory) (first count : ℕ) → names_from m first (count + 1) ≡ names_from m first count
+    ++ named_one (first + count) (entry_at m (first + count))
 unfolding names_from
 names_from-more m first count = let one : count + 1 ≡ suc count = omega arith in rw one refl
 
 -- two runs of addresses
-pub names_from-append : (m : SegmentMemory) (first i j : ℕ) → names_from m first (i + j) ≡ names_from m first i ++ names_from m (first + i) j
+pub names_from-append : (m : SegmentMemory) (first i j : ℕ) → names_from m first (i + j) ≡ names_from m first i
+    ++ names_from m (first + i) j
 unfolding names_from
-names_from-append m first i zero = let none : i + 0 ≡ i = omega arith in rw none (sym (append-nil (names_from m first i)))
+names_from-append m first i zero = let none : i + 0
+    ≡ i = omega arith in rw none (sym (append-nil (names_from m first i)))
 names_from-append m first i (suc j) =
     let one : i + suc j ≡ suc (i + j) = omega arith in
     let at : first + (i + j) ≡ first + i + j = omega arith in
-    rw (one, names_from-append m first i j, at) (append_assoc (names_from m first i) (names_from m (first + i) j) (named_one (first + i + j) (entry_at m (first + i + j))))
+    rw (one, names_from-append m first i j, at)
+    (append_assoc (names_from m first i) (names_from m (first + i) j)
+    (named_one (first + i + j) (entry_at m (first + i + j))))
 
 -- addresses without an entry
-pub names_from-none : (m : SegmentMemory) (first count : ℕ) → ((a : ℕ) → first ≤ a → a < first + count → entry_at m a ≡ None) → names_from m first count ≡ []
+pub names_from-none : (m : SegmentMemory) (first count : ℕ)
+    → ((a : ℕ) → first ≤ a → a < first + count → entry_at m a ≡ None) → names_from m first count ≡ []
 unfolding names_from
 names_from-none m first zero none = refl
 names_from-none m first (suc count) none =
-    rw (names_from-none m first count (λ a from below. none a from (omega arith)), none (first + count) (omega arith) (omega arith)) refl
+    rw (
+      names_from-none m first count (λ a from below. none a from (omega arith)),
+      none (first + count) (omega arith) (omega arith),
+    ) refl
 
 -- the log names the blocks that it expects
-pub entry_at-pending : (m : SegmentMemory) (entries : List SummaryEntry) (k : ℕ) → IsLaidOut m → Expects m entries → k < length entries → entry_at m (next_address m + k) ≡ slice_get entries k
+pub entry_at-pending : (m : SegmentMemory) (entries : List SummaryEntry) (k : ℕ) → IsLaidOut m → Expects m entries
+    → k < length entries → entry_at m (next_address m + k) ≡ slice_get entries k
 entry_at-pending m entries k laid e inside =
     let fit = e.fit in let begun = laid.begun in
     let low = log_start-le m.active in
@@ -136,7 +165,8 @@ entry_at-pending m entries k laid e inside =
     first-drop (entry ∷ entries) (suc k) = first-drop entries k
 
 -- and nothing behind its end
-pub entry_at-past : (m : SegmentMemory) (address : ℕ) → IsLaidOut m → Expects m [] → next_address m ≤ address → address < m.active * 64 + 64 → entry_at m address ≡ None
+pub entry_at-past : (m : SegmentMemory) (address : ℕ) → IsLaidOut m → Expects m [] → next_address m ≤ address
+    → address < m.active * 64 + 64 → entry_at m address ≡ None
 entry_at-past m address laid e past inside =
     let begun = laid.begun in
     let first : ℕ = first_of m.active in

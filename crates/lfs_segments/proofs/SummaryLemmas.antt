@@ -1,5 +1,6 @@
 -- A block spells one summary, and a summary is spelled by one block.
-use Rattle.std.proofs.Common.{◌≡◌, ℕ, ◌+◌, ◌-◌, ◌*◌, ◌/◌, ◌<◌, ◌≤◌, List, length, get_or, slice_index, sym, subst, ◌∙◌, ⊎_elim, arith}
+use Rattle.std.proofs.Common.{◌≡◌, ℕ, ◌+◌, ◌-◌, ◌*◌, ◌/◌, ◌<◌, ◌≤◌, List, length, get_or, slice_index, sym, subst, ◌∙◌}
+use Rattle.std.proofs.Common.{⊎_elim, arith}
 use Rattle.std.proofs.lemmas.Bool.{cases_lt}
 use Rattle.std.proofs.lemmas.List.{ext_get_or}
 use Rattle.std.proofs.Props.{props}
@@ -12,7 +13,8 @@ use Rattle.lfs_segments.proofs.BytesLemmas.{word_bytes, half_bytes}
 use Rattle.lfs_segments.proofs.EntryLemmas.{same_entries, entry_bytes}
 
 -- a summary is what its fields are
-pub same_fields : (s t : Summary) → s.segment ≡ t.segment → s.offset ≡ t.offset → s.count ≡ t.count → s.entries ≡ t.entries → s ≡ t
+pub same_fields : (s t : Summary) → s.segment ≡ t.segment → s.offset ≡ t.offset → s.count ≡ t.count → s.entries
+    ≡ t.entries → s ≡ t
 same_fields s t segment offset count entries = λ i. record {
   segment = segment i;
   offset = offset i;
@@ -23,8 +25,10 @@ same_fields s t segment offset count entries = λ i. record {
   at_most = is_prop→PathP (λ j. count j ≤ 40) (λ j. hlevel props) s.at_most t.at_most i;
   in_segment = is_prop→PathP (λ j. offset j + count j ≤ 63) (λ j. hlevel props) s.in_segment t.in_segment i;
   whole = is_prop→PathP (λ j. length (entries j) ≡ 40) (λ j. hlevel props) s.whole t.whole i;
-  named = is_prop→PathP (λ j. (k : ℕ) → k < count j → IsEntry (get_or (entries j) k unused)) (λ j. AreNamed-prop (count j) (entries j)) s.named t.named i;
-  rest = is_prop→PathP (λ j. (k : ℕ) → count j ≤ k → get_or (entries j) k unused ≡ unused) (λ j. hlevel props) s.rest t.rest i;
+  named = is_prop→PathP (λ j. (k : ℕ) → k < count j → IsEntry (get_or (entries j) k unused))
+      (λ j. AreNamed-prop (count j) (entries j)) s.named t.named i;
+  rest = is_prop→PathP (λ j. (k : ℕ) → count j ≤ k → get_or (entries j) k unused ≡ unused)
+      (λ j. hlevel props) s.rest t.rest i;
 }
 
 -- the entries of a summary are those that its block spells
@@ -36,10 +40,12 @@ pub same_summary : (bytes : List ℕ) (s t : Summary) → IsSummaryBlock bytes s
 same_summary bytes s t p q =
     let count : s.count ≡ t.count = sym p.count ∙ q.count in
     same_fields s t (sym p.segment ∙ q.segment) (sym p.offset ∙ q.offset) count
-    (same_entries bytes t.count s.entries t.entries (subst (λ (n : ℕ). AreEntriesAt bytes n s.entries) count (entries_of bytes s p)) (entries_of bytes t q))
+    (same_entries bytes t.count s.entries t.entries
+    (subst (λ (n : ℕ). AreEntriesAt bytes n s.entries) count (entries_of bytes s p)) (entries_of bytes t q))
 
 -- of two blocks that spell one summary, each byte is the same
-same_byte : (xs ys : List ℕ) (s : Summary) → IsBlock xs → IsBlock ys → IsSummaryBlock xs s → IsSummaryBlock ys s → (i : ℕ) → slice_index xs i ≡ slice_index ys i
+same_byte : (xs ys : List ℕ) (s : Summary) → IsBlock xs → IsBlock ys → IsSummaryBlock xs s → IsSummaryBlock ys s
+    → (i : ℕ) → slice_index xs i ≡ slice_index ys i
 same_byte xs ys s p q r t i =
     let k : ℕ = (i - 16) / 12 in
     ⊎_elim
@@ -64,6 +70,7 @@ same_byte xs ys s p q r t i =
     (cases_lt i 4)
 
 -- one block spells a summary
-pub same_spelling : (xs ys : List ℕ) (s : Summary) → IsBlock xs → IsBlock ys → IsSummaryBlock xs s → IsSummaryBlock ys s → xs ≡ ys
+pub same_spelling : (xs ys : List ℕ) (s : Summary) → IsBlock xs → IsBlock ys → IsSummaryBlock xs s → IsSummaryBlock ys s
+    → xs ≡ ys
 same_spelling xs ys s p q r t =
     ext_get_or 0 xs ys (p.whole ∙ sym q.whole) (λ i _. same_byte xs ys s p q r t i)

@@ -1,5 +1,6 @@
 -- What the tests on bytes say.
-use Rattle.std.proofs.Common.{◌≡◌, ℕ, zero, suc, ◌+◌, ◌*◌, ◌<◌, ◌≤◌, Bool, true, false, ◌&&◌, nat_lt, nat_le, ◌==◌, List, get_or, length, refl, sym, ap, ◌∙◌, ⊎_elim, inl, inr, arith}
+use Rattle.std.proofs.Common.{◌≡◌, ℕ, zero, suc, ◌+◌, ◌*◌, ◌<◌, ◌≤◌, Bool, true, false, ◌&&◌, nat_lt, nat_le, ◌==◌}
+use Rattle.std.proofs.Common.{List, get_or, length, refl, sym, ap, ◌∙◌, ⊎_elim, inl, inr, arith}
 use Rattle.std.proofs.lemmas.Bool.{cases_lt, eqb-true, leb-true, ltb-true, le-leb, lt-leb, le-ltb, lt-ltb}
 use Rattle.std.specs.Prelude.{if◌then◌else◌, ◌-◌}
 use Rattle.std.proofs.lemmas.Bool.Decides.{eqb_tells, nat_tests}
@@ -42,16 +43,18 @@ block_from-block_number Inodes inside = refl
 
 -- the block of a number that none of the others has
 abbrev child_or_data : ℕ → LogicalBlock
-child_or_data number = if nat_le 0x8000_0100 number && nat_lt number 0x8000_0180 then Child (number - 0x8000_0100) else Data number
+child_or_data number = if nat_le 0x8000_0100 number && nat_lt number 0x8000_0180 then Child (number - 0x8000_0100)
+    else Data number
 
 block_number-child_or_data : (number : ℕ) → block_number (child_or_data number) ≡ number
-block_number-child_or_data number = elim (cases_lt number 0x8000_0100) as (λ w. block_number (child_or_data number) ≡ number) [
-  | inl low ↦ rw (lt-leb 0x8000_0100 number low) refl
-  | inr high ↦ elim (cases_lt number 0x8000_0180) as (λ w. block_number (child_or_data number) ≡ number) [
-    | inl low ↦ rw (le-leb 0x8000_0100 number high, lt-ltb number 0x8000_0180 low) (omega arith)
-    | inr past ↦ rw (le-leb 0x8000_0100 number high, le-ltb number 0x8000_0180 past) refl
-  ]
-]
+block_number-child_or_data number = elim (cases_lt number 0x8000_0100) as (λ w. block_number (child_or_data number)
+    ≡ number) [
+      | inl low ↦ rw (lt-leb 0x8000_0100 number low) refl
+      | inr high ↦ elim (cases_lt number 0x8000_0180) as (λ w. block_number (child_or_data number) ≡ number) [
+        | inl low ↦ rw (le-leb 0x8000_0100 number high, lt-ltb number 0x8000_0180 low) (omega arith)
+        | inr past ↦ rw (le-leb 0x8000_0100 number high, le-ltb number 0x8000_0180 past) refl
+      ]
+    ]
 
 pub block_number-block_from : (number : ℕ) → block_number (block_from number) ≡ number
 block_number-block_from number = ⊎_elim
@@ -66,12 +69,18 @@ block_number-block_from number = ⊎_elim
     (eqb_tells number 0x8000_0000)
 
 pub file_number-true : (number : ℕ) → is_file_number number ≡ true → IsFileNumber number
-file_number-true number h = record { above = grind (arith, nat_tests); not_three = grind (arith, nat_tests); below = grind (arith, nat_tests) }
+file_number-true number h = record {
+  above = grind (arith, nat_tests);
+  not_three = grind (arith, nat_tests);
+  below = grind (arith, nat_tests);
+}
 
 pub true-file_number : (number : ℕ) → IsFileNumber number → is_file_number number ≡ true
-true-file_number number p = let above = p.above in let below = p.below in let other = p.not_three in grind (arith, nat_tests)
+true-file_number number p = let above = p.above in let below = p.below in let other = p.not_three in
+    grind (arith, nat_tests)
 
-pub may_name-true : (block : LogicalBlock) (number version : ℕ) → may_name block number version ≡ true → IsLogicalBlock block × IsOwner block number version
+pub may_name-true : (block : LogicalBlock) (number version : ℕ) → may_name block number version ≡ true
+    → IsLogicalBlock block × IsOwner block number version
 may_name-true (Data index) number version h =
     let parts = both (nat_lt index FILE_BLOCKS) (is_file_number number && nat_le 1 version) h in
     let owner = both (is_file_number number) (nat_le 1 version) parts.1 in
@@ -90,7 +99,8 @@ may_name-true Inodes number version h =
     let owner = both (number == 0) (version == 0) h in
     (tt, (eqb-true number 0 owner.0, eqb-true version 0 owner.1))
 
-pub true-may_name : (block : LogicalBlock) (number version : ℕ) → IsLogicalBlock block → IsOwner block number version → may_name block number version ≡ true
+pub true-may_name : (block : LogicalBlock) (number version : ℕ) → IsLogicalBlock block → IsOwner block number version
+    → may_name block number version ≡ true
 true-may_name (Data index) number version inside p =
     let file = true-file_number number p.0 in let some = p.1 in grind (arith, nat_tests)
 true-may_name Single number version inside p =
@@ -102,20 +112,27 @@ true-may_name (Child index) number version inside p =
 true-may_name Inodes number version inside p = rw (p.0, p.1) refl
 
 -- the entry that is spelled is the one that is read
-pub entry_from-spelled : (bytes : List ℕ) (place : ℕ) (e : SummaryEntry) → IsEntry e → IsEntryAt bytes place e → entry_from bytes place ≡ e
+pub entry_from-spelled : (bytes : List ℕ) (place : ℕ) (e : SummaryEntry) → IsEntry e → IsEntryAt bytes place e
+    → entry_from bytes place ≡ e
 entry_from-spelled bytes place e p q =
-    let block : block_from (word_at bytes (place + 8)) ≡ e.block = ap block_from q.block ∙ block_from-block_number e.block p.block in
+    let block : block_from (word_at bytes (place + 8)) ≡ e.block = ap block_from q.block
+    ∙ block_from-block_number e.block p.block in
     let number = q.number in let version = q.version in
     λ i. record { number = number i; version = version i; block = block i }
 
 pub spelled-entry_from : (bytes : List ℕ) (place : ℕ) → IsEntryAt bytes place (entry_from bytes place)
-spelled-entry_from bytes place = record { number = refl; version = refl; block = sym (block_number-block_from (word_at bytes (place + 8))) }
+spelled-entry_from bytes place = record {
+  number = refl;
+  version = refl;
+  block = sym (block_number-block_from (word_at bytes (place + 8)));
+}
 
 pub length-entries_from : (bytes : List ℕ) (place n : ℕ) → length (entries_from bytes place n) ≡ n
 length-entries_from bytes place zero = refl
 length-entries_from bytes place (suc n) = ap suc (length-entries_from bytes (place + 12) n)
 
-pub get_or-entries_from : (bytes : List ℕ) (place n k : ℕ) (d : SummaryEntry) → k < n → get_or (entries_from bytes place n) k d ≡ entry_from bytes (place + 12 * k)
+pub get_or-entries_from : (bytes : List ℕ) (place n k : ℕ) (d : SummaryEntry) → k < n
+    → get_or (entries_from bytes place n) k d ≡ entry_from bytes (place + 12 * k)
 get_or-entries_from bytes place zero k d below = absurd (omega arith)
 get_or-entries_from bytes place (suc n) zero d below = ap (entry_from bytes) (omega arith)
 get_or-entries_from bytes place (suc n) (suc k) d below =

@@ -1,15 +1,19 @@
 -- What each change of the memory leaves, and what the log expects then.
-use Rattle.std.proofs.Common.{◌≡◌, ◌≢◌, ℕ, ◌+◌, ◌-◌, ◌*◌, ◌/◌, ◌<◌, ◌≤◌, ◌⊎◌, inl, inr, List, [], ◌∷◌, Some, None, length, get_or, replicate, refl, ap, ◌∙◌, ⊎_elim, arith}
+use Rattle.std.proofs.Common.{◌≡◌, ◌≢◌, ℕ, ◌+◌, ◌-◌, ◌*◌, ◌/◌, ◌<◌, ◌≤◌, ◌⊎◌, inl, inr, List, [], ◌∷◌, Some, None}
+use Rattle.std.proofs.Common.{length, get_or, replicate, refl, ap, ◌∙◌, ⊎_elim, arith}
 use Rattle.std.specs.List.{slice_get}
 use Rattle.std.proofs.lemmas.Bool.{cases_lt}
 use Rattle.std.proofs.lemmas.List.{get_or-append_right, get_or-replicate, length-replicate}
 use Rattle.lfs_types.specs.Blocks.{zero_block}
 use Rattle.lfs_segments.specs.declared.entry.SummaryEntry.{SummaryEntry}
 use Rattle.lfs_segments.specs.Log.{Expects, Extends, IsOlder, after_block, entry_at, expected, first_of, log_block}
-use Rattle.lfs_segments.specs.Memory.{IsLaidOut, SegmentMemory, appended, block_at, fresh, label, log_start, next_address, opened, room_of, seen, written}
+use Rattle.lfs_segments.specs.Memory.{IsLaidOut, SegmentMemory, appended, block_at, fresh, label, log_start}
+use Rattle.lfs_segments.specs.Memory.{next_address, opened, room_of, seen, written}
 use Rattle.lfs_segments.specs.Reading.{summary_entries}
-use Rattle.lfs_segments.proofs.LogLemmas.{entry_at-in, entry_at-pending, entry_at-same, expected-more, expected-same, next_entry, next_entry-zeros_from}
-use Rattle.lfs_segments.proofs.MemoryLemmas.{get_or-written_after, get_or-written_before, get_or-written_inside, length-written, log_start-le}
+use Rattle.lfs_segments.proofs.LogLemmas.{entry_at-in, entry_at-pending, entry_at-same, expected-more, expected-same}
+use Rattle.lfs_segments.proofs.LogLemmas.{next_entry, next_entry-zeros_from}
+use Rattle.lfs_segments.proofs.MemoryLemmas.{get_or-written_after, get_or-written_before, get_or-written_inside}
+use Rattle.lfs_segments.proofs.MemoryLemmas.{length-written, log_start-le}
 
 -- blocks that are appended
 module _ (m : SegmentMemory) (others : List (List ℕ)) (laid : IsLaidOut m) (fits : length others ≤ room_of m) where
@@ -19,17 +23,21 @@ module _ (m : SegmentMemory) (others : List (List ℕ)) (laid : IsLaidOut m) (fi
   pub block_at-appended_older : (a : ℕ) → IsOlder m a → block_at (appended m others) a ≡ block_at m a
   block_at-appended_older a older = ⊎_elim
       (λ (before : a < next_address m). get_or-written_before m.blocks (next_address m) others room a [] before)
-      (λ (beyond : m.active * 64 + 64 ≤ a). let within = laid.within in get_or-written_after m.blocks (next_address m) others room a [] (omega arith))
+      (λ (beyond : m.active * 64 + 64 ≤ a). let within = laid.within in
+      get_or-written_after m.blocks (next_address m) others room a [] (omega arith))
       older
 
-  pub block_at-appended_behind : (a : ℕ) → next_address m + length others ≤ a → block_at (appended m others) a ≡ block_at m a
+  pub block_at-appended_behind : (a : ℕ) → next_address m + length others ≤ a → block_at (appended m others) a
+      ≡ block_at m a
   block_at-appended_behind a behind = get_or-written_after m.blocks (next_address m) others room a [] behind
 
-  pub block_at-appended_new : (k : ℕ) → k < length others → block_at (appended m others) (next_address m + k) ≡ get_or others k []
+  pub block_at-appended_new : (k : ℕ) → k < length others → block_at (appended m others) (next_address m + k)
+      ≡ get_or others k []
   block_at-appended_new k inside = get_or-written_inside m.blocks (next_address m) others room k [] inside
 
   pub entry_at-appended_older : (a : ℕ) → IsOlder m a → entry_at (appended m others) a ≡ entry_at m a
-  entry_at-appended_older a older = entry_at-same m (appended m others) a (λ b from below. block_at-appended_older b (⊎_elim
+  entry_at-appended_older a older = entry_at-same m (appended m others) a
+      (λ b from below. block_at-appended_older b (⊎_elim
       (λ (before : a < next_address m). inl (omega arith))
       (λ (beyond : m.active * 64 + 64 ≤ a). inr (omega arith))
       older))
@@ -44,7 +52,13 @@ module _ (m : SegmentMemory) (others : List (List ℕ)) (laid : IsLaidOut m) (fi
   }
 
 pub Extends-refl : (m : SegmentMemory) → Extends m m
-Extends-refl m = record { segments = refl; active = refl; fill = omega arith; blocks = λ a older. refl; entries = λ a older. refl }
+Extends-refl m = record {
+  segments = refl;
+  active = refl;
+  fill = omega arith;
+  blocks = λ a older. refl;
+  entries = λ a older. refl;
+}
 
 pub IsOlder-extended : (a b : SegmentMemory) (address : ℕ) → Extends a b → IsOlder a address → IsOlder b address
 IsOlder-extended a b address p older =
@@ -70,7 +84,8 @@ module _ (m : SegmentMemory) (block : List ℕ) (laid : IsLaidOut m) (some : 1 �
       let same : next_address m ≡ next_address m + 0 = omega arith in
       ap (block_at (appended m (block ∷ []))) same ∙ block_at-appended_new m (block ∷ []) laid some 0 (omega arith)
 
-  pub Expects-put : (before after : List SummaryEntry) → Expects m before → after_block before block ≡ Some after → length after < room_of m → Expects (appended m (block ∷ [])) after
+  pub Expects-put : (before after : List SummaryEntry) → Expects m before → after_block before block ≡ Some after
+      → length after < room_of m → Expects (appended m (block ∷ [])) after
   Expects-put before after e step fits =
       let new = appended m (block ∷ []) in
       let begun = laid.begun in let within = laid.within in
@@ -79,37 +94,44 @@ module _ (m : SegmentMemory) (block : List ℕ) (laid : IsLaidOut m) (some : 1 �
       let more : next_address new - first ≡ used + 1 = omega arith in
       let at : first + used ≡ next_address m = omega arith in
       let same : expected (log_block new m.active) used ≡ Some before =
-      expected-same (log_block new m.active) (log_block m m.active) used (λ k below. block_at-appended_older m (block ∷ []) laid some (first + k) (inl (omega arith))) ∙ e.pending in
+      expected-same (log_block new m.active) (log_block m m.active) used
+      (λ k below. block_at-appended_older m (block ∷ []) laid some (first + k) (inl (omega arith))) ∙ e.pending in
       record {
         pending = ap (expected (log_block new m.active)) more
             ∙ expected-more (log_block new m.active) used before same
             ∙ ap (after_block before) (ap (block_at new) at ∙ block_at-put)
             ∙ step;
         fit = omega arith;
-        zeros = λ a from below. block_at-appended_behind m (block ∷ []) laid some a (omega arith) ∙ e.zeros a (omega arith) below;
+        zeros = λ a from below. block_at-appended_behind m (block ∷ []) laid some a (omega arith)
+            ∙ e.zeros a (omega arith) below;
       }
 
   -- the place of the block is named as it was expected
-  pub entry_at-put : (before : List SummaryEntry) → Expects m before → entry_at (appended m (block ∷ [])) (next_address m) ≡ next_entry (Some before)
+  pub entry_at-put : (before : List SummaryEntry) → Expects m before
+      → entry_at (appended m (block ∷ [])) (next_address m) ≡ next_entry (Some before)
   entry_at-put before e =
       let new = appended m (block ∷ []) in
-      entry_at-same m new (next_address m) (λ a from below. block_at-appended_older m (block ∷ []) laid some a (inl below))
+      entry_at-same m new (next_address m) (λ a from below. block_at-appended_older m (block ∷ []) laid some a
+      (inl below))
       ∙ entry_at-in m m.active (next_address m) (omega arith)
       ∙ ap next_entry e.pending
 
 -- the summary of a partial segment
-module _ (m : SegmentMemory) (block : List ℕ) (entries : List SummaryEntry) (laid : IsLaidOut m) (ready : Expects m []) (fits : length entries < room_of m) (summary : summary_entries block ≡ Some entries) where
+module _ (m : SegmentMemory) (block : List ℕ) (entries : List SummaryEntry) (laid : IsLaidOut m) (ready : Expects m [])
+    (fits : length entries < room_of m) (summary : summary_entries block ≡ Some entries) where
   pub Expects-begun : Expects (appended m (block ∷ [])) entries
   Expects-begun = Expects-put m block laid (omega arith) [] entries ready summary fits
 
-  pub entry_at-begun : IsLaidOut (appended m (block ∷ [])) → (k : ℕ) → k < length entries → entry_at (appended m (block ∷ [])) (next_address m + 1 + k) ≡ slice_get entries k
+  pub entry_at-begun : IsLaidOut (appended m (block ∷ [])) → (k : ℕ) → k < length entries
+      → entry_at (appended m (block ∷ [])) (next_address m + 1 + k) ≡ slice_get entries k
   entry_at-begun laid_new k below =
       let new = appended m (block ∷ []) in
       let same : next_address m + 1 + k ≡ next_address new + k = omega arith in
       ap (entry_at new) same ∙ entry_at-pending new entries k laid_new Expects-begun below
 
 -- a new volume is as large as it is to be
-pub fresh_is : (segments inodes : ℕ) → 1 ≤ segments → seen (label segments inodes ∷ replicate (segments * 64 - 1) zero_block) 0 1 ≡ fresh segments inodes
+pub fresh_is : (segments inodes : ℕ) → 1 ≤ segments
+    → seen (label segments inodes ∷ replicate (segments * 64 - 1) zero_block) 0 1 ≡ fresh segments inodes
 fresh_is segments inodes some =
     let blocks = label segments inodes ∷ replicate (segments * 64 - 1) zero_block in
     let rest = length-replicate (segments * 64 - 1) zero_block in
@@ -125,7 +147,8 @@ Expects-fresh segments inodes some = record {
   zeros = λ a from below. block_at-fresh segments inodes a (omega arith) (omega arith);
 }
   where
-    block_at-fresh : (segments inodes a : ℕ) → 1 ≤ a → a < segments * 64 → block_at (fresh segments inodes) a ≡ zero_block
+    block_at-fresh : (segments inodes a : ℕ) → 1 ≤ a → a < segments * 64 → block_at (fresh segments inodes) a
+        ≡ zero_block
     block_at-fresh segments inodes a from below =
         get_or-append_right (label segments inodes ∷ []) (replicate (segments * 64 - 1) zero_block) 1 a [] refl from
         ∙ get_or-replicate (segments * 64 - 1) (a - 1) zero_block [] (omega arith)
@@ -141,19 +164,24 @@ module _ (m : SegmentMemory) (segment : ℕ) (laid : IsLaidOut m) (inside : segm
   opens : first_of segment + length (replicate (64 - log_start segment) zero_block) ≤ length m.blocks
   opens = let whole = laid.whole in omega (arith, reaches)
 
-  pub block_at-opened_other : (a : ℕ) → (a < first_of segment) ⊎ (segment * 64 + 64 ≤ a) → block_at (opened m segment) a ≡ block_at m a
+  pub block_at-opened_other : (a : ℕ) → (a < first_of segment) ⊎ (segment * 64 + 64 ≤ a) → block_at (opened m segment) a
+      ≡ block_at m a
   block_at-opened_other a apart = ⊎_elim
-      (λ (before : a < first_of segment). get_or-written_before m.blocks (first_of segment) (replicate (64 - log_start segment) zero_block) opens a [] before)
-      (λ (beyond : segment * 64 + 64 ≤ a). get_or-written_after m.blocks (first_of segment) (replicate (64 - log_start segment) zero_block) opens a [] (omega (arith, reaches)))
+      (λ (before : a < first_of segment). get_or-written_before m.blocks (first_of segment)
+      (replicate (64 - log_start segment) zero_block) opens a [] before)
+      (λ (beyond : segment * 64 + 64 ≤ a). get_or-written_after m.blocks (first_of segment)
+      (replicate (64 - log_start segment) zero_block) opens a [] (omega (arith, reaches)))
       apart
 
-  pub block_at-opened : (a : ℕ) → first_of segment ≤ a → a < segment * 64 + 64 → block_at (opened m segment) a ≡ zero_block
+  pub block_at-opened : (a : ℕ) → first_of segment ≤ a → a < segment * 64 + 64 → block_at (opened m segment) a
+      ≡ zero_block
   block_at-opened a from below =
       let k : ℕ = a - first_of segment in
       let at : a ≡ first_of segment + k = omega arith in
       let within : k < 64 - log_start segment = omega arith in
       ap (block_at (opened m segment)) at
-      ∙ get_or-written_inside m.blocks (first_of segment) (replicate (64 - log_start segment) zero_block) opens k [] (omega (arith, count))
+      ∙ get_or-written_inside m.blocks (first_of segment) (replicate (64 - log_start segment) zero_block) opens k []
+      (omega (arith, count))
       ∙ get_or-replicate (64 - log_start segment) k zero_block [] within
 
   -- the other segments' blocks and entries stay
@@ -189,11 +217,19 @@ module _ (m : SegmentMemory) (segment : ℕ) (laid : IsLaidOut m) (inside : segm
       }
 
 -- the memory with a segment opened is as large as it was
-pub opened_is : (blocks : List (List ℕ)) (active fill segment : ℕ) → IsLaidOut (seen blocks active fill) → segment < length blocks / 64
-    → seen (written blocks (first_of segment) (replicate (64 - log_start segment) zero_block)) segment (log_start segment) ≡ opened (seen blocks active fill) segment
+pub opened_is : (blocks : List (List ℕ)) (active fill segment : ℕ) → IsLaidOut (seen blocks active fill)
+    → segment < length blocks / 64
+    → seen (written blocks (first_of segment) (replicate (64 - log_start segment) zero_block)) segment
+    (log_start segment) ≡ opened (seen blocks active fill) segment
 opened_is blocks active fill segment laid inside =
     let whole = laid.whole in
     let reach = reaches (seen blocks active fill) segment laid inside in
     let new = written blocks (first_of segment) (replicate (64 - log_start segment) zero_block) in
-    let long = length-written blocks (first_of segment) (replicate (64 - log_start segment) zero_block) (omega (arith, reach)) in
-    ap (λ (n : ℕ). let m : SegmentMemory = record { segments = n / 64; active = segment; fill = log_start segment; blocks = new } in m) long
+    let long = length-written blocks (first_of segment) (replicate (64 - log_start segment) zero_block)
+    (omega (arith, reach)) in
+    ap (λ (n : ℕ). let m : SegmentMemory = record {
+      segments = n / 64;
+      active = segment;
+      fill = log_start segment;
+      blocks = new;
+    } in m) long

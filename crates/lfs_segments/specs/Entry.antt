@@ -90,5 +90,6 @@ IsEntry-prop e p q = λ i. record {
   owner = IsOwner-prop e.block e.number e.version p.owner q.owner i;
 }
 
-pub AreNamed-prop : (count : ℕ) (entries : List SummaryEntry) → IsProp ((k : ℕ) → k < count → IsEntry (slice_index_or entries k unused))
+pub AreNamed-prop : (count : ℕ) (entries : List SummaryEntry)
+    → IsProp ((k : ℕ) → k < count → IsEntry (slice_index_or entries k unused))
 AreNamed-prop count entries p q = λ i k below. IsEntry-prop (slice_index_or entries k unused) (p k below) (q k below) i

@@ -1,5 +1,6 @@
 -- The log of a segment, read forward block by block: which blocks it names, and what it expects of the next one.
-use Rattle.std.specs.Prelude.{◌≡◌, ℕ, zero, suc, ◌+◌, ◌-◌, ◌*◌, ◌/◌, ◌<◌, ◌≤◌, ◌⊎◌, List, [], ◌∷◌, ◌++◌, Option, Some, None, length, option_and_then}
+use Rattle.std.specs.Prelude.{◌≡◌, ℕ, zero, suc, ◌+◌, ◌-◌, ◌*◌, ◌/◌, ◌<◌, ◌≤◌, ◌⊎◌, List, [], ◌∷◌, ◌++◌, Option, Some}
+use Rattle.std.specs.Prelude.{None, length, option_and_then}
 use Rattle.std.specs.List.{slice_get}
 use Rattle.lfs_segments.specs.declared.entry.SummaryEntry.{SummaryEntry}
 use Rattle.lfs_segments.specs.declared.summary.Summary.{Summary}

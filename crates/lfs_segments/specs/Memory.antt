@@ -1,5 +1,6 @@
 -- The memory of a volume as callers see it, and what each call makes of it.
-use Rattle.std.specs.Prelude.{◌≡◌, ℕ, zero, suc, ◌+◌, ◌-◌, ◌*◌, ◌/◌, ◌%◌, ◌<◌, ◌≤◌, List, [], ◌∷◌, ◌++◌, All, length, take, drop, replicate, slice_index_or}
+use Rattle.std.specs.Prelude.{◌≡◌, ℕ, zero, suc, ◌+◌, ◌-◌, ◌*◌, ◌/◌, ◌%◌, ◌<◌, ◌≤◌, List, [], ◌∷◌, ◌++◌, All, length}
+use Rattle.std.specs.Prelude.{take, drop, replicate, slice_index_or}
 use Rattle.byteorder.specs.Endian.{big_bytes}
 use Rattle.lfs_types.specs.declared.block.TheConstants.{BLOCK_SIZE}
 use Rattle.lfs_types.specs.declared.limits.TheConstants.{SEGMENT_BLOCKS}
@@ -16,7 +17,12 @@ pub record SegmentMemory : Type 0 where
 
 -- the memory that these blocks are
 abbrev pub seen : List (List ℕ) → ℕ → ℕ → SegmentMemory
-seen blocks active fill = record { segments = length blocks / SEGMENT_BLOCKS; active = active; fill = fill; blocks = blocks }
+seen blocks active fill = record {
+  segments = length blocks / SEGMENT_BLOCKS;
+  active = active;
+  fill = fill;
+  blocks = blocks;
+}
 
 -- where the log of a segment begins: behind the label in the first segment
 abbrev pub log_start : ℕ → ℕ
@@ -71,10 +77,12 @@ abbrev pub opened : SegmentMemory → ℕ → SegmentMemory
 opened m segment = record m {
   active = segment;
   fill = log_start segment;
-  blocks = written m.blocks (segment * SEGMENT_BLOCKS + log_start segment) (replicate (SEGMENT_BLOCKS - log_start segment) zero_block);
+  blocks = written m.blocks (segment * SEGMENT_BLOCKS + log_start segment)
+      (replicate (SEGMENT_BLOCKS - log_start segment) zero_block);
 }
 
--- so many blocks are whole segments, as many as a volume may have; one of them is active, with so many of its blocks used
+-- so many blocks are whole segments, as many as a volume may have; one of them is active, with so many of its blocks
+-- used
 pub record IsVolume (count active fill : ℕ) : Type 0 where
   pub whole : count % SEGMENT_BLOCKS ≡ 0
   pub at_least : least_segments ≤ count / SEGMENT_BLOCKS

@@ -1,5 +1,6 @@
 -- A summary block, read test by test: the entries that it names, or none where it is no summary.
-use Rattle.std.specs.Prelude.{ℕ, zero, suc, ◌+◌, ◌-◌, ◌*◌, Bool, true, ◌&&◌, not, if◌then◌else◌, ◌==◌, nat_lt, nat_le, List, [], ◌∷◌, Option, Some, None, take, slice_index}
+use Rattle.std.specs.Prelude.{ℕ, zero, suc, ◌+◌, ◌-◌, ◌*◌, Bool, true, ◌&&◌, not, if◌then◌else◌, ◌==◌, nat_lt, nat_le}
+use Rattle.std.specs.Prelude.{List, [], ◌∷◌, Option, Some, None, take, slice_index}
 use Rattle.lfs_types.specs.declared.limits.TheConstants.{FILE_BLOCKS}
 use Rattle.lfs_types.specs.Ranges.{most_inodes, most_segments}
 use Rattle.lfs_segments.specs.declared.entry.LogicalBlock.{LogicalBlock}
@@ -15,12 +16,17 @@ block_from number =
     if number == 0x8000_0000 then Single
     else (if number == 0x8000_0001 then Double
     else (if number == 0xffff_ffff then Inodes
-    else (if nat_le 0x8000_0100 number && nat_lt number 0x8000_0180 then Child (number - 0x8000_0100) else Data number)))
+    else (if nat_le 0x8000_0100 number && nat_lt number 0x8000_0180 then Child (number - 0x8000_0100)
+    else Data number)))
 
 -- the entry that would stand in twelve bytes
 abbrev pub entry_from : List ℕ → ℕ → SummaryEntry
 entry_from bytes place =
-    record { number = word_at bytes place; version = word_at bytes (place + 4); block = block_from (word_at bytes (place + 8)) }
+    record {
+      number = word_at bytes place;
+      version = word_at bytes (place + 4);
+      block = block_from (word_at bytes (place + 8));
+    }
 
 -- so many of them, one after the other
 abbrev pub entries_from : List ℕ → ℕ → ℕ → List SummaryEntry
@@ -53,8 +59,10 @@ is_summary bytes =
     && (nat_le (half_at bytes 10) ENTRY_LIMIT
     && (nat_le (half_at bytes 8 + half_at bytes 10) 63
     && ((word_at bytes 12 == 0)
-    && (all_below (λ k. let e = entry_from bytes (16 + 12 * k) in may_name e.block e.number e.version) (half_at bytes 10)
-    && all_below (λ i. slice_index bytes (16 + 12 * half_at bytes 10 + i) == 0) (512 - (16 + 12 * half_at bytes 10))))))))
+    && (all_below (λ k. let e = entry_from bytes (16 + 12 * k) in may_name e.block e.number e.version)
+    (half_at bytes 10)
+    && all_below (λ i. slice_index bytes (16 + 12 * half_at bytes 10 + i) == 0)
+    (512 - (16 + 12 * half_at bytes 10))))))))
 
 -- the entries of a summary
 abbrev pub named_by : Summary → List SummaryEntry

@@ -1,5 +1,6 @@
 -- Steps that write what waits, one behind the other.
-use Rattle.std.proofs.Common.{◌≡◌, ℕ, zero, suc, ◌+◌, ◌*◌, ◌/◌, ◌<◌, ◌≤◌, ◌⊎◌, Bool, true, length, is_some, refl, sym, ◌∙◌, subst, inl, inr, arith}
+use Rattle.std.proofs.Common.{◌≡◌, ℕ, zero, suc, ◌+◌, ◌*◌, ◌/◌, ◌<◌, ◌≤◌, ◌⊎◌, Bool, true, length, is_some, refl, sym}
+use Rattle.std.proofs.Common.{◌∙◌, subst, inl, inr, arith}
 use Rattle.std.proofs.lemmas.Bool.{cases_Bool, false≢true}
 use Rattle.lfs_segments.specs.Memory.{next_address}
 use Rattle.lfs_cache.specs.Contents.{block_in}
@@ -46,7 +47,8 @@ Advances-trans from a b c h g = record {
   versions = λ n. g.versions n ∙ h.versions n;
   next = let first = h.next in let second = g.next in omega arith;
   only = λ n code low below waits. h.only n code low below (g.only n code (inside n low) below waits);
-  still = λ n code low below none. g.still n code (inside n low) below (λ waits. none (h.only n code low below waits)) ∙ h.still n code low below none;
+  still = λ n code low below none. g.still n code (inside n low) below (λ waits. none (h.only n code low below waits))
+      ∙ h.still n code low below none;
   moved = λ n code low below waits gone. elim (cases_Waits b n code) [
     | inl there ↦ g.moved n code (inside n low) below there gone
     | inr none ↦
@@ -54,8 +56,10 @@ Advances-trans from a b c h g = record {
         let was = h.moved n code low below waits none in
         let next = g.next in
         let from_ : from ≤ (log_state b).at n code / 4 = was.0 in
-        let to : (log_state b).at n code / 4 < next_address b.log.memory = was.1 in
-        (subst (λ place. from ≤ place / 4) (sym at) from_, subst (λ place. place / 4 < next_address c.log.memory) (sym at) (omega arith))
+        let to : (log_state b).at n code / 4 < next_address b.log.memory = was.1 in (
+          subst (λ place. from ≤ place / 4) (sym at) from_,
+          subst (λ place. place / 4 < next_address c.log.memory) (sym at) (omega arith),
+        )
   ];
   blocks = λ place apart. g.blocks place (past place apart) ∙ h.blocks place apart;
 }
@@ -63,5 +67,9 @@ Advances-trans from a b c h g = record {
     inside : (n : ℕ) → n < length a.log.tables.rows → n < length b.log.tables.rows
     inside n low = subst (λ m. n < m) (sym h.numbers) low
 
-    past : (place : ℕ) → (place < from) ⊎ (64 * a.log.memory.active + 64 ≤ place) → (place < from) ⊎ (64 * b.log.memory.active + 64 ≤ place)
-    past place apart = elim apart [ inl low ↦ inl low | inr high ↦ inr (subst (λ m. 64 * m + 64 ≤ place) (sym h.active) high) ]
+    past : (place : ℕ) → (place < from) ⊎ (64 * a.log.memory.active + 64 ≤ place) → (place < from)
+        ⊎ (64 * b.log.memory.active + 64 ≤ place)
+    past place apart = elim apart [
+      | inl low ↦ inl low
+      | inr high ↦ inr (subst (λ m. 64 * m + 64 ≤ place) (sym h.active) high)
+    ]

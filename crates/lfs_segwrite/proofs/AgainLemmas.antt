@@ -1,5 +1,6 @@
 -- A block of a file waits with what it has.
-use Rattle.std.proofs.Common.{◌≡◌, ◌≢◌, ◌⊎◌, ℕ, zero, suc, ◌*◌, ◌/◌, ◌<◌, length, Some, IsSome, is_some, true, refl, sym, ap, ◌∙◌, subst, inl, inr, arith}
+use Rattle.std.proofs.Common.{◌≡◌, ◌≢◌, ◌⊎◌, ℕ, zero, suc, ◌*◌, ◌/◌, ◌<◌, length, Some, IsSome, is_some, true, refl}
+use Rattle.std.proofs.Common.{sym, ap, ◌∙◌, subst, inl, inr, arith}
 use Rattle.std.proofs.lemmas.Bool.{cases_Bool, cases_eq, cases_lt}
 use Rattle.lfs_ifile.specs.Tables.{row_of}
 use Rattle.lfs_inodes.specs.declared.inode.Inode.{Inode}
@@ -31,7 +32,8 @@ use Rattle.lfs_bmap.proofs.HolderLemmas.{codes_on-record}
 use Rattle.lfs_staging.proofs.StagedLemmas.{parents_staged}
 
 -- a block that isn't a record waits under its key
-pub waits_block : (p : Parts) (number code : ℕ) → code ≢ 0 → IsLocked (key_of number (version_of p number) code) p.cache → Waits p number code
+pub waits_block : (p : Parts) (number code : ℕ) → code ≢ 0 → IsLocked (key_of number (version_of p number) code) p.cache
+    → Waits p number code
 waits_block p number zero some locked = absurd (some refl)
 waits_block p number (suc code) some locked = locked
 
@@ -57,43 +59,52 @@ SameShown-trans a b c p q = record {
 
 -- ---- the records that wait
 module _ (old new : Parts) (number : ℕ) (room : without number new.waiting ≡ without number old.waiting) where
-  still_waits : IsSome (waiting_in new.waiting number) → (n : ℕ) → IsSome (waiting_in old.waiting n) → IsSome (waiting_in new.waiting n)
+  still_waits : IsSome (waiting_in new.waiting number) → (n : ℕ) → IsSome (waiting_in old.waiting n)
+      → IsSome (waiting_in new.waiting n)
   still_waits here n was = elim (cases_eq n number) [
     | inl is ↦ subst (λ m. IsSome (waiting_in new.waiting m)) (sym is) here
     | inr other ↦
-        ap is_some (sym (waiting-without new.waiting number n other) ∙ ap (λ vs. waiting_in vs n) room ∙ waiting-without old.waiting number n other) ∙ was
+        ap is_some (sym (waiting-without new.waiting number n other) ∙ ap (λ vs. waiting_in vs n) room
+        ∙ waiting-without old.waiting number n other) ∙ was
   ]
 
   waited_before : (n : ℕ) → IsSome (waiting_in new.waiting n) → (n ≡ number) ⊎ IsSome (waiting_in old.waiting n)
   waited_before n waits = elim (cases_eq n number) [
     | inl is ↦ inl is
     | inr other ↦ inr (
-        ap is_some (sym (waiting-without old.waiting number n other) ∙ ap (λ vs. waiting_in vs n) (sym room) ∙ waiting-without new.waiting number n other) ∙ waits)
+        ap is_some (sym (waiting-without old.waiting number n other) ∙ ap (λ vs. waiting_in vs n) (sym room)
+        ∙ waiting-without new.waiting number n other) ∙ waits)
   ]
 
 -- ---- the record
-pub record_staged : (old new : Parts) (v : Inode) → MayStage old v → StagesParents v.number Record old new → IsStaged old 0 → IsStaged new 0
-record_staged old new v may h staged = parents_staged old new v Record may h 0 staged (λ b is has. absurd (codes_on-record (code_of b) has))
+pub record_staged : (old new : Parts) (v : Inode) → MayStage old v → StagesParents v.number Record old new
+    → IsStaged old 0 → IsStaged new 0
+record_staged old new v may h staged = parents_staged old new v Record may h 0 staged
+    (λ b is has. absurd (codes_on-record (code_of b) has))
 
-pub record_again : (old new : Parts) (v : Inode) → StagesParents v.number Record old new → StagesAgain v.number 0 old new
+pub record_again : (old new : Parts) (v : Inode) → StagesParents v.number Record old new
+    → StagesAgain v.number 0 old new
 record_again old new v h = record {
   same = shown_files old new h.same;
   waits = h.waits.record_waits;
   frames_still = h.stays;
   records_still = still_waits old new v.number h.room h.waits.record_waits;
-  frames = subst (λ codes. TakesOnly v.number (version_of old v.number) codes old.cache new.cache) (sym (codes-block Record tt)) h.takes;
+  frames = subst (λ codes. TakesOnly v.number (version_of old v.number) codes old.cache new.cache)
+      (sym (codes-block Record tt)) h.takes;
   records = waited_before old new v.number h.room;
 }
 
 -- ---- another block, staged with its parents
-pub block_again : (old new : Parts) (v : Inode) (block : FileBlock) → IsFileBlock block → code_of block ≢ 0 → StagesTable v.number block old new
+pub block_again : (old new : Parts) (v : Inode) (block : FileBlock) → IsFileBlock block → code_of block ≢ 0
+    → StagesTable v.number block old new
     → StagesAgain v.number (code_of block) old new
 block_again old new v block is other h = record {
   same = shown_files old new h.same;
   waits = waits_block new v.number (code_of block) other h.takes.block_waits;
   frames_still = h.takes.stays;
   records_still = still_waits old new v.number h.takes.records h.takes.waits.record_waits;
-  frames = subst (λ codes. TakesOnly v.number (version_of old v.number) codes old.cache new.cache) (sym (codes-block block is)) h.takes.takes;
+  frames = subst (λ codes. TakesOnly v.number (version_of old v.number) codes old.cache new.cache)
+      (sym (codes-block block is)) h.takes.takes;
   records = waited_before old new v.number h.takes.records;
 }
 
@@ -103,7 +114,8 @@ module _ (p : Parts) (number code : ℕ) (staged : IsStaged p 0) (there : IsPlac
   pub place_used : (row_of p.log.tables number).used ≡ true
   place_used = elim (cases_Bool (row_of p.log.tables number).used) [
     | inl used ↦ used
-    | inr free ↦ absurd (there.somewhere (unused_nowhere p number code (free_place p number free) there.number_below staged.whole))
+    | inr free ↦ absurd (there.somewhere (unused_nowhere p number code
+        (free_place p number free) there.number_below staged.whole))
   ]
 
   module _ (v : Inode) (here : record_of p number ≡ Some (fields_of v)) where
@@ -116,17 +128,20 @@ module _ (p : Parts) (number code : ℕ) (staged : IsStaged p 0) (there : IsPlac
         record {
           files = staged.whole;
           parents = staged.parents;
-          inside = lies_in p v.number 0 (subst (λ n. n < length p.log.tables.rows) (sym own) there.number_below) staged.whole.parts.laid_out staged.log;
+          inside = lies_in p v.number 0 (subst (λ n. n < length p.log.tables.rows) (sym own) there.number_below)
+              staged.whole.parts.laid_out staged.log;
           in_range = subst (λ n. n < length p.log.tables.rows) (sym own) there.number_below;
           in_use = ap (λ n. (row_of p.log.tables n).used) own ∙ place_used;
           here = ap (record_of p) own ∙ here;
           records = let fewer = length-without p.waiting v.number in omega arith;
         }
 
-    address_some : (block : FileBlock) → IsFileBlock block → code_of block ≡ code → code ≢ 0 → address (tree_of p number) (way_to block) ≢ 0
+    address_some : (block : FileBlock) → IsFileBlock block → code_of block ≡ code → code ≢ 0
+        → address (tree_of p number) (way_to block) ≢ 0
     address_some block can is some none =
         there.somewhere (place-block p number code some
-        ∙ ap (λ w. 4 * address (tree_of p number) w) (ap way_of (sym is) ∙ way_of-code_of block can) ∙ ap (λ a. 4 * a) none)
+        ∙ ap (λ w. 4 * address (tree_of p number) w) (ap way_of (sym is) ∙ way_of-code_of block can)
+        ∙ ap (λ a. 4 * a) none)
 
     -- its address is that of its place
     pub place_address : (block : FileBlock) → IsFileBlock block → code_of block ≡ code → code ≢ 0 → (addr : ℕ)
@@ -139,7 +154,8 @@ module _ (p : Parts) (number code : ℕ) (staged : IsStaged p 0) (there : IsPlac
         ∙ sym (ap (address (tree_of p number)) (ap way_of (sym is) ∙ way_of-code_of block can)) ∙ same
 
     -- it lies within the size
-    pub place_within : (block : FileBlock) → IsFileBlock block → code_of block ≡ code → code_of block ≢ 0 → IsWithin block v.size
+    pub place_within : (block : FileBlock) → IsFileBlock block → code_of block ≡ code → code_of block ≢ 0
+        → IsWithin block v.size
     place_within block can is other = elim (cases_lt (first_under block) (block_count v.size)) [
       | inl more ↦ more
       | inr past ↦ absurd (address_some block can is (λ e. other (is ∙ e)) (file.none_past block can past))

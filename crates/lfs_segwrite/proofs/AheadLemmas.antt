@@ -1,5 +1,6 @@
 -- Room made, changes staged and all of it written, as one.
-use Rattle.std.proofs.Common.{◌≡◌, ◌≢◌, ◌⊎◌, ℕ, zero, suc, ◌+◌, ◌*◌, ◌/◌, ◌<◌, ◌≤◌, List, [], length, IsSome, refl, sym, ap, ◌∙◌, subst, inl, inr, arith}
+use Rattle.std.proofs.Common.{◌≡◌, ◌≢◌, ◌⊎◌, ℕ, zero, suc, ◌+◌, ◌*◌, ◌/◌, ◌<◌, ◌≤◌, List, [], length, IsSome, refl, sym}
+use Rattle.std.proofs.Common.{ap, ◌∙◌, subst, inl, inr, arith}
 use Rattle.std.specs.Prelude.{slice_index_or, if◌then◌else◌, ◌==◌, true}
 use Rattle.std.proofs.lemmas.Bool.{cases_eq, cases_lt, false≢true}
 use Rattle.lfs_types.specs.Changes.{applied}
@@ -18,7 +19,9 @@ use Rattle.lfs_bmap.specs.Moves.{DirtyIn, Moves, StaysDirty}
 use Rattle.lfs_bmap.proofs.LogLemmas.{dirty_not_active}
 use Rattle.lfs_bmap.proofs.MoveLemmas.{StaysDirty-trans, moves-same, moves-trans}
 use Rattle.lfs_staging.specs.declared.parts.Parts.{Parts}
-use Rattle.lfs_segwrite.specs.Applying.{HasRoom, HasRoomFor, versions_after, MakesChanges, MakesWay, StagesAll, WritesAhead, WritesWaiting, blocks_for, frames_of_all, may_use_reserve, needs_of, records_of_all, waiting_blocks}
+use Rattle.lfs_segwrite.specs.Applying.{HasRoom, HasRoomFor, versions_after, MakesChanges, MakesWay, StagesAll}
+use Rattle.lfs_segwrite.specs.Applying.{WritesAhead, WritesWaiting, blocks_for, frames_of_all, may_use_reserve}
+use Rattle.lfs_segwrite.specs.Applying.{needs_of, records_of_all, waiting_blocks}
 use Rattle.lfs_segwrite.specs.Collecting.{blocks_of_entries, entries_of}
 use Rattle.lfs_staging.specs.Files.{content_of}
 use Rattle.lfs_segwrite.specs.Flushing.{Flushes, Waits}
@@ -52,7 +55,8 @@ apart a segment fill other = elim (cases_lt a (segment * 64 + fill)) [
 
 -- room was made or there was room
 pub opened_or : (old new : Parts) (blocks reserve : ℕ) → (blocks ≤ room_of old.log.memory → new ≡ old)
-    → (room_of old.log.memory < blocks → (reserve < old.log.clean) × (new.log.clean + 1 ≡ old.log.clean) × (state_of old.log.tables new.log.memory.active ≡ Clean))
+    → (room_of old.log.memory < blocks → (reserve < old.log.clean) × (new.log.clean + 1 ≡ old.log.clean)
+    × (state_of old.log.tables new.log.memory.active ≡ Clean))
     → (new ≡ old) ⊎ Opened reserve old new
 opened_or old new blocks reserve enough opened = elim (cases_lt (room_of old.log.memory) blocks) [
   | inl short ↦ let o = opened short in inr (record { reserved = o.0; clean = o.1; was_clean = o.2 })
@@ -60,13 +64,16 @@ opened_or old new blocks reserve enough opened = elim (cases_lt (room_of old.log
 ]
 
 -- what waits fits into the room for it
-pub staged_fits : (p : Parts) (changes : List Change) → length p.cache.locked ≤ frames_of_all changes → length p.waiting ≤ records_of_all changes
+pub staged_fits : (p : Parts) (changes : List Change) → length p.cache.locked ≤ frames_of_all changes
+    → length p.waiting ≤ records_of_all changes
     → blocks_of_entries (entries_of p) ≤ needs_of changes
 staged_fits p changes frames records =
-    let more = blocks_more (length p.cache.locked) (frames_of_all changes) (length p.waiting) (records_of_all changes) frames records in
+    let more = blocks_more (length p.cache.locked) (frames_of_all changes) (length p.waiting)
+    (records_of_all changes) frames records in
     subst (λ n. (if n == 0 then 0 else n + 1) ≤ needs_of changes) (sym (entries_of-length p)) more
 
-module _ (changes : List Change) (reserve : ℕ) (old a b new : Parts) (kept : KeepsFiles old a) (either : (a ≡ old) ⊎ Opened reserve old a) (stages : StagesAll changes a b) (flushes : Flushes b new) where
+module _ (changes : List Change) (reserve : ℕ) (old a b new : Parts) (kept : KeepsFiles old a) (either : (a ≡ old)
+    ⊎ Opened reserve old a) (stages : StagesAll changes a b) (flushes : Flushes b new) where
   abbrev active : ℕ
   active = b.log.memory.active
 
@@ -81,7 +88,10 @@ module _ (changes : List Change) (reserve : ℕ) (old a b new : Parts) (kept : K
   }
 
   flushed_dirty : StaysDirty (log_state b) (log_state new)
-  flushed_dirty = record { segments = flushes.segments; dirty = λ s low dirty. ap (λ (xs : List SegState). slice_index_or xs s Clean) flushes.states ∙ dirty }
+  flushed_dirty = record {
+    segments = flushes.segments;
+    dirty = λ s low dirty. ap (λ (xs : List SegState). slice_index_or xs s Clean) flushes.states ∙ dirty;
+  }
 
   until_dirty : StaysDirty (log_state old) (log_state b)
   until_dirty = StaysDirty-trans (log_state old) (log_state a) (log_state b) kept.dirty staged_dirty
@@ -89,7 +99,8 @@ module _ (changes : List Change) (reserve : ℕ) (old a b new : Parts) (kept : K
   -- the active segment was not dirty
   active_other : DirtyIn (log_state old) active → ⊥
   active_other dirty =
-      let low : active < old.log.memory.segments = subst (λ n. active < n) segments_same stages.staged.log.segments.inside in
+      let low : active < old.log.memory.segments =
+      subst (λ n. active < n) segments_same stages.staged.log.segments.inside in
       dirty_not_active (sym (until_dirty.dirty active low dirty) ∙ stages.staged.log.segments.is_active)
 
   -- ---- the keys
@@ -120,12 +131,14 @@ module _ (changes : List Change) (reserve : ℕ) (old a b new : Parts) (kept : K
   moves_ahead : Moves (DirtyIn (log_state old)) (log_state old) (log_state new)
   moves_ahead =
       moves-trans (DirtyIn (log_state old)) (log_state old) (log_state b) (log_state new)
-      (moves-trans (DirtyIn (log_state old)) (log_state old) (log_state a) (log_state b) (moves-same (DirtyIn (log_state old)) (log_state old) (log_state a) kept.keys) staged_moves)
+      (moves-trans (DirtyIn (log_state old)) (log_state old) (log_state a) (log_state b)
+      (moves-same (DirtyIn (log_state old)) (log_state old) (log_state a) kept.keys) staged_moves)
       flushed
 
   -- ---- the blocks
   -- a block that was written lies outside what was written now
-  outside : (x : ℕ) → state_of old.log.tables (x / SEGMENT_BLOCKS) ≢ Clean → (x / SEGMENT_BLOCKS ≡ old.log.memory.active → x < next_address old.log.memory)
+  outside : (x : ℕ) → state_of old.log.tables (x / SEGMENT_BLOCKS) ≢ Clean
+      → (x / SEGMENT_BLOCKS ≡ old.log.memory.active → x < next_address old.log.memory)
       → (x < next_address b.log.memory) ⊎ (SEGMENT_BLOCKS * active + SEGMENT_BLOCKS ≤ x)
   outside x used before = elim either [
     | inl same ↦
@@ -136,7 +149,9 @@ module _ (changes : List Change) (reserve : ℕ) (old a b new : Parts) (kept : K
           | inr other ↦ apart x old.log.memory.active old.log.memory.fill other
         ])
     | inr opened ↦
-        let was : state_of old.log.tables active ≡ Clean = ap (λ (m : SegmentMemory). state_of old.log.tables m.active) stages.log.memory ∙ opened.was_clean in
+        let was : state_of old.log.tables active
+        ≡ Clean = ap (λ (m : SegmentMemory). state_of old.log.tables m.active) stages.log.memory
+        ∙ opened.was_clean in
         apart x active b.log.memory.fill (λ here. used (ap (state_of old.log.tables) here ∙ was))
   ]
 
@@ -156,7 +171,8 @@ module _ (changes : List Change) (reserve : ℕ) (old a b new : Parts) (kept : K
     moves = moves_ahead;
     dirty = StaysDirty-trans (log_state old) (log_state b) (log_state new) until_dirty flushed_dirty;
     blocks = λ x used before.
-        flushes.blocks x (outside x used before) ∙ ap (λ (m : SegmentMemory). block_at m x) stages.log.memory ∙ kept.blocks x used;
+        flushes.blocks x (outside x used before) ∙ ap (λ (m : SegmentMemory). block_at m x) stages.log.memory
+        ∙ kept.blocks x used;
   }
 
 -- ---- what waits is written
@@ -164,13 +180,16 @@ waits_room : (old a : Parts) → KeepsFiles old a → (n c : ℕ) → Waits a n 
 waits_room old a kept n zero waits = subst (λ w. IsSome (waiting_in w n)) kept.waiting waits
 waits_room old a kept n (suc c) waits =
     let version : version_of a n ≡ version_of old n = ap (λ (rs : List InodeRow). (row_at rs n).version) kept.rows in
-    subst (λ v. IsLocked (key_of n v (suc c)) old.cache) version (subst (IsLocked (key_of n (version_of a n) (suc c))) kept.cache waits)
+    subst (λ v. IsLocked (key_of n v (suc c)) old.cache) version
+    (subst (IsLocked (key_of n (version_of a n) (suc c))) kept.cache waits)
 
 pub waiting_same : (old a : Parts) → KeepsFiles old a → waiting_blocks a ≡ waiting_blocks old
 waiting_same old a kept = ap blocks_of_entries (entries_of-same old a kept.cache kept.waiting)
 
-module _ (old a new : Parts) (blocks : ℕ) (is : blocks ≡ waiting_blocks old) (store : IsStore a) (kept : KeepsFiles old a) (enough : blocks ≤ room_of old.log.memory → a ≡ old)
-    (opened : room_of old.log.memory < blocks → (0 < old.log.clean) × (a.log.clean + 1 ≡ old.log.clean) × (state_of old.log.tables a.log.memory.active ≡ Clean))
+module _ (old a new : Parts) (blocks : ℕ) (is : blocks ≡ waiting_blocks old) (store : IsStore a)
+    (kept : KeepsFiles old a) (enough : blocks ≤ room_of old.log.memory → a ≡ old)
+    (opened : room_of old.log.memory < blocks → (0 < old.log.clean) × (a.log.clean + 1 ≡ old.log.clean)
+    × (state_of old.log.tables a.log.memory.active ≡ Clean))
     (fresh : room_of old.log.memory < blocks → 64 ≤ room_of a.log.memory + 1) (flushes : Flushes a new) where
   same : waiting_blocks a ≡ waiting_blocks old
   same = waiting_same old a kept
@@ -180,11 +199,13 @@ module _ (old a new : Parts) (blocks : ℕ) (is : blocks ≡ waiting_blocks old)
     store = flushes.store;
     settled = flushes.settled;
     content = flushes.content ∙ kept.content;
-    log = writes_ahead [] 0 old a a new kept (opened_or old a blocks 0 enough opened) (stages_refl a (store_staged a store)) flushes;
+    log = writes_ahead [] 0 old a a new kept (opened_or old a blocks 0 enough opened)
+        (stages_refl a (store_staged a store)) flushes;
     used = λ n. flushes.used n ∙ ap (λ (rs : List InodeRow). (row_at rs n).used) kept.rows;
     versions = λ n. flushes.versions n ∙ ap (λ (rs : List InodeRow). (row_at rs n).version) kept.rows;
     still = λ n c low below none.
-        flushes.still n c (subst (λ k. n < k) (sym (ap (λ (rs : List InodeRow). length rs) kept.rows)) low) below (λ waits. none (waits_room old a kept n c waits))
+        flushes.still n c (subst (λ k. n < k) (sym (ap (λ (rs : List InodeRow). length rs) kept.rows)) low) below
+        (λ waits. none (waits_room old a kept n c waits))
         ∙ kept.keys.places n c low below;
     left =
         let clean = flushes.clean in
@@ -199,9 +220,11 @@ module _ (old a new : Parts) (blocks : ℕ) (is : blocks ≡ waiting_blocks old)
               inr (omega (arith, is), omega (arith, o.1), omega (arith, is))
           | inr enough_room ↦
               let nothing = enough enough_room in
-              let first : room_of a.log.memory ≡ room_of old.log.memory = ap (λ (p : Parts). room_of p.log.memory) nothing in
+              let first : room_of a.log.memory ≡ room_of old.log.memory =
+              ap (λ (p : Parts). room_of p.log.memory) nothing in
               let kept_clean : a.log.clean ≡ old.log.clean = ap (λ (p : Parts). p.log.clean) nothing in
-              let end : next_address a.log.memory ≡ next_address old.log.memory = ap (λ (p : Parts). next_address p.log.memory) nothing in
+              let end : next_address a.log.memory ≡ next_address old.log.memory =
+              ap (λ (p : Parts). next_address p.log.memory) nothing in
               inl (omega arith, omega arith, clean ∙ kept_clean)
         ];
   }
@@ -242,7 +265,8 @@ ahead_stays old a b ahead stays =
 
 module _ (changes : List Change) (old a b : Parts) (store : IsStore a) (stages : StagesAll changes a b) where
   pub still_store : IsStore b
-  still_store = staged_store b stages.staged (subst (λ (m : SegmentMemory). Expects m []) (sym stages.log.memory) store.ready)
+  still_store = staged_store b stages.staged
+      (subst (λ (m : SegmentMemory). Expects m []) (sym stages.log.memory) store.ready)
 
   same_room : room_of b.log.memory ≡ room_of a.log.memory
   same_room = ap (λ (m : SegmentMemory). room_of m) stages.log.memory
@@ -250,11 +274,15 @@ module _ (changes : List Change) (old a b : Parts) (store : IsStore a) (stages :
   -- what waits then takes no more than what waited and the changes
   pub waiting_most : waiting_blocks b ≤ waiting_blocks a + needs_of changes
   waiting_most =
-      let more = blocks_more (length b.cache.locked) (length a.cache.locked + frames_of_all changes) (length b.waiting) (length a.waiting + records_of_all changes)
+      let more = blocks_more (length b.cache.locked) (length a.cache.locked + frames_of_all changes) (length b.waiting)
+      (length a.waiting + records_of_all changes)
       stages.frames_more stages.records_more in
-      let sum = blocks_sum (length a.cache.locked) (frames_of_all changes) (length a.waiting) (records_of_all changes) in
-      let before : waiting_blocks a ≡ blocks_for (length a.cache.locked) (length a.waiting) = ap (λ n. if n == 0 then 0 else n + 1) (entries_of-length a) in
-      let after : waiting_blocks b ≡ blocks_for (length b.cache.locked) (length b.waiting) = ap (λ n. if n == 0 then 0 else n + 1) (entries_of-length b) in
+      let sum = blocks_sum (length a.cache.locked) (frames_of_all changes) (length a.waiting) (records_of_all changes)
+      in
+      let before : waiting_blocks a ≡ blocks_for (length a.cache.locked) (length a.waiting) = ap (λ n. if n == 0 then 0
+      else n + 1) (entries_of-length a) in
+      let after : waiting_blocks b ≡ blocks_for (length b.cache.locked) (length b.waiting) = ap (λ n. if n == 0 then 0
+      else n + 1) (entries_of-length b) in
       omega arith
 
 -- what waits takes at most 41 blocks
@@ -264,7 +292,8 @@ waits_few p store =
     let few = store.few in
     let more = blocks_more (length p.cache.locked) 24 (length p.waiting) 64 limit few in
     let is : blocks_for 24 64 ≡ 41 = refl in
-    let all : waiting_blocks p ≡ blocks_for (length p.cache.locked) (length p.waiting) = ap (λ n. if n == 0 then 0 else n + 1) (entries_of-length p) in
+    let all : waiting_blocks p ≡ blocks_for (length p.cache.locked) (length p.waiting) = ap (λ n. if n == 0 then 0
+    else n + 1) (entries_of-length p) in
     omega arith
 
 -- nothing that waits takes no block
@@ -276,7 +305,8 @@ settled_none p settled =
     ap (λ n. if n == 0 then 0 else n + 1) none
 
 -- changes that have room fit, or a segment is clean
-room_or : (by : Reserve) (changes : List Change) (p : Parts) → HasRoomFor by changes p → (waiting_blocks p + needs_of changes ≤ room_of p.log.memory) ⊎ (0 < p.log.clean)
+room_or : (by : Reserve) (changes : List Change) (p : Parts) → HasRoomFor by changes p
+    → (waiting_blocks p + needs_of changes ≤ room_of p.log.memory) ⊎ (0 < p.log.clean)
 room_or by changes p has = elim has [
   | inl taking ↦ elim taking [ inl more ↦ inr (omega arith) | inr both ↦ inl both.1 ]
   | inr giving ↦ elim giving.1 [
@@ -289,14 +319,16 @@ room_or by changes p has = elim has [
 ]
 
 -- those that don't fit may use what is kept back, or more than two segments are clean
-more_or : (by : Reserve) (changes : List Change) (p : Parts) → HasRoomFor by changes p → room_of p.log.memory < waiting_blocks p
+more_or : (by : Reserve) (changes : List Change) (p : Parts) → HasRoomFor by changes p
+    → room_of p.log.memory < waiting_blocks p
     → (may_use_reserve by (content_of p) changes ≡ true) ⊎ (2 < p.log.clean)
 more_or by changes p has short = elim has [
   | inl taking ↦ elim taking [ inl more ↦ inr more | inr both ↦ absurd (omega (arith, both.1)) ]
   | inr giving ↦ inl giving.0
 ]
 
-pub makes_changes : (by : Reserve) (changes : List Change) (old a b : Parts) → HasRoom old → HasRoomFor by changes old → waiting_blocks old ≤ 41 → needs_of changes ≤ 22
+pub makes_changes : (by : Reserve) (changes : List Change) (old a b : Parts) → HasRoom old → HasRoomFor by changes old
+    → waiting_blocks old ≤ 41 → needs_of changes ≤ 22
     → MakesWay changes old a → StagesAll changes a b → MakesChanges by changes old b
 makes_changes by changes old a b had has few most way stages =
     let free_or = room_or by changes old has in

@@ -1,5 +1,6 @@
 -- Parts whose files are alike: each number has its record, and each block its address and its bytes.
-use Rattle.std.proofs.Common.{◌≡◌, ◌≢◌, ℕ, ◌*◌, ◌<◌, ◌≤◌, List, length, Some, IsSome, is_some, sym, ap, ◌∙◌, subst, inl, inr, arith}
+use Rattle.std.proofs.Common.{◌≡◌, ◌≢◌, ℕ, ◌*◌, ◌<◌, ◌≤◌, List, length, Some, IsSome, is_some, sym, ap, ◌∙◌, subst, inl}
+use Rattle.std.proofs.Common.{inr, arith}
 use Rattle.std.specs.Prelude.{All}
 use Rattle.std.proofs.lemmas.Bool.{cases_lt}
 use Rattle.std.proofs.lemmas.List.Elements.{All-weaker}
@@ -42,10 +43,15 @@ pub record AreAlike (p q : Parts) : Type 0 where
 
 module _ (p q : Parts) (h : AreAlike p q) where
   pub alike_content : content_of q ≡ content_of p
-  alike_content = content_of-same p q h.numbers (λ n low. file_at-kept p q n (h.records n) (data_block-same (tree_of p n) (tree_of q n) (h.readings n low)))
+  alike_content = content_of-same p q h.numbers
+      (λ n low. file_at-kept p q n (h.records n) (data_block-same (tree_of p n) (tree_of q n) (h.readings n low)))
 
   pub alike_present : (n version : ℕ) → IsPresent p n version → IsPresent q n version
-  alike_present n version was = record { in_use = h.used n ∙ was.in_use; at_version = was.at_version ∙ sym (h.versions n) }
+  alike_present n version was = record {
+    in_use = h.used n ∙ was.in_use;
+    at_version = was.at_version
+        ∙ sym (h.versions n);
+  }
 
   alike_low : (n : ℕ) (f : Fields) → record_of p n ≡ Some f → n < length p.log.tables.rows
   alike_low n f is = elim (cases_lt n (length p.log.tables.rows)) [
@@ -53,15 +59,18 @@ module _ (p q : Parts) (h : AreAlike p q) where
     | inr past ↦ absurd (none-some f (sym (record_of-past p n past) ∙ is))
   ]
 
-  alike_padded : (n size : ℕ) → n < length p.log.tables.rows → IsPadded (data_block (tree_of p n)) size → IsPadded (data_block (tree_of q n)) size
-  alike_padded n size low = subst (λ (g : ℕ → List ℕ). IsPadded g size) (λ i k. sym (data_block-same (tree_of p n) (tree_of q n) (h.readings n low) k) i)
+  alike_padded : (n size : ℕ) → n < length p.log.tables.rows → IsPadded (data_block (tree_of p n)) size
+      → IsPadded (data_block (tree_of q n)) size
+  alike_padded n size low = subst (λ (g : ℕ → List ℕ). IsPadded g size)
+      (λ i k. sym (data_block-same (tree_of p n) (tree_of q n) (h.readings n low) k) i)
 
   alike_file : (n : ℕ) (f : Fields) → record_of p n ≡ Some f → IsFile p n f → IsFile q n f
   alike_file n f is file = record {
     formed = file.formed;
     own_number = file.own_number;
     own_version = file.own_version ∙ sym (h.versions n);
-    none_past = λ block can past. (h.readings n (alike_low n f is)).addresses (way_to block) (block_known block can) ∙ file.none_past block can past;
+    none_past = λ block can past. (h.readings n (alike_low n f is)).addresses (way_to block) (block_known block can)
+        ∙ file.none_past block can past;
     padded = alike_padded n f.attributes.size (alike_low n f is) file.padded;
   }
 
@@ -81,23 +90,30 @@ module _ (p q : Parts) (h : AreAlike p q) where
   }
 
   -- each key but a record's has the place that it had
-  pub alike_place : (n c : ℕ) → n < length p.log.tables.rows → c < BLOCK_CODES → c ≢ 0 → (log_state q).at n c ≡ (log_state p).at n c
+  pub alike_place : (n c : ℕ) → n < length p.log.tables.rows → c < BLOCK_CODES → c ≢ 0 → (log_state q).at n c
+      ≡ (log_state p).at n c
   alike_place n c low below some =
-      place-block q n c some ∙ ap (λ a. 4 * a) ((h.readings n low).addresses (way_of c) (way_of-known c below)) ∙ sym (place-block p n c some)
+      place-block q n c some ∙ ap (λ a. 4 * a) ((h.readings n low).addresses (way_of c) (way_of-known c below))
+      ∙ sym (place-block p n c some)
 
   -- what holds in the middle of a call is kept
-  pub alike_staged : (was spare : ℕ) → IsStaged p was → AreFiles q → IsLog (log_state q) spare → AreOnce q.waiting → length q.waiting ≤ length p.waiting
-      → ((key : Key) → IsLocked key p.cache → IsSome (waiting_in p.waiting key.ino) → IsSome (waiting_in q.waiting key.ino)) → IsStaged q spare
+  pub alike_staged : (was spare : ℕ) → IsStaged p was → AreFiles q → IsLog (log_state q) spare → AreOnce q.waiting
+      → length q.waiting ≤ length p.waiting
+      → ((key : Key) → IsLocked key p.cache → IsSome (waiting_in p.waiting key.ino)
+      → IsSome (waiting_in q.waiting key.ino)) → IsStaged q spare
   alike_staged was spare staged files log once fewer kept = record {
     whole = files;
     log = log;
     parents = record {
-      records = λ key locked. let there = subst (IsLocked key) h.cache locked in kept key there (staged.parents.records key there);
+      records = λ key locked. let there = subst (IsLocked key) h.cache locked in
+          kept key there (staged.parents.records key there);
       holders = λ key locked i up way.
-          subst (λ (c : Contents). HolderWaits c key.ino key.version up) (sym h.cache) (staged.parents.holders key (subst (IsLocked key) h.cache locked) i up way);
+          subst (λ (c : Contents). HolderWaits c key.ino key.version up) (sym h.cache)
+          (staged.parents.holders key (subst (IsLocked key) h.cache locked) i up way);
     };
     once = once;
     few = let few = staged.few in omega arith;
     within = λ n block f is file locked. staged.within n block f (sym (h.records n) ∙ is) file
-        (subst (λ v. IsLocked (key_of n v (code_of block)) p.cache) (h.versions n) (subst (IsLocked (key_of n (version_of q n) (code_of block))) h.cache locked));
+        (subst (λ v. IsLocked (key_of n v (code_of block)) p.cache) (h.versions n)
+        (subst (IsLocked (key_of n (version_of q n) (code_of block))) h.cache locked));
   }

@@ -1,5 +1,6 @@
 -- A block was put at the log's end: each file is as it was, and the log has spare bytes.
-use Rattle.std.proofs.Common.{◌≡◌, ℕ, zero, suc, ◌+◌, ◌<◌, ◌≤◌, List, [], length, IsSome, refl, sym, ap, ◌∙◌, subst, inl, inr, arith}
+use Rattle.std.proofs.Common.{◌≡◌, ℕ, zero, suc, ◌+◌, ◌<◌, ◌≤◌, List, [], length, IsSome, refl, sym, ap, ◌∙◌, subst}
+use Rattle.std.proofs.Common.{inl, inr, arith}
 use Rattle.std.specs.Prelude.{All}
 use Rattle.lfs_ifile.specs.Tables.{Tables, row_of}
 use Rattle.lfs_inodes.specs.declared.inode.Inode.{Inode}
@@ -31,7 +32,12 @@ use Rattle.lfs_segwrite.proofs.AlikeLemmas.{AreAlike, alike_content, alike_files
 pub fewer_spare : (p : Parts) (more less : ℕ) → less ≤ more → IsStaged p more → IsStaged p less
 fewer_spare p more less fewer staged = record {
   whole = staged.whole;
-  log = record { segments = staged.log.segments; keys = staged.log.keys; counted = staged.log.counted; spared = let spared = staged.log.spared in omega arith };
+  log = record {
+    segments = staged.log.segments;
+    keys = staged.log.keys;
+    counted = staged.log.counted;
+    spared = let spared = staged.log.spared in omega arith;
+  };
   parents = staged.parents;
   once = staged.once;
   few = staged.few;
@@ -63,7 +69,12 @@ module _ (p q : Parts) (a : ℕ) (block : List ℕ) (put : AppendsBlock p q a bl
   writes =
       let step = put.step in
       record {
-        keys = record { numbers = step.keys.numbers; segments = step.keys.segments; places = same_place; versions = step.keys.versions };
+        keys = record {
+          numbers = step.keys.numbers;
+          segments = step.keys.segments;
+          places = same_place;
+          versions = step.keys.versions;
+        };
         used = record { states = step.used.states; clean = step.used.clean };
         live = step.live;
         active = step.active;
@@ -81,16 +92,19 @@ module _ (p q : Parts) (a : ℕ) (block : List ℕ) (put : AppendsBlock p q a bl
       (subst (All (λ (w : Inode). IsPresent p w.number w.version)) (sym put.waiting) staged.whole.records) in
       let count = ap (λ (vs : List Inode). length vs) put.waiting in
       alike_staged p q appended_alike 0 512 staged files (written_log (log_state p) (log_state q) 0 1 staged.log writes)
-      (subst AreOnce (sym put.waiting) staged.once) (omega arith) (λ key locked waits. subst (λ vs. IsSome (waiting_in vs key.ino)) (sym put.waiting) waits)
+      (subst AreOnce (sym put.waiting) staged.once) (omega arith)
+      (λ key locked waits. subst (λ vs. IsSome (waiting_in vs key.ino)) (sym put.waiting) waits)
 
   waits_before : (n c : ℕ) → Waits q n c → Waits p n c
   waits_before n zero waits = subst (λ vs. IsSome (waiting_in vs n)) put.waiting waits
-  waits_before n (suc c) waits = subst (λ m. IsLocked (key_of n m (suc c)) p.cache) (same_version n) (subst (IsLocked (key_of n (version_of q n) (suc c))) put.cache waits)
+  waits_before n (suc c) waits = subst (λ m. IsLocked (key_of n m (suc c)) p.cache) (same_version n)
+      (subst (IsLocked (key_of n (version_of q n) (suc c))) put.cache waits)
 
   waits_after : (n c : ℕ) → Waits p n c → Waits q n c
   waits_after n zero waits = subst (λ vs. IsSome (waiting_in vs n)) (sym put.waiting) waits
   waits_after n (suc c) waits =
-      subst (IsLocked (key_of n (version_of q n) (suc c))) (sym put.cache) (subst (λ m. IsLocked (key_of n m (suc c)) p.cache) (sym (same_version n)) waits)
+      subst (IsLocked (key_of n (version_of q n) (suc c))) (sym put.cache)
+      (subst (λ m. IsLocked (key_of n m (suc c)) p.cache) (sym (same_version n)) waits)
 
   pub appended_advances : (from : ℕ) → from ≤ next_address p.log.memory → Advances from p q
   appended_advances from first = record {
@@ -106,13 +120,17 @@ module _ (p q : Parts) (a : ℕ) (block : List ℕ) (put : AppendsBlock p q a bl
     only = λ n c low below waits. waits_before n c waits;
     still = λ n c low below none. same_place n c low below;
     moved = λ n c low below waits none. absurd (none (waits_after n c waits));
-    blocks = λ b apart. put.blocks b (let end = put.end in let inside = put.inside in elim apart [ inl low ↦ λ e. omega arith | inr high ↦ λ e. omega arith ]);
+    blocks = λ b apart. put.blocks b (let end = put.end in let inside = put.inside in
+        elim apart [ inl low ↦ λ e. omega arith | inr high ↦ λ e. omega arith ]);
   }
 
 -- a summary is such a block
-pub summary_put : (p q : Parts) (a : ℕ) (entries : List SummaryEntry) → IsStaged p 0 → Expects p.log.memory [] → Expects q.log.memory entries → 1 ≤ room_of p.log.memory
-    → a ≡ next_address p.log.memory → next_address q.log.memory ≡ next_address p.log.memory + 1 → Extends p.log.memory q.log.memory
-    → q.log.tables ≡ p.log.tables → q.cache ≡ p.cache → q.waiting ≡ p.waiting → Writes (log_state p) (log.log_state q.log (log_state p).at) 1
+pub summary_put : (p q : Parts) (a : ℕ) (entries : List SummaryEntry) → IsStaged p 0 → Expects p.log.memory []
+    → Expects q.log.memory entries → 1 ≤ room_of p.log.memory
+    → a ≡ next_address p.log.memory → next_address q.log.memory ≡ next_address p.log.memory + 1
+    → Extends p.log.memory q.log.memory
+    → q.log.tables ≡ p.log.tables → q.cache ≡ p.cache → q.waiting ≡ p.waiting
+    → Writes (log_state p) (log.log_state q.log (log_state p).at) 1
     → AppendsBlock p q a (block_at q.log.memory a)
 summary_put p q a entries staged ready expects room end next extends tables cache waiting step =
     let parts = staged.whole.parts in
@@ -124,8 +142,11 @@ summary_put p q a entries staged ready expects room end next extends tables cach
       cache = cache;
       waiting = waiting;
       written = refl;
-      blocks = λ b other. blocks_put p.log.memory q.log.memory [] entries extends next ready expects b (λ is. other (is ∙ sym end));
-      unread = λ number low. subst (IsUnread (tree_of p number)) (sym end) (unread_next p number 0 parts staged.log room low);
-      records = λ number. record_put p q number 0 parts staged.log extends tables (ap (λ v. waiting_in v number) waiting);
+      blocks = λ b other. blocks_put p.log.memory q.log.memory [] entries extends next ready expects b
+          (λ is. other (is ∙ sym end));
+      unread = λ number low. subst (IsUnread (tree_of p number)) (sym end)
+          (unread_next p number 0 parts staged.log room low);
+      records = λ number. record_put p q number 0 parts staged.log extends tables
+          (ap (λ v. waiting_in v number) waiting);
       step = step;
     }

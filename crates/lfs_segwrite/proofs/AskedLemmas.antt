@@ -1,5 +1,6 @@
 -- What changes that may be asked for are of: files in use, of lengths that they may have.
-use Rattle.std.proofs.Common.{◌≡◌, ℕ, ◌+◌, ◌<◌, ◌≤◌, max, List, [], ◌∷◌, length, Option, None, Some, is_some, IsSome, IsSomeAnd, true, false, refl, sym, ap, ◌∙◌, subst, inl, inr, arith}
+use Rattle.std.proofs.Common.{◌≡◌, ℕ, ◌+◌, ◌<◌, ◌≤◌, max, List, [], ◌∷◌, length, Option, None, Some, is_some, IsSome}
+use Rattle.std.proofs.Common.{IsSomeAnd, true, false, refl, sym, ap, ◌∙◌, subst, inl, inr, arith}
 use Rattle.std.specs.FinMap as map
 use Rattle.std.specs.FinMap.{same_map, nat_cmp-IsAntisymmetric}
 use Rattle.std.specs.Cmp.{nat_cmp_total}
@@ -42,14 +43,16 @@ shown_used p n some = elim (cases_Bool (row_of p.log.tables n).used) [
 ]
 
 -- and one without isn't
-pub none_free : (p : Parts) (n : ℕ) → AreFiles p → map.get (content_of p) n ≡ None → (row_of p.log.tables n).used ≡ false
+pub none_free : (p : Parts) (n : ℕ) → AreFiles p → map.get (content_of p) n ≡ None → (row_of p.log.tables n).used
+    ≡ false
 none_free p n files none = elim (cases_Bool (row_of p.log.tables n).used) [
   | inl used ↦ absurd (false≢true (sym (ap is_some none) ∙ used_shown p n files used))
   | inr free ↦ free
 ]
 
 -- the file of a record
-pub content_file : (p : Parts) (n : ℕ) (f : Fields) → record_of p n ≡ Some f → map.get (content_of p) n ≡ Some (file_with (tree_of p n) f)
+pub content_file : (p : Parts) (n : ℕ) (f : Fields) → record_of p n ≡ Some f → map.get (content_of p) n
+    ≡ Some (file_with (tree_of p n) f)
 content_file p n f is = get-content_of p n ∙ file_at-some p n f is
 
 -- ---- lengths
@@ -57,17 +60,22 @@ pub size_of : (k : Kind) (n : ℕ) → IsLength k n → IsSizeOf k n
 size_of Regular n h = (h, λ e. absurd (cc))
 size_of Directory n h = (h.0, λ e. h.1)
 
-splice_length : (old : List ℕ) (start : ℕ) (bytes : List ℕ) → 0 < length bytes → length (splice old start bytes) ≡ max (length old) (start + length bytes)
+splice_length : (old : List ℕ) (start : ℕ) (bytes : List ℕ) → 0 < length bytes → length (splice old start bytes)
+    ≡ max (length old) (start + length bytes)
 splice_length old start [] h = absurd (omega arith)
 splice_length old start (b ∷ bs) h = simp (length-append, length-take, length-replicate, length-drop) (omega arith)
 
 -- bytes put may give a file its size, where they may be asked for
-pub put_sized : (p : Parts) (n start : ℕ) (bytes : List ℕ) → AreFiles p → IsSomeAnd (map.get (content_of p) n) (λ f. IsLength f.kind (length (splice f.bytes start bytes)))
-    → 0 < length bytes → (f : Fields) → record_of p n ≡ Some f → IsSizeOf f.attributes.kind (max f.attributes.size (start + length bytes))
+pub put_sized : (p : Parts) (n start : ℕ) (bytes : List ℕ) → AreFiles p
+    → IsSomeAnd (map.get (content_of p) n) (λ f. IsLength f.kind (length (splice f.bytes start bytes)))
+    → 0 < length bytes → (f : Fields) → record_of p n ≡ Some f
+    → IsSizeOf f.attributes.kind (max f.attributes.size (start + length bytes))
 put_sized p n start bytes files can some f is =
     let file = file_with (tree_of p n) f in
-    let fits = some_at _ (λ f. IsLength f.kind (length (splice f.bytes start bytes))) file (content_file p n f is) can in
-    let whole : length file.bytes ≡ f.attributes.size = file_bytes-length (data_block (tree_of p n)) (files.files n f is).padded.whole f.attributes.size in
+    let fits = some_at _ (λ f. IsLength f.kind (length (splice f.bytes start bytes))) file (content_file p n f is) can
+    in
+    let whole : length file.bytes ≡ f.attributes.size =
+    file_bytes-length (data_block (tree_of p n)) (files.files n f is).padded.whole f.attributes.size in
     let long : length (splice file.bytes start bytes) ≡ max f.attributes.size (start + length bytes)
     = splice_length file.bytes start bytes some ∙ ap (λ m. max m (start + length bytes)) whole in
     subst (IsSizeOf f.attributes.kind) long (size_of f.attributes.kind _ fits)
@@ -91,14 +99,16 @@ length-without : (n : ℕ) (vs : List Inode) → length (without n vs) ≤ lengt
 unfolding without
 length-without n [] = omega arith
 length-without n (v ∷ vs) = elim (cases_eq v.number n) [
-  | inl e ↦ let is = ap (λ (ws : List Inode). length ws) (cond-true _ vs (v ∷ without n vs) (eq-eqb v.number n e)) in omega arith
+  | inl e ↦ let is = ap (λ (ws : List Inode). length ws) (cond-true _ vs (v ∷ without n vs) (eq-eqb v.number n e)) in
+      omega arith
   | inr ne ↦
       let is = ap (λ (ws : List Inode). length ws) (cond-false _ vs (v ∷ without n vs) (ne_eqb v.number n ne)) in
       let rest = length-without n vs in
       omega arith
 ]
 
-pub may_change : (p : Parts) (n : ℕ) → IsStaged p 0 → (row_of p.log.tables n).used ≡ true → length p.waiting < 64 → MayChange p n
+pub may_change : (p : Parts) (n : ℕ) → IsStaged p 0 → (row_of p.log.tables n).used ≡ true → length p.waiting < 64
+    → MayChange p n
 may_change p n staged used few =
     let low = used_low p n used in
     let less = length-without n p.waiting in
@@ -112,16 +122,21 @@ may_change p n staged used few =
     }
 
 -- a length may be set, where it may be asked for
-pub length_sized : (p : Parts) (n len : ℕ) → IsSomeAnd (map.get (content_of p) n) (λ f. IsLength f.kind len) → (f : Fields) → record_of p n ≡ Some f
+pub length_sized : (p : Parts) (n len : ℕ) → IsSomeAnd (map.get (content_of p) n) (λ f. IsLength f.kind len)
+    → (f : Fields) → record_of p n ≡ Some f
     → IsSizeOf f.attributes.kind len
-length_sized p n len can f is = size_of f.attributes.kind len (some_at _ (λ f. IsLength f.kind len) _ (content_file p n f is) can)
+length_sized p n len can f is = size_of f.attributes.kind len
+    (some_at _ (λ f. IsLength f.kind len) _ (content_file p n f is) can)
 
 -- attributes are of the file's kind, where they may be asked for
-pub kind_same : (p : Parts) (n : ℕ) (k : Kind) → IsSomeAnd (map.get (content_of p) n) (λ f. f.kind ≡ k) → (f : Fields) → record_of p n ≡ Some f → k ≡ f.attributes.kind
+pub kind_same : (p : Parts) (n : ℕ) (k : Kind) → IsSomeAnd (map.get (content_of p) n) (λ f. f.kind ≡ k) → (f : Fields)
+    → record_of p n ≡ Some f → k ≡ f.attributes.kind
 kind_same p n k can f is = sym (some_at _ (λ f. f.kind ≡ k) _ (content_file p n f is) can)
 
 -- ---- how far changes reach
-pub put_limit : (o : Option File) (start : ℕ) (bytes : List ℕ) → IsSomeAnd o (λ f. IsLength f.kind (length (splice f.bytes start bytes))) → 0 < length bytes
+pub put_limit : (o : Option File) (start : ℕ) (bytes : List ℕ)
+    → IsSomeAnd o (λ f. IsLength f.kind (length (splice f.bytes start bytes))) → 0 < length bytes
     → start + length bytes ≤ FILE_BYTES
 put_limit None start bytes h some = absurd h
-put_limit (Some f) start bytes h some = let long = splice_length f.bytes start bytes some in let most = length_limit f.kind _ h in omega arith
+put_limit (Some f) start bytes h some = let long = splice_length f.bytes start bytes some in let most =
+    length_limit f.kind _ h in omega arith

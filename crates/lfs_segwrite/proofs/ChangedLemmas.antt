@@ -8,4 +8,11 @@ use Rattle.lfs_staging.proofs.StagedLemmas.{stays-refl}
 
 -- ---- one change after others
 pub stages_refl : (p : Parts) → IsStaged p 0 → StagesTo (content_of p) (λ number version. version) 0 0 p p
-stages_refl p staged = record { staged = staged; content_is = refl; versions_are = λ number. refl; log = stays-refl p; frames_more = omega arith; records_more = omega arith }
+stages_refl p staged = record {
+  staged = staged;
+  content_is = refl;
+  versions_are = λ number. refl;
+  log = stays-refl p;
+  frames_more = omega arith;
+  records_more = omega arith;
+}

@@ -1,5 +1,7 @@
 -- What waits to be written, counted.
-use Rattle.std.proofs.Common.{◌≡◌, ◌≢◌, ℕ, zero, suc, ◌+◌, ◌<◌, ◌≤◌, List, [], ◌∷◌, ◌++◌, All, Bool, true, false, length, map, replicate, take, drop, get_or, cond, refl, sym, ap, ◌∙◌, subst, inl, inr, arith, length-append}
+use Rattle.std.proofs.Common.{◌≡◌, ◌≢◌, ℕ, zero, suc, ◌+◌, ◌<◌, ◌≤◌, List, [], ◌∷◌, ◌++◌, All, Bool, true, false}
+use Rattle.std.proofs.Common.{length, map, replicate, take, drop, get_or, cond, refl, sym, ap, ◌∙◌, subst, inl, inr}
+use Rattle.std.proofs.Common.{arith, length-append}
 use Rattle.std.specs.List.{filter}
 use Rattle.std.proofs.lemmas.Bool.{cases_eq, cases_lt, eq-eqb, false≢true, ne_eqb}
 use Rattle.std.proofs.lemmas.List.{length-map, map-append, length-replicate, take-append-drop}
@@ -41,19 +43,25 @@ unfolding in_passes
 in_passes-more n keys = refl
 
 -- one key more is in the passes behind its own, once
-passes_length : (n : ℕ) (keys : List Key) → length (in_passes (suc n) keys) ≡ length (in_passes n keys) + length (filter (is_of n) keys)
-passes_length n keys = ap (λ (ks : List Key). length ks) (in_passes-more n keys) ∙ length-append (in_passes n keys) (filter (is_of n) keys)
+passes_length : (n : ℕ) (keys : List Key) → length (in_passes (suc n) keys) ≡ length (in_passes n keys)
+    + length (filter (is_of n) keys)
+passes_length n keys = ap (λ (ks : List Key). length ks) (in_passes-more n keys)
+    ∙ length-append (in_passes n keys) (filter (is_of n) keys)
 
-passes_without : (n : ℕ) (k : Key) (keys : List Key) → n ≤ rank_of k.lbn → length (in_passes n (k ∷ keys)) ≡ length (in_passes n keys)
-passes_without zero k keys past = ap (λ (ks : List Key). length ks) (in_passes-none (k ∷ keys) ∙ sym (in_passes-none keys))
+passes_without : (n : ℕ) (k : Key) (keys : List Key) → n ≤ rank_of k.lbn → length (in_passes n (k ∷ keys))
+    ≡ length (in_passes n keys)
+passes_without zero k keys past = ap (λ (ks : List Key). length ks) (in_passes-none (k ∷ keys)
+    ∙ sym (in_passes-none keys))
 passes_without (suc n) k keys past =
     let before = passes_without n k keys (omega arith) in
-    let same = ap (λ (ks : List Key). length ks) (filter_no (is_of n) k keys (ne_eqb (rank_of k.lbn) n (λ e. omega arith))) in
+    let same = ap (λ (ks : List Key). length ks)
+    (filter_no (is_of n) k keys (ne_eqb (rank_of k.lbn) n (λ e. omega arith))) in
     let first = passes_length n (k ∷ keys) in
     let second = passes_length n keys in
     omega arith
 
-passes_with : (n : ℕ) (k : Key) (keys : List Key) → rank_of k.lbn < n → length (in_passes n (k ∷ keys)) ≡ length (in_passes n keys) + 1
+passes_with : (n : ℕ) (k : Key) (keys : List Key) → rank_of k.lbn < n → length (in_passes n (k ∷ keys))
+    ≡ length (in_passes n keys) + 1
 passes_with zero k keys low = absurd (omega arith)
 passes_with (suc n) k keys low =
     let first = passes_length n (k ∷ keys) in
@@ -75,11 +83,13 @@ in_order-length [] = passes_empty 3
     passes_empty : (n : ℕ) → length (in_passes n []) ≡ 0
     passes_empty zero = ap (λ (ks : List Key). length ks) (in_passes-none [])
     passes_empty (suc n) = let before = passes_empty n in let more = passes_length n [] in omega arith
-in_order-length (k ∷ keys) = let more = passes_with 3 k keys (rank_of-few k.lbn) in let rest = in_order-length keys in omega arith
+in_order-length (k ∷ keys) = let more = passes_with 3 k keys (rank_of-few k.lbn) in let rest = in_order-length keys in
+    omega arith
 
 -- as far as a pass there are no more than in all
 passes_grow : (keys : List Key) (n m : ℕ) → n ≤ m → length (in_passes n keys) ≤ length (in_passes m keys)
-passes_grow keys n zero less = let none : n ≡ 0 = omega arith in subst (λ k. length (in_passes k keys) ≤ length (in_passes 0 keys)) (sym none) (omega arith)
+passes_grow keys n zero less = let none : n
+    ≡ 0 = omega arith in subst (λ k. length (in_passes k keys) ≤ length (in_passes 0 keys)) (sym none) (omega arith)
 passes_grow keys n (suc m) less = elim (cases_eq n (suc m)) [
   | inl is ↦ subst (λ k. length (in_passes k keys) ≤ length (in_passes (suc m) keys)) (sym is) (omega arith)
   | inr other ↦ let before = passes_grow keys n m (omega arith) in let more = passes_length m keys in omega arith
@@ -93,7 +103,8 @@ pub in_passes-each : (P : Key → Type 0) (n : ℕ) (keys : List Key) → All P 
 in_passes-each P zero keys all = subst (All P) (sym (in_passes-none keys)) (λ k d low. absurd (omega arith))
 in_passes-each P (suc n) keys all =
     subst (All P) (sym (in_passes-more n keys))
-    (All-append P (in_passes n keys) (filter (is_of n) keys) (in_passes-each P n keys all) (All-filter (is_of n) P keys all))
+    (All-append P (in_passes n keys) (filter (is_of n) keys) (in_passes-each P n keys all)
+    (All-filter (is_of n) P keys all))
 
 -- how many entries there are
 pub entries_of-length : (p : Parts) → length (entries_of p) ≡ length p.cache.locked + inode_blocks (length p.waiting)
@@ -109,7 +120,8 @@ entries_of-length p =
     omega arith
 
 -- a part of a list has no more that pass
-pub filter_part : {X : Type 0} (p : X → Bool) (xs : List X) (n : ℕ) → length (filter p (take n xs)) ≤ length (filter p xs)
+pub filter_part : {X : Type 0} (p : X → Bool) (xs : List X) (n : ℕ)
+    → length (filter p (take n xs)) ≤ length (filter p xs)
 filter_part p xs n =
     let split = ap (λ ys. length (filter p ys)) (take-append-drop n xs) in
     let parts = ap length (filter-append p (take n xs) (drop n xs)) in
@@ -126,15 +138,18 @@ pass_room n keys i key low is =
     omega arith
 
 -- one pass more is collected
-pub collected_more : (l m : List SummaryEntry) (n : ℕ) (keys : List Key) → l ≡ map entry_of (in_passes n keys) → m ≡ l ++ map entry_of (filter (is_of n) keys)
+pub collected_more : (l m : List SummaryEntry) (n : ℕ) (keys : List Key) → l ≡ map entry_of (in_passes n keys) → m ≡ l
+    ++ map entry_of (filter (is_of n) keys)
     → m ≡ map entry_of (in_passes (n + 1) keys)
 collected_more l m n keys before more =
     let next : suc n ≡ n + 1 = omega arith in
-    more ∙ ap (λ es. es ++ map entry_of (filter (is_of n) keys)) before ∙ sym (map-append entry_of (in_passes n keys) (filter (is_of n) keys))
+    more ∙ ap (λ es. es ++ map entry_of (filter (is_of n) keys)) before
+    ∙ sym (map-append entry_of (in_passes n keys) (filter (is_of n) keys))
     ∙ ap (map entry_of) (sym (in_passes-more n keys)) ∙ ap (λ k. map entry_of (in_passes k keys)) next
 
 -- and fits
-pub collected_room : (l : List SummaryEntry) (n : ℕ) (keys : List Key) → l ≡ map entry_of (in_passes n keys) → n < 3 → length keys ≤ 24
+pub collected_room : (l : List SummaryEntry) (n : ℕ) (keys : List Key) → l ≡ map entry_of (in_passes n keys) → n < 3
+    → length keys ≤ 24
     → length l + length (filter (is_of n) keys) ≤ 40
 collected_room l n keys is low few =
     let many = ap (λ (es : List SummaryEntry). length es) is in
@@ -147,7 +162,8 @@ pub collected_none : (keys : List Key) → map entry_of (in_passes 0 keys) ≡ [
 collected_none keys = ap (map entry_of) (in_passes-none keys)
 
 -- with the records that is all
-pub collected : (p : Parts) (l m : List SummaryEntry) (keys : List Key) (blocks : ℕ) → l ≡ map entry_of (in_order keys) → m ≡ l ++ replicate blocks inodes_entry
+pub collected : (p : Parts) (l m : List SummaryEntry) (keys : List Key) (blocks : ℕ) → l ≡ map entry_of (in_order keys)
+    → m ≡ l ++ replicate blocks inodes_entry
     → keys ≡ keys_of p.cache.locked → blocks ≡ inode_blocks (length p.waiting) → m ≡ entries_of p
 unfolding entries_of
 collected p l m keys blocks before more is many =
@@ -166,8 +182,10 @@ number_of p number files used = record {
   below = let most = files.parts.formed.inodes_most in let low = used_low p number used in omega arith;
 }
 
-version_from : (p : Parts) (number : ℕ) → AreFiles p → (row_of p.log.tables number).used ≡ true → 1 ≤ (row_of p.log.tables number).version
-version_from p number files used = (files.parts.formed.each_row number fresh_row (used_low p number used)).given_out used
+version_from : (p : Parts) (number : ℕ) → AreFiles p → (row_of p.log.tables number).used ≡ true
+    → 1 ≤ (row_of p.log.tables number).version
+version_from p number files used = (files.parts.formed.each_row number fresh_row (used_low p number used)).given_out
+    used
 
 -- what a summary says of a key that waits names a block that a file can have
 pub coded_entry : (key : Key) → (h : IsBlockCode key.lbn) → block_with key.lbn ≡ h.block
@@ -185,16 +203,20 @@ key_entry : (p : Parts) (key : Key) → AreFiles p → IsLocked key p.cache → 
 key_entry p key files locked =
     let there = files.frames key locked in
     let number = number_of p key.ino files there.in_use in
-    let version : 1 ≤ key.version = subst (λ v. 1 ≤ v) (sym there.at_version) (version_from p key.ino files there.in_use) in
+    let version : 1 ≤ key.version = subst (λ v. 1 ≤ v) (sym there.at_version)
+    (version_from p key.ino files there.in_use) in
     let h = files.coded key locked in
-    subst (λ b. IsEntry (record { number = key.ino; version = key.version; block = logical_of b })) (sym (coded_entry key h))
+    subst (λ b. IsEntry (record { number = key.ino; version = key.version; block = logical_of b }))
+    (sym (coded_entry key h))
     (entry_block h.block h.is (λ e. h.other (sym h.coded ∙ e)) key.ino key.version number version)
 
 pub all_entries : (p : Parts) → AreFiles p → All IsEntry (entries_of p)
 unfolding entries_of
 all_entries p files =
     let keys = keys_of p.cache.locked in
-    let each : All (λ (key : Key). IsEntry (entry_of key)) keys = λ k d low. key_entry p (get_or keys k d) files (listed_has_block (get_or keys k d) p.cache.locked k d low (same_self (get_or keys k d))) in
+    let each : All (λ (key : Key). IsEntry (entry_of key)) keys =
+    λ k d low. key_entry p (get_or keys k d) files
+    (listed_has_block (get_or keys k d) p.cache.locked k d low (same_self (get_or keys k d))) in
     All-append IsEntry (map entry_of (in_order keys)) (replicate (inode_blocks (length p.waiting)) inodes_entry)
     (All-map IsEntry entry_of (in_order keys) (in_passes-each (λ (key : Key). IsEntry (entry_of key)) 3 keys each))
     (All-replicate IsEntry (inode_blocks (length p.waiting)) inodes_entry (record { block = tt; owner = (refl, refl) }))

@@ -1,5 +1,6 @@
 -- All that waits is written: the blocks in their order, then the records.
-use Rattle.std.proofs.Common.{◌≡◌, ◌≢◌, ℕ, zero, suc, ◌+◌, ◌-◌, ◌<◌, ◌≤◌, List, [], ◌∷◌, length, map, replicate, take, drop, get_or, IsSome, is_some, true, false, refl, sym, ap, ◌∙◌, subst, inl, inr, arith}
+use Rattle.std.proofs.Common.{◌≡◌, ◌≢◌, ℕ, zero, suc, ◌+◌, ◌-◌, ◌<◌, ◌≤◌, List, [], ◌∷◌, length, map, replicate, take}
+use Rattle.std.proofs.Common.{drop, get_or, IsSome, is_some, true, false, refl, sym, ap, ◌∙◌, subst, inl, inr, arith}
 use Rattle.std.specs.Prelude.{◌==◌, Bool, if◌then◌else◌}
 use Rattle.std.proofs.lemmas.Bool.Decides.{nat_tests}
 use Rattle.std.proofs.lemmas.Bool.{cases_eq, cond-true, cond-false, eq-eqb, ne_eqb, false≢true}
@@ -40,12 +41,16 @@ pub record Remains (old p : Parts) : Type 0 where
   pub no_frame : p.cache.locked ≡ []
   pub expected : Expects p.log.memory (replicate (inode_blocks (length p.waiting)) inodes_entry)
   pub advances : (from : ℕ) → from ≤ next_address old.log.memory → Advances from old p
-  pub next : next_address p.log.memory + inode_blocks (length p.waiting) ≡ next_address old.log.memory + inode_blocks (length old.waiting)
+  pub next : next_address p.log.memory + inode_blocks (length p.waiting) ≡ next_address old.log.memory
+      + inode_blocks (length old.waiting)
 
-pub one_block : (n : ℕ) → 0 < n → replicate (inode_blocks n) inodes_entry ≡ inodes_entry ∷ replicate (inode_blocks (n - 4)) inodes_entry
-one_block n some = ap (λ m. replicate m inodes_entry) (let e : inode_blocks n ≡ suc (inode_blocks (n - 4)) = omega arith in e)
+pub one_block : (n : ℕ) → 0 < n → replicate (inode_blocks n) inodes_entry ≡ inodes_entry
+    ∷ replicate (inode_blocks (n - 4)) inodes_entry
+one_block n some = ap (λ m. replicate m inodes_entry) (let e : inode_blocks n
+    ≡ suc (inode_blocks (n - 4)) = omega arith in e)
 
-pub remains_fewer : (old p q : Parts) → Remains old p → 0 < length p.waiting → IsStaged q 0 → ((from : ℕ) → from ≤ next_address p.log.memory → Advances from p q)
+pub remains_fewer : (old p q : Parts) → Remains old p → 0 < length p.waiting → IsStaged q 0
+    → ((from : ℕ) → from ≤ next_address p.log.memory → Advances from p q)
     → length q.waiting ≡ length p.waiting - 4 → q.cache ≡ p.cache
     → ((rest : List SummaryEntry) → Expects p.log.memory (inodes_entry ∷ rest) → Expects q.log.memory rest)
     → next_address q.log.memory ≡ next_address p.log.memory + 1 → Remains old q
@@ -53,8 +58,10 @@ remains_fewer old p q h some staged advances count cache expects next = record {
   staged = staged;
   no_frame = ap (λ (c : Contents). c.locked) cache ∙ h.no_frame;
   expected = subst (λ n. Expects q.log.memory (replicate (inode_blocks n) inodes_entry)) (sym count)
-      (expects (replicate (inode_blocks (length p.waiting - 4)) inodes_entry) (subst (Expects p.log.memory) (one_block (length p.waiting) some) h.expected));
-  advances = λ from low. Advances-trans from old p q (h.advances from low) (advances from (let next = (h.advances from low).next in omega arith));
+      (expects (replicate (inode_blocks (length p.waiting - 4)) inodes_entry)
+      (subst (Expects p.log.memory) (one_block (length p.waiting) some) h.expected));
+  advances = λ from low. Advances-trans from old p q (h.advances from low)
+      (advances from (let next = (h.advances from low).next in omega arith));
   next = let before = h.next in omega arith;
 }
 
@@ -78,10 +85,12 @@ lacks_at k [] i d lacks low = absurd (omega arith)
 lacks_at k (n ∷ ns) zero d lacks low = lacks.0
 lacks_at k (n ∷ ns) (suc i) d lacks low = lacks_at k ns i d lacks.1 (omega arith)
 
-apart_at : (ns : List Key) (j i : ℕ) (d e : Key) → AreApart ns → j < i → i < length ns → same_key (get_or ns j d) (get_or ns i e) ≡ false
+apart_at : (ns : List Key) (j i : ℕ) (d e : Key) → AreApart ns → j < i → i < length ns
+    → same_key (get_or ns j d) (get_or ns i e) ≡ false
 apart_at [] j i d e apart before low = absurd (omega arith)
 apart_at (n ∷ ns) j zero d e apart before low = absurd (omega arith)
-apart_at (n ∷ ns) zero (suc i) d e apart before low = apart_turned (get_or ns i e) n (lacks_at n ns i e apart.0 (omega arith))
+apart_at (n ∷ ns) zero (suc i) d e apart before low =
+    apart_turned (get_or ns i e) n (lacks_at n ns i e apart.0 (omega arith))
 apart_at (n ∷ ns) (suc j) (suc i) d e apart before low = apart_at ns j i d e apart.1 (omega arith) (omega arith)
 
 -- the keys that wait, in the order in which they are written
@@ -95,7 +104,8 @@ ordered-length p = in_order-length (keys_of p.cache.locked) ∙ length-map p.cac
 pub record LandsKeys (old p : Parts) (k : ℕ) : Type 0 where
   pub apart : AreApart (ordered old)
   pub staged : IsStaged p 0
-  pub each : (key : Key) → IsLocked key p.cache → (i : ℕ) × (k ≤ i) × (i < length (ordered old)) × (get_or (ordered old) i key ≡ key)
+  pub each : (key : Key) → IsLocked key p.cache → (i : ℕ) × (k ≤ i) × (i < length (ordered old))
+      × (get_or (ordered old) i key ≡ key)
   pub only : (i : ℕ) (d : Key) → k ≤ i → i < length (ordered old) → IsLocked (get_or (ordered old) i d) p.cache
   pub expected : Expects p.log.memory (drop k (entries_of old))
   pub advances : (from : ℕ) → from ≤ next_address old.log.memory → Advances from old p
@@ -122,7 +132,8 @@ record NamesKey (key : Key) (block : FileBlock) : Type 0 where
   pub other : code_of block ≢ 0
   pub code : code_of block ≡ key.lbn
 
-names_key : (p : Parts) (key : Key) → AreFiles p → IsLocked key p.cache → NamesKey key (file_block_of (entry_of key).block)
+names_key : (p : Parts) (key : Key) → AreFiles p → IsLocked key p.cache
+    → NamesKey key (file_block_of (entry_of key).block)
 names_key p key files locked =
     let h = files.coded key locked in
     subst (NamesKey key) (sym (file_block_of-logical (block_with key.lbn) ∙ coded_entry key h))
@@ -133,22 +144,28 @@ pub record IsNext (old p : Parts) (k : ℕ) (entry : SummaryEntry) (block : File
   pub can : IsFileBlock block
   pub other : code_of block ≢ 0
   pub waits : IsLocked (key_of entry.number (version_of p entry.number) (code_of block)) p.cache
-  pub free : (key : Key) → IsLocked key p.cache → key.ino ≡ entry.number → (i : ℕ) → way_of key.lbn ≡ i ∷ way_to block → ⊥
+  pub free : (key : Key) → IsLocked key p.cache → key.ino ≡ entry.number → (i : ℕ) → way_of key.lbn ≡ i ∷ way_to block
+      → ⊥
   pub same : entry_at_version p entry.number block ≡ entry
   pub split : drop k (entries_of old) ≡ entry ∷ drop (k + 1) (entries_of old)
   pub key : (d : Key) → get_or (ordered old) k d ≡ key_of entry.number (version_of p entry.number) (code_of block)
 
 -- a block that holds the address of another one has a later pass
-later_pass : (block : FileBlock) (code i : ℕ) → IsFileBlock block → IsBlockCode code → code_of block ≢ 0 → way_of code ≡ i ∷ way_to block → rank_of code < rank_of (code_of block)
+later_pass : (block : FileBlock) (code i : ℕ) → IsFileBlock block → IsBlockCode code → code_of block ≢ 0 → way_of code
+    ≡ i ∷ way_to block → rank_of code < rank_of (code_of block)
 later_pass block code i can h other way =
-    let up : way_to (table_of h.block) ≡ way_to block = table_of-way h.block h.is i (way_to block) (sym (way_of-code_of h.block h.is) ∙ ap way_of h.coded ∙ way) in
-    let same : code_of (table_of h.block) ≡ code_of block = same_code (code_of (table_of h.block)) (code_of block) (way_of-code_of (table_of h.block) (table_of-is h.block h.is) ∙ up ∙ sym (way_of-code_of block can)) in
+    let up : way_to (table_of h.block) ≡ way_to block =
+    table_of-way h.block h.is i (way_to block) (sym (way_of-code_of h.block h.is) ∙ ap way_of h.coded ∙ way) in
+    let same : code_of (table_of h.block) ≡ code_of block =
+    same_code (code_of (table_of h.block)) (code_of block)
+    (way_of-code_of (table_of h.block) (table_of-is h.block h.is) ∙ up ∙ sym (way_of-code_of block can)) in
     let less = rank_of-table h.block h.is (λ e. other (sym same ∙ e)) in
     let first = ap rank_of h.coded in
     let second = ap rank_of same in
     omega arith
 
-next_key : (old p : Parts) (k : ℕ) (entry : SummaryEntry) → LandsKeys old p k → k < length old.cache.locked → entry ≡ get_or (entries_of old) k entry
+next_key : (old p : Parts) (k : ℕ) (entry : SummaryEntry) → LandsKeys old p k → k < length old.cache.locked → entry
+    ≡ get_or (entries_of old) k entry
     → IsNext old p k entry (file_block_of entry.block)
 next_key old p k entry h low at =
     let d : Key = key_of 0 0 0 in
@@ -161,7 +178,8 @@ next_key old p k entry h low at =
     let names = names_key p key h.staged.whole locked in
     let block : FileBlock = file_block_of (entry_of key).block in
     let here : key_of key.ino (version_of p key.ino) (code_of block) ≡ key
-    = ap (λ m. key_of key.ino m (code_of block)) (sym present.at_version) ∙ ap (λ c. key_of key.ino key.version c) names.code in
+    = ap (λ m. key_of key.ino m (code_of block)) (sym present.at_version)
+    ∙ ap (λ c. key_of key.ino key.version c) names.code in
     let made : IsNext old p k (entry_of key) block = record {
       can = names.can;
       other = names.other;
@@ -174,33 +192,41 @@ next_key old p k entry h low at =
           let own = ap rank_of names.code in
           omega arith;
       same = ap (λ m. record { number = key.ino; version = m; block = logical_of block }) (sym present.at_version)
-          ∙ ap (λ b. record { number = key.ino; version = key.version; block = b }) (logical_of-file_block (entry_of key).block);
-      split = drop_more (entries_of old) k entry (omega arith) ∙ ap (λ e. e ∷ drop (k + 1) (entries_of old)) (sym at ∙ is);
+          ∙ ap (λ b. record { number = key.ino; version = key.version; block = b })
+          (logical_of-file_block (entry_of key).block);
+      split = drop_more (entries_of old) k entry (omega arith)
+          ∙ ap (λ e. e ∷ drop (k + 1) (entries_of old)) (sym at ∙ is);
       key = λ e. get_or_default (ordered old) k e d (omega arith) ∙ sym here;
     } in
     subst (λ (e : SummaryEntry). IsNext old p k e (file_block_of e.block)) (sym is) made
 
 -- how many entries are of blocks
-pub taken_count : (p : Parts) (n : ℕ) (entries : List SummaryEntry) → entries ≡ entries_of p → n ≡ length p.cache.locked → length (take n entries) ≡ n
+pub taken_count : (p : Parts) (n : ℕ) (entries : List SummaryEntry) → entries ≡ entries_of p → n ≡ length p.cache.locked
+    → length (take n entries) ≡ n
 taken_count p n entries all many =
     let whole = entries_of-length p in
     let same = ap (λ (es : List SummaryEntry). length es) all in
     length-take-le n entries (omega arith)
 
-pub next_at : (old p : Parts) (n k : ℕ) (entries : List SummaryEntry) (d : SummaryEntry) (block : FileBlock) → LandsKeys old p k → entries ≡ entries_of old → n ≡ length old.cache.locked → k < n
+pub next_at : (old p : Parts) (n k : ℕ) (entries : List SummaryEntry) (d : SummaryEntry) (block : FileBlock)
+    → LandsKeys old p k → entries ≡ entries_of old → n ≡ length old.cache.locked → k < n
     → block ≡ file_block_of (get_or (take n entries) k d).block → IsNext old p k (get_or (take n entries) k d) block
 next_at old p n k entries d block h all many low is =
     let entry = get_or (take n entries) k d in
     let whole = entries_of-length old in
     let at : entry ≡ get_or (entries_of old) k entry
-    = get_or-take n entries k d low ∙ ap (λ es. get_or es k d) all ∙ get_or_default (entries_of old) k d entry (omega arith) in
+    = get_or-take n entries k d low ∙ ap (λ es. get_or es k d) all
+    ∙ get_or_default (entries_of old) k d entry (omega arith) in
     subst (IsNext old p k entry) (sym is) (next_key old p k entry h (omega arith) at)
 
-pub keys_more : (old p q : Parts) (k : ℕ) (entry : SummaryEntry) (block : FileBlock) → LandsKeys old p k → k < length old.cache.locked → IsNext old p k entry block → IsStaged q 0
+pub keys_more : (old p q : Parts) (k : ℕ) (entry : SummaryEntry) (block : FileBlock) → LandsKeys old p k
+    → k < length old.cache.locked → IsNext old p k entry block → IsStaged q 0
     → ((from : ℕ) → from ≤ next_address p.log.memory → Advances from p q)
-    → ((rest : List SummaryEntry) → Expects p.log.memory (entry_at_version p entry.number block ∷ rest) → Expects q.log.memory rest)
+    → ((rest : List SummaryEntry) → Expects p.log.memory (entry_at_version p entry.number block ∷ rest)
+    → Expects q.log.memory rest)
     → (IsLocked (key_of entry.number (version_of p entry.number) (code_of block)) q.cache → ⊥)
-    → ((key : Key) → same_key (key_of entry.number (version_of p entry.number) (code_of block)) key ≡ false → IsLocked key p.cache → IsLocked key q.cache)
+    → ((key : Key) → same_key (key_of entry.number (version_of p entry.number) (code_of block)) key ≡ false
+    → IsLocked key p.cache → IsLocked key q.cache)
     → ((key : Key) → IsLocked key q.cache → IsLocked key p.cache) → length q.waiting ≡ length p.waiting
     → next_address q.log.memory ≡ next_address p.log.memory + 1 → LandsKeys old q (k + 1)
 keys_more old p q k entry block h low next staged advances expects gone others only count further =
@@ -211,16 +237,20 @@ keys_more old p q k entry block h low next staged advances expects gone others o
       each = λ key locked.
           let there = h.each key (only key locked) in
           let later : k + 1 ≤ there.0 = elim (cases_eq there.0 k) [
-            | inl e ↦ absurd (gone (subst (λ x. IsLocked x q.cache) (sym there.3 ∙ ap (λ i. get_or (ordered old) i key) e ∙ next.key key) locked))
+            | inl e ↦ absurd (gone (subst (λ x. IsLocked x q.cache) (sym there.3
+                ∙ ap (λ i. get_or (ordered old) i key) e ∙ next.key key) locked))
             | inr ne ↦ let from = there.1 in omega arith
           ] in
           (there.0, later, there.2, there.3);
       only = λ i d later inside.
-          others (get_or (ordered old) i d) (subst (λ x. same_key x (get_or (ordered old) i d) ≡ false) (next.key d) (apart_at (ordered old) k i d d h.apart (omega arith) inside))
+          others (get_or (ordered old) i d) (subst (λ x. same_key x (get_or (ordered old) i d) ≡ false) (next.key d)
+          (apart_at (ordered old) k i d d h.apart (omega arith) inside))
           (h.only i d (omega arith) inside);
       expected = expects (drop (k + 1) (entries_of old))
-          (subst (λ e. Expects p.log.memory (e ∷ drop (k + 1) (entries_of old))) (sym next.same) (subst (Expects p.log.memory) next.split h.expected));
-      advances = λ from first. Advances-trans from old p q (h.advances from first) (advances from (let later = (h.advances from first).next in omega arith));
+          (subst (λ e. Expects p.log.memory (e ∷ drop (k + 1) (entries_of old))) (sym next.same)
+          (subst (Expects p.log.memory) next.split h.expected));
+      advances = λ from first. Advances-trans from old p q (h.advances from first)
+          (advances from (let later = (h.advances from first).next in omega arith));
       count = count ∙ h.count;
       next = let before = h.next in omega arith;
     }
@@ -231,22 +261,28 @@ none_locked [] none = refl
 none_locked (e ∷ es) none = absurd (none e.0 (ap is_some (cond-true _ _ _ (same_self e.0))))
 
 pub keys_end : (old p : Parts) (k : ℕ) → LandsKeys old p k → length old.cache.locked ≤ k → p.cache.locked ≡ []
-keys_end old p k h end = none_locked p.cache.locked (λ key locked. let there = h.each key locked in let many = ordered-length old in let from = there.1 in let inside = there.2 in absurd (omega arith))
+keys_end old p k h end = none_locked p.cache.locked
+    (λ key locked. let there = h.each key locked in let many = ordered-length old in let from = there.1 in let inside =
+    there.2 in absurd (omega arith))
 
-entries_left : (p : Parts) (k : ℕ) → k ≡ length p.cache.locked → drop k (entries_of p) ≡ replicate (inode_blocks (length p.waiting)) inodes_entry
+entries_left : (p : Parts) (k : ℕ) → k ≡ length p.cache.locked → drop k (entries_of p)
+    ≡ replicate (inode_blocks (length p.waiting)) inodes_entry
 unfolding entries_of
 entries_left p k end =
-    drop_at (map entry_of (ordered p)) (replicate (inode_blocks (length p.waiting)) inodes_entry) k (length-map (ordered p) entry_of ∙ ordered-length p ∙ sym end)
+    drop_at (map entry_of (ordered p)) (replicate (inode_blocks (length p.waiting)) inodes_entry) k
+    (length-map (ordered p) entry_of ∙ ordered-length p ∙ sym end)
 
 pub keys_left : (old p : Parts) (k : ℕ) → LandsKeys old p k → k ≡ length old.cache.locked
     → Expects p.log.memory (replicate (inode_blocks (length p.waiting)) inodes_entry)
 keys_left old p k h end =
-    subst (λ n. Expects p.log.memory (replicate (inode_blocks n) inodes_entry)) (sym h.count) (subst (Expects p.log.memory) (entries_left old k end) h.expected)
+    subst (λ n. Expects p.log.memory (replicate (inode_blocks n) inodes_entry)) (sym h.count)
+    (subst (Expects p.log.memory) (entries_left old k end) h.expected)
 
 -- ---- the whole
 none_waits : (q : Parts) → IsSettled q → (n c : ℕ) → Waits q n c → ⊥
 none_waits q settled n zero waits = false≢true (sym (ap (λ vs. is_some (waiting_in vs n)) settled.no_record) ∙ waits)
-none_waits q settled n (suc c) waits = false≢true (sym (ap (λ es. is_some (block_in (key_of n (version_of q n) (suc c)) es)) settled.no_frame) ∙ waits)
+none_waits q settled n (suc c) waits = false≢true
+    (sym (ap (λ es. is_some (block_in (key_of n (version_of q n) (suc c)) es)) settled.no_frame) ∙ waits)
 
 -- something is written with a summary before it
 pub blocks_some : (n : ℕ) → (if n == 0 then 0 else n + 1) ≢ 0 → (if n == 0 then 0 else n + 1) ≡ n + 1
@@ -255,7 +291,8 @@ blocks_some n some = elim (cases_eq n 0) [
   | inr other ↦ cond-false _ _ _ (ne_eqb n 0 other)
 ]
 
-pub flushed : (p q : Parts) → IsStaged q 0 → Expects q.log.memory [] → IsSettled q → Advances (next_address p.log.memory) p q
+pub flushed : (p q : Parts) → IsStaged q 0 → Expects q.log.memory [] → IsSettled q
+    → Advances (next_address p.log.memory) p q
     → next_address q.log.memory ≡ next_address p.log.memory + blocks_of_entries (entries_of p) → Flushes p q
 flushed p q staged ready settled h grown = record {
   store = staged_store q staged ready;

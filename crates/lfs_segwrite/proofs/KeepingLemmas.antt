@@ -1,5 +1,6 @@
 -- What holds of the files holds still when a block landed.
-use Rattle.std.proofs.Common.{true, ◌≡◌, ◌≢◌, ℕ, ◌/◌, ◌%◌, ◌<◌, ◌≤◌, ◌⊎◌, List, [], ◌∷◌, length, Some, IsSome, false, is_some, refl, sym, ap, ◌∙◌, subst, inl, inr}
+use Rattle.std.proofs.Common.{true, ◌≡◌, ◌≢◌, ℕ, ◌/◌, ◌%◌, ◌<◌, ◌≤◌, ◌⊎◌, List, [], ◌∷◌, length, Some, IsSome, false}
+use Rattle.std.proofs.Common.{is_some, refl, sym, ap, ◌∙◌, subst, inl, inr}
 use Rattle.std.specs.Prelude.{slice_index}
 use Rattle.std.proofs.lemmas.Bool.{cases_eq, cases_lt, false≢true}
 use Rattle.std.proofs.lemmas.Option.{none-some, same_Some}
@@ -30,7 +31,8 @@ use Rattle.lfs_staging.specs.View.{key_of, record_of, tree_of}
 use Rattle.lfs_staging.proofs.CleanLemmas.{apart_present, coded_below, coded_block, logged_kept}
 use Rattle.lfs_staging.proofs.FileLemmas.{record_of-past}
 use Rattle.lfs_staging.proofs.ForgettingLemmas.{used_low}
-use Rattle.lfs_segwrite.proofs.LandedLemmas.{Steps, address_here, address_same, block_other, data_same, lands, record_other, rows_all, version_same, waits_key}
+use Rattle.lfs_segwrite.proofs.LandedLemmas.{Steps, address_here, address_same, block_other, data_same, lands}
+use Rattle.lfs_segwrite.proofs.LandedLemmas.{record_other, rows_all, version_same, waits_key}
 use Rattle.lfs_staging.proofs.SameContentLemmas.{content_of-same, file_at-kept, file_at-same}
 use Rattle.lfs_staging.proofs.SettingLemmas.{waiting_record}
 use Rattle.lfs_bmap.proofs.BlockLemmas.{code_of-below}
@@ -44,7 +46,8 @@ padded_same old new size same h = record {
   zeros = λ i past. ap (λ b. slice_index b (i % 512)) (same (i / 512)) ∙ h.zeros i past;
 }
 
-module _ (p r s q : Parts) (v : Inode) (block : FileBlock) (a i : ℕ) (up : List ℕ) (h : Steps p r s q v block a i up) (waited : up ≢ [] → IsSome ((tree_of p v.number).waits up))
+module _ (p r s q : Parts) (v : Inode) (block : FileBlock) (a i : ℕ) (up : List ℕ) (h : Steps p r s q v block a i up)
+    (waited : up ≢ [] → IsSome ((tree_of p v.number).waits up))
     (files : AreFiles p) (stays : StaysWaiting p q v) (within : IsWithin block v.size) (parts : IsParts q.log) where
   rows : q.log.tables.rows ≡ p.log.tables.rows
   rows = rows_all p r s q v block a i up h
@@ -59,7 +62,8 @@ module _ (p r s q : Parts) (v : Inode) (block : FileBlock) (a i : ℕ) (up : Lis
   in_volume number f is =
       elim (cases_lt number (length p.log.tables.rows)) [
         | inl low ↦ low
-        | inr past ↦ absurd (none-some f (sym (record_of-past q number (subst (λ rs. length rs ≤ number) (sym rows) past)) ∙ is))
+        | inr past ↦ absurd (none-some f (sym (record_of-past q number
+            (subst (λ rs. length rs ≤ number) (sym rows) past)) ∙ is))
       ]
 
   present_after : (number version : ℕ) → IsPresent p number version → IsPresent q number version
@@ -69,18 +73,24 @@ module _ (p r s q : Parts) (v : Inode) (block : FileBlock) (a i : ℕ) (up : Lis
   }
 
   -- a file that has blocks of its own at the addresses that they had
-  file_after : (number : ℕ) (f g : Fields) → number < length p.log.tables.rows → IsFile p number f → f.attributes ≡ g.attributes
-      → ((b : FileBlock) → IsFileBlock b → block_count f.attributes.size ≤ first_under b → (number ≢ v.number) ⊎ (code_of b ≢ code_of block)) → AreFields g → IsFile q number g
+  file_after : (number : ℕ) (f g : Fields) → number < length p.log.tables.rows → IsFile p number f → f.attributes
+      ≡ g.attributes
+      → ((b : FileBlock) → IsFileBlock b → block_count f.attributes.size ≤ first_under b → (number ≢ v.number)
+      ⊎ (code_of b ≢ code_of block)) → AreFields g → IsFile q number g
   file_after number f g low was same apart formed = record {
     formed = formed;
     own_number = sym (ap (λ (x : Attributes). x.number) same) ∙ was.own_number;
-    own_version = sym (ap (λ (x : Attributes). x.version) same) ∙ was.own_version ∙ sym (version_same p r s q v block a i up h number);
+    own_version = sym (ap (λ (x : Attributes). x.version) same) ∙ was.own_version
+        ∙ sym (version_same p r s q v block a i up h number);
     none_past = λ b is past.
-        let from : block_count f.attributes.size ≤ first_under b = subst (λ (x : Attributes). block_count x.size ≤ first_under b) (sym same) past in
-        ap (address (tree_of q number)) (sym (way_of-code_of b is)) ∙ address_same p r s q v block a i up h waited number (code_of b) low (code_of-below b is) (apart b is from)
+        let from : block_count f.attributes.size ≤ first_under b =
+        subst (λ (x : Attributes). block_count x.size ≤ first_under b) (sym same) past in
+        ap (address (tree_of q number)) (sym (way_of-code_of b is))
+        ∙ address_same p r s q v block a i up h waited number (code_of b) low (code_of-below b is) (apart b is from)
         ∙ ap (address (tree_of p number)) (way_of-code_of b is) ∙ was.none_past b is from;
     padded = subst (λ (x : Attributes). IsPadded (data_block (tree_of q number)) x.size) same
-        (padded_same (data_block (tree_of p number)) (data_block (tree_of q number)) f.attributes.size (λ n. data_same p r s q v block a i up h waited number n low) was.padded);
+        (padded_same (data_block (tree_of p number)) (data_block (tree_of q number)) f.attributes.size
+        (λ n. data_same p r s q v block a i up h waited number n low) was.padded);
   }
 
   files_after : (number : ℕ) (f : Fields) → record_of q number ≡ Some f → IsFile q number f
@@ -88,8 +98,10 @@ module _ (p r s q : Parts) (v : Inode) (block : FileBlock) (a i : ℕ) (up : Lis
       elim (cases_eq number v.number) [
         | inl e ↦
             let same : fields_of stays.after ≡ f = same_Some _ f (sym record_here ∙ ap (record_of q) (sym e) ∙ is) in
-            subst (IsFile q number) same (file_after number (fields_of v) (fields_of stays.after) (in_volume number f is)
-            (subst (λ n. IsFile p n (fields_of v)) (sym e) (files.files v.number (fields_of v) (waiting_record p v h.is))) (sym stays.same)
+            subst (IsFile q number) same (file_after number (fields_of v) (fields_of stays.after)
+            (in_volume number f is)
+            (subst (λ n. IsFile p n (fields_of v)) (sym e)
+            (files.files v.number (fields_of v) (waiting_record p v h.is))) (sym stays.same)
             (λ b can past. inr (within_apart block b v.size h.can can within past)) (AreFields-fields_of stays.after))
         | inr ne ↦
             let was = files.files number f (sym (record_other p r s q v block a i up h number ne) ∙ is) in
@@ -97,7 +109,8 @@ module _ (p r s q : Parts) (v : Inode) (block : FileBlock) (a i : ℕ) (up : Lis
       ]
 
   -- what is locked was locked, or holds the address
-  locked_cases : (key : Key) → IsLocked key q.cache → (IsLocked key p.cache) ⊎ ((up ≢ []) × (key_of v.number v.version (code_at up) ≡ key))
+  locked_cases : (key : Key) → IsLocked key q.cache → (IsLocked key p.cache)
+      ⊎ ((up ≢ []) × (key_of v.number v.version (code_at up) ≡ key))
   locked_cases key locked =
       elim (same_cases (key_of v.number v.version (code_of block)) key) [
         | inl is ↦
@@ -110,10 +123,12 @@ module _ (p r s q : Parts) (v : Inode) (block : FileBlock) (a i : ℕ) (up : Lis
         ]
       ]
     where
-      parent_cases : (w : List ℕ) → w ≡ up → key_of v.number v.version (code_at up) ≡ key → same_key (key_of v.number v.version (code_of block)) key ≡ false
+      parent_cases : (w : List ℕ) → w ≡ up → key_of v.number v.version (code_at up) ≡ key
+          → same_key (key_of v.number v.version (code_of block)) key ≡ false
           → (IsLocked key p.cache) ⊎ ((up ≢ []) × (key_of v.number v.version (code_at up) ≡ key))
       parent_cases [] e is apart =
-          inl (sym (ap is_some (h.kept key apart ∙ ap (λ (c : Contents). block_in key c.locked) (h.set.record_only (sym e)) ∙ ap (λ (c : Contents). block_in key c.locked) h.put.cache)) ∙ locked)
+          inl (sym (ap is_some (h.kept key apart ∙ ap (λ (c : Contents). block_in key c.locked)
+          (h.set.record_only (sym e)) ∙ ap (λ (c : Contents). block_in key c.locked) h.put.cache)) ∙ locked)
       parent_cases (j ∷ above) e is apart = inr (λ none. absurd (let bad : j ∷ above ≡ [] = e ∙ none in cc), is)
 
   -- what is clean was, or is the block that landed
@@ -134,12 +149,15 @@ module _ (p r s q : Parts) (v : Inode) (block : FileBlock) (a i : ℕ) (up : Lis
               })
           | inr other ↦
               let was = files.mirrors.each key bytes
-              (subst (λ (c : Contents). block_in key c.lru ≡ Some bytes) h.put.cache (h.set.clean.each key bytes (h.clean key bytes other there))) in
+              (subst (λ (c : Contents). block_in key c.lru ≡ Some bytes) h.put.cache
+              (h.set.clean.each key bytes (h.clean key bytes other there))) in
               let low = used_low p key.ino was.present.in_use in
               let below = coded_below key.lbn was.coded in
               logged_kept p q key bytes was (present_after key.ino key.version was.present)
-              (address_same p r s q v block a i up h waited key.ino key.lbn low below (apart_present p k key here was.present other))
-              (block_other p r s q v block a i up h (address (tree_of p key.ino) (way_of key.lbn)) (h.put.unread key.ino low (way_of key.lbn) (way_of-known key.lbn below)))
+              (address_same p r s q v block a i up h waited key.ino key.lbn low below
+              (apart_present p k key here was.present other))
+              (block_other p r s q v block a i up h (address (tree_of p key.ino) (way_of key.lbn))
+              (h.put.unread key.ino low (way_of key.lbn) (way_of-known key.lbn below)))
         ];
   }
 
@@ -147,16 +165,20 @@ module _ (p r s q : Parts) (v : Inode) (block : FileBlock) (a i : ℕ) (up : Lis
   files_kept = record {
     parts = parts;
     cache = stays.cache;
-    reserved = λ number low other. ap (λ (rs : List InodeRow). (row_at rs number).used) rows ∙ files.reserved number low other;
+    reserved = λ number low other. ap (λ (rs : List InodeRow). (row_at rs number).used) rows
+        ∙ files.reserved number low other;
     recorded = λ number used. elim (cases_eq number v.number) [
       | inl e ↦ ap is_some (ap (record_of q) e ∙ record_here)
-      | inr ne ↦ ap is_some (record_other p r s q v block a i up h number ne) ∙ files.recorded number (sym (ap (λ (rs : List InodeRow). (row_at rs number).used) rows) ∙ used)
+      | inr ne ↦ ap is_some (record_other p r s q v block a i up h number ne)
+          ∙ files.recorded number (sym (ap (λ (rs : List InodeRow). (row_at rs number).used) rows) ∙ used)
     ];
     files = files_after;
     records = stays.present;
     frames = λ key locked. elim (locked_cases key locked) [
       | inl was ↦ present_after key.ino key.version (files.frames key was)
-      | inr parent ↦ present_after key.ino key.version (subst (λ (k : Key). IsPresent p k.ino k.version) parent.1 (record { in_use = h.is.in_use; at_version = h.is.at_version }))
+      | inr parent ↦ present_after key.ino key.version
+          (subst (λ (k : Key). IsPresent p k.ino k.version) parent.1
+          (record { in_use = h.is.in_use; at_version = h.is.at_version }))
     ];
     coded = λ key locked. elim (locked_cases key locked) [
       | inl was ↦ files.coded key was
@@ -171,34 +193,42 @@ module _ (p r s q : Parts) (v : Inode) (block : FileBlock) (a i : ℕ) (up : Lis
   content_kept =
       content_of-same p q (ap length rows) (λ number low. elim (cases_eq number v.number) [
         | inl e ↦
-            file_at-same p q number (fields_of v) (fields_of stays.after) (ap (record_of p) e ∙ waiting_record p v h.is) (ap (record_of q) e ∙ record_here)
+            file_at-same p q number (fields_of v) (fields_of stays.after) (ap (record_of p) e ∙ waiting_record p v h.is)
+            (ap (record_of q) e ∙ record_here)
             stays.same (λ n. data_same p r s q v block a i up h waited number n low)
-        | inr ne ↦ file_at-kept p q number (record_other p r s q v block a i up h number ne) (λ n. data_same p r s q v block a i up h waited number n low)
+        | inr ne ↦ file_at-kept p q number (record_other p r s q v block a i up h number ne)
+            (λ n. data_same p r s q v block a i up h waited number n low)
       ])
 
   -- what else was locked still is
-  pub frames_kept : (key : Key) → same_key (key_of v.number v.version (code_of block)) key ≡ false → is_some (block_in key p.cache.locked) ≡ true → is_some (block_in key q.cache.locked) ≡ true
+  pub frames_kept : (key : Key) → same_key (key_of v.number v.version (code_of block)) key ≡ false
+      → is_some (block_in key p.cache.locked) ≡ true → is_some (block_in key q.cache.locked) ≡ true
   frames_kept key apart was =
       elim (same_cases (key_of v.number v.version (code_at up)) key) [
         | inl is ↦ still up refl (same_is (key_of v.number v.version (code_at up)) key is)
         | inr far ↦ ap is_some (waits_key p r s q v block a i up h key apart far) ∙ was
       ]
     where
-      still : (w : List ℕ) → w ≡ up → key_of v.number v.version (code_at up) ≡ key → is_some (block_in key q.cache.locked) ≡ true
+      still : (w : List ℕ) → w ≡ up → key_of v.number v.version (code_at up) ≡ key
+          → is_some (block_in key q.cache.locked) ≡ true
       still [] e is =
-          ap is_some (h.kept key apart ∙ ap (λ (c : Contents). block_in key c.locked) (h.set.record_only (sym e)) ∙ ap (λ (c : Contents). block_in key c.locked) h.put.cache) ∙ was
+          ap is_some (h.kept key apart ∙ ap (λ (c : Contents). block_in key c.locked) (h.set.record_only (sym e))
+          ∙ ap (λ (c : Contents). block_in key c.locked) h.put.cache) ∙ was
       still (j ∷ above) e is =
-          ap is_some (h.kept key apart) ∙ subst (λ k. is_some (block_in k s.cache.locked) ≡ true) (ap (λ w. key_of v.number v.version (code_at w)) e ∙ is)
+          ap is_some (h.kept key apart) ∙ subst (λ k. is_some (block_in k s.cache.locked) ≡ true)
+          (ap (λ w. key_of v.number v.version (code_at w)) e ∙ is)
           (subst (HolderWaits s.cache v.number v.version) (sym e) h.set.still)
 
   -- and nothing else is
-  pub frames_only : HolderWaits p.cache v.number v.version up → (key : Key) → IsLocked key q.cache → IsLocked key p.cache
+  pub frames_only : HolderWaits p.cache v.number v.version up → (key : Key) → IsLocked key q.cache
+      → IsLocked key p.cache
   frames_only waits key locked =
       elim (locked_cases key locked) [
         | inl was ↦ was
         | inr parent ↦ subst (λ k. IsLocked k p.cache) parent.1 (parent_locked up parent.0 waits)
       ]
     where
-      parent_locked : (w : List ℕ) → w ≢ [] → HolderWaits p.cache v.number v.version w → IsLocked (key_of v.number v.version (code_at w)) p.cache
+      parent_locked : (w : List ℕ) → w ≢ [] → HolderWaits p.cache v.number v.version w
+          → IsLocked (key_of v.number v.version (code_at w)) p.cache
       parent_locked [] some waits = absurd (some refl)
       parent_locked (j ∷ above) some waits = waits

@@ -1,5 +1,6 @@
 -- A block that waits was written: what else waits still does, and its key alone has another place.
-use Rattle.std.proofs.Common.{◌≡◌, ◌≢◌, ℕ, zero, suc, ◌*◌, ◌/◌, ◌<◌, ◌≤◌, ◌⊎◌, List, [], ◌∷◌, length, Some, is_some, false, refl, sym, ap, ◌∙◌, subst, inl, inr, arith}
+use Rattle.std.proofs.Common.{◌≡◌, ◌≢◌, ℕ, zero, suc, ◌*◌, ◌/◌, ◌<◌, ◌≤◌, ◌⊎◌, List, [], ◌∷◌, length, Some, is_some}
+use Rattle.std.proofs.Common.{false, refl, sym, ap, ◌∙◌, subst, inl, inr, arith}
 use Rattle.std.proofs.lemmas.Bool.{cases_eq, false≢true}
 use Rattle.std.specs.Prelude.{All}
 use Rattle.std.proofs.lemmas.List.Elements.{All-head, All-tail}
@@ -39,7 +40,8 @@ use Rattle.lfs_staging.proofs.FrameLemmas.{once_numbers, waiting_number}
 use Rattle.lfs_segwrite.proofs.AgainLemmas.{waits_block}
 
 -- what waits of a number rests on the numbers
-waits_numbers : (vs ws : List Inode) (n : ℕ) → numbers_of ws ≡ numbers_of vs → is_some (waiting_in ws n) ≡ is_some (waiting_in vs n)
+waits_numbers : (vs ws : List Inode) (n : ℕ) → numbers_of ws ≡ numbers_of vs → is_some (waiting_in ws n)
+    ≡ is_some (waiting_in vs n)
 waits_numbers [] [] n same = refl
 waits_numbers [] (w ∷ ws) n same = absurd (cc)
 waits_numbers (v ∷ vs) [] n same = absurd (cc)
@@ -48,7 +50,8 @@ waits_numbers (v ∷ vs) (w ∷ ws) n same =
     let rest : numbers_of ws ≡ numbers_of vs = cc in
     elim (cases_eq v.number n) [
       | inl here ↦ ap is_some (waiting-head w ws n (first ∙ here)) ∙ sym (ap is_some (waiting-head v vs n here))
-      | inr ne ↦ ap is_some (waiting-tail w ws n (λ e. ne (sym first ∙ e))) ∙ waits_numbers vs ws n rest ∙ sym (ap is_some (waiting-tail v vs n ne))
+      | inr ne ↦ ap is_some (waiting-tail w ws n (λ e. ne (sym first ∙ e))) ∙ waits_numbers vs ws n rest
+          ∙ sym (ap is_some (waiting-tail v vs n ne))
     ]
 
 -- the record that waits of a number is the number's
@@ -62,26 +65,37 @@ waiting_each P (w ∷ vs) n v all is = elim (cases_eq w.number n) [
 pub found_waiting : (p : Parts) (n : ℕ) (v : Inode) → AreFiles p → waiting_in p.waiting n ≡ Some v → IsWaiting p v
 found_waiting p n v files is =
     let present = waiting_each (λ (w : Inode). IsPresent p w.number w.version) p.waiting n v files.records is in
-    record { waits = ap (waiting_in p.waiting) (waiting_number p.waiting n v is) ∙ is; in_use = present.in_use; at_version = present.at_version }
+    record {
+      waits = ap (waiting_in p.waiting) (waiting_number p.waiting n v is) ∙ is;
+      in_use = present.in_use;
+      at_version = present.at_version;
+    }
 
 -- so its key is the number's
-pub key_here : (p : Parts) (n c : ℕ) (v : Inode) → IsWaiting p v → v.number ≡ n → key_of n (version_of p n) c ≡ key_of v.number v.version c
-key_here p n c v is e = ap (λ m. key_of m (version_of p m) c) (sym e) ∙ ap (λ m. key_of v.number m c) (sym is.at_version)
+pub key_here : (p : Parts) (n c : ℕ) (v : Inode) → IsWaiting p v → v.number ≡ n → key_of n (version_of p n) c
+    ≡ key_of v.number v.version c
+key_here p n c v is e = ap (λ m. key_of m (version_of p m) c) (sym e)
+    ∙ ap (λ m. key_of v.number m c) (sym is.at_version)
 
-pub entry_here : (p : Parts) (n : ℕ) (block : FileBlock) (v : Inode) → IsWaiting p v → v.number ≡ n → entry_at_version p n block ≡ entry_of v block
+pub entry_here : (p : Parts) (n : ℕ) (block : FileBlock) (v : Inode) → IsWaiting p v → v.number ≡ n
+    → entry_at_version p n block ≡ entry_of v block
 entry_here p n block v is e =
-    ap (λ m. entry_at_version p m block) (sym e) ∙ ap (λ m. record { number = v.number; version = m; block = logical_of block }) (sym is.at_version)
+    ap (λ m. entry_at_version p m block) (sym e)
+    ∙ ap (λ m. record { number = v.number; version = m; block = logical_of block }) (sym is.at_version)
 
 -- ---- what lets a block land
-pub may_land : (p : Parts) (v : Inode) (block : FileBlock) → IsStaged p 0 → IsWaiting p v → IsFileBlock block → code_of block ≢ 0
+pub may_land : (p : Parts) (v : Inode) (block : FileBlock) → IsStaged p 0 → IsWaiting p v → IsFileBlock block
+    → code_of block ≢ 0
     → IsLocked (key_of v.number v.version (code_of block)) p.cache → MayLand p v block
 may_land p v block staged is can other locked = record {
   is = is;
   waits = locked;
   can = can;
   other = other;
-  within = staged.within v.number block (fields_of v) (waiting_record p v is) can (subst (λ n. IsLocked (key_of v.number n (code_of block)) p.cache) is.at_version locked);
-  parent = λ i up way. staged.parents.holders (key_of v.number v.version (code_of block)) locked i up (way_of-code_of block can ∙ way);
+  within = staged.within v.number block (fields_of v) (waiting_record p v is) can
+      (subst (λ n. IsLocked (key_of v.number n (code_of block)) p.cache) is.at_version locked);
+  parent = λ i up way. staged.parents.holders (key_of v.number v.version (code_of block)) locked i up
+      (way_of-code_of block can ∙ way);
 }
 
 -- ---- what it makes when it landed
@@ -99,7 +113,8 @@ pub record LandsKey (p q : Parts) (v : Inode) (block : FileBlock) (a : ℕ) : Ty
   pub stays : StaysWaiting p q v
   pub files : AreFiles q
   pub content : content_of q ≡ content_of p
-  pub frames : (key : Key) → same_key (key_of v.number v.version (code_of block)) key ≡ false → IsLocked key p.cache → IsLocked key q.cache
+  pub frames : (key : Key) → same_key (key_of v.number v.version (code_of block)) key ≡ false → IsLocked key p.cache
+      → IsLocked key q.cache
   pub only : (key : Key) → IsLocked key q.cache → IsLocked key p.cache
 
 module _ (p q : Parts) (v : Inode) (block : FileBlock) (a : ℕ) (h : LandsKey p q v block a) where
@@ -108,7 +123,8 @@ module _ (p q : Parts) (v : Inode) (block : FileBlock) (a : ℕ) (h : LandsKey p
 
   pub landed_count : length q.waiting ≡ length p.waiting
   landed_count =
-      sym (length-map q.waiting (λ (w : Inode). w.number)) ∙ ap (λ (ns : List ℕ). length ns) h.stays.numbers ∙ length-map p.waiting (λ (w : Inode). w.number)
+      sym (length-map q.waiting (λ (w : Inode). w.number)) ∙ ap (λ (ns : List ℕ). length ns) h.stays.numbers
+      ∙ length-map p.waiting (λ (w : Inode). w.number)
 
   same_waits : (n : ℕ) → is_some (waiting_in q.waiting n) ≡ is_some (waiting_in p.waiting n)
   same_waits n = waits_numbers p.waiting q.waiting n h.stays.numbers
@@ -117,7 +133,8 @@ module _ (p q : Parts) (v : Inode) (block : FileBlock) (a : ℕ) (h : LandsKey p
   landed_gone locked = false≢true (sym (ap is_some h.landed.settled) ∙ locked)
 
   -- what holds the address of a block that waits still does
-  holders_stay : (key : Key) → IsLocked key q.cache → (i : ℕ) (up : List ℕ) → way_of key.lbn ≡ i ∷ up → HolderWaits q.cache key.ino key.version up
+  holders_stay : (key : Key) → IsLocked key q.cache → (i : ℕ) (up : List ℕ) → way_of key.lbn ≡ i ∷ up
+      → HolderWaits q.cache key.ino key.version up
   holders_stay key locked i [] way = tt
   holders_stay key locked i (j ∷ above) way =
       let before = h.only key locked in
@@ -125,8 +142,10 @@ module _ (p q : Parts) (v : Inode) (block : FileBlock) (a : ℕ) (h : LandsKey p
       elim (same_cases (key_of v.number v.version (code_of block)) holder) [
         | inl same ↦
             let e = same_is (key_of v.number v.version (code_of block)) holder same in
-            let known = subst IsBlockWay way (way_of-known key.lbn (coded_below key.lbn (h.staged.whole.coded key before))) in
-            let to : way_to block ≡ j ∷ above = sym (way_of-code_of block h.can) ∙ ap way_of (ap (λ (k : Key). k.lbn) e) ∙ known_way_of (j ∷ above) (up_known i (j ∷ above) known) in
+            let known = subst IsBlockWay way (way_of-known key.lbn
+            (coded_below key.lbn (h.staged.whole.coded key before))) in
+            let to : way_to block ≡ j ∷ above = sym (way_of-code_of block h.can) ∙ ap way_of (ap (λ (k : Key). k.lbn) e)
+            ∙ known_way_of (j ∷ above) (up_known i (j ∷ above) known) in
             absurd (h.free key before (sym (ap (λ (k : Key). k.ino) e)) i (way ∙ ap (λ w. i ∷ w) (sym to)))
         | inr apart ↦ h.frames holder apart (h.staged.parents.holders key before i (j ∷ above) way)
       ]
@@ -140,12 +159,15 @@ module _ (p q : Parts) (v : Inode) (block : FileBlock) (a : ℕ) (h : LandsKey p
   within_after : (n : ℕ) (b : FileBlock) (f : Fields) → record_of q n ≡ Some f → IsFileBlock b
       → IsLocked (key_of n (version_of q n) (code_of b)) q.cache → IsWithin b f.attributes.size
   within_after n b f is can locked =
-      let before = subst (λ m. IsLocked (key_of n m (code_of b)) p.cache) (version_kept n) (h.only (key_of n (version_of q n) (code_of b)) locked) in
+      let before = subst (λ m. IsLocked (key_of n m (code_of b)) p.cache) (version_kept n)
+      (h.only (key_of n (version_of q n) (code_of b)) locked) in
       elim (cases_eq n v.number) [
         | inl e ↦
             let same : fields_of h.stays.after ≡ f = same_Some _ f (sym record_after ∙ ap (record_of q) (sym e) ∙ is) in
-            let was : IsWithin b v.size = h.staged.within n b (fields_of v) (ap (record_of p) e ∙ waiting_record p v h.is) can before in
-            subst (λ (x : Fields). IsWithin b x.attributes.size) same (subst (λ (x : Attributes). IsWithin b x.size) (sym h.stays.same) was)
+            let was : IsWithin b v.size = h.staged.within n b (fields_of v) (ap (record_of p) e
+            ∙ waiting_record p v h.is) can before in
+            subst (λ (x : Fields). IsWithin b x.attributes.size) same
+            (subst (λ (x : Attributes). IsWithin b x.size) (sym h.stays.same) was)
         | inr ne ↦ h.staged.within n b f (sym (h.landed.records n ne) ∙ is) can before
       ]
 
@@ -153,7 +175,10 @@ module _ (p q : Parts) (v : Inode) (block : FileBlock) (a : ℕ) (h : LandsKey p
   landed_staged = record {
     whole = h.files;
     log = h.log;
-    parents = record { records = λ key locked. same_waits key.ino ∙ h.staged.parents.records key (h.only key locked); holders = holders_stay };
+    parents = record {
+      records = λ key locked. same_waits key.ino ∙ h.staged.parents.records key (h.only key locked);
+      holders = holders_stay;
+    };
     once = once_numbers p.waiting q.waiting h.stays.numbers h.staged.once;
     few = let few = h.staged.few in let count = landed_count in omega arith;
     within = within_after;
@@ -161,40 +186,51 @@ module _ (p q : Parts) (v : Inode) (block : FileBlock) (a : ℕ) (h : LandsKey p
 
   -- the key of the block waited
   here_waits : Waits p v.number (code_of block)
-  here_waits = waits_block p v.number (code_of block) h.other (subst (λ n. IsLocked (key_of v.number n (code_of block)) p.cache) h.is.at_version h.waits)
+  here_waits = waits_block p v.number (code_of block) h.other
+      (subst (λ n. IsLocked (key_of v.number n (code_of block)) p.cache) h.is.at_version h.waits)
 
   waits_before : (n c : ℕ) → Waits q n c → Waits p n c
   waits_before n zero waits = sym (same_waits n) ∙ waits
-  waits_before n (suc c) waits = subst (λ m. IsLocked (key_of n m (suc c)) p.cache) (version_kept n) (h.only (key_of n (version_of q n) (suc c)) waits)
+  waits_before n (suc c) waits = subst (λ m. IsLocked (key_of n m (suc c)) p.cache) (version_kept n)
+      (h.only (key_of n (version_of q n) (suc c)) waits)
 
   waits_after : (n c : ℕ) → (n ≢ v.number) ⊎ (c ≢ code_of block) → Waits p n c → Waits q n c
   waits_after n zero apart waits = same_waits n ∙ waits
   waits_after n (suc c) apart waits =
       subst (λ m. IsLocked (key_of n m (suc c)) q.cache) (sym (version_kept n))
-      (h.frames (key_of n (version_of p n) (suc c)) (elim (same_cases (key_of v.number v.version (code_of block)) (key_of n (version_of p n) (suc c))) [
+      (h.frames (key_of n (version_of p n) (suc c))
+      (elim (same_cases (key_of v.number v.version (code_of block)) (key_of n (version_of p n) (suc c))) [
         | inl same ↦
             let e = same_is (key_of v.number v.version (code_of block)) (key_of n (version_of p n) (suc c)) same in
-            absurd (elim apart [ inl ne ↦ ne (sym (ap (λ (k : Key). k.ino) e)) | inr ne ↦ ne (sym (ap (λ (k : Key). k.lbn) e)) ])
+            absurd (elim apart [
+              | inl ne ↦ ne (sym (ap (λ (k : Key). k.ino) e))
+              | inr ne ↦ ne (sym (ap (λ (k : Key). k.lbn) e))
+            ])
         | inr other ↦ other
       ]) waits)
 
-  still_there : (n c : ℕ) → n < length p.log.tables.rows → c < BLOCK_CODES → (Waits p n c → ⊥) → (log_state q).at n c ≡ (log_state p).at n c
+  still_there : (n c : ℕ) → n < length p.log.tables.rows → c < BLOCK_CODES → (Waits p n c → ⊥) → (log_state q).at n c
+      ≡ (log_state p).at n c
   still_there n c low below none =
       h.place.places n c low below ∙ (elim (placed-cases (log_state p).at v.number (code_of block) (4 * a) n c) [
         | inl e ↦ absurd (none (subst (λ m. Waits p m c) (sym e.0) (subst (Waits p v.number) (sym e.1) here_waits)))
         | inr e ↦ e.1
       ])
 
-  moved_there : (from : ℕ) → from ≤ next_address p.log.memory → (n c : ℕ) → n < length p.log.tables.rows → c < BLOCK_CODES → Waits p n c → (Waits q n c → ⊥)
+  moved_there : (from : ℕ) → from ≤ next_address p.log.memory → (n c : ℕ) → n < length p.log.tables.rows
+      → c < BLOCK_CODES → Waits p n c → (Waits q n c → ⊥)
       → (from ≤ (log_state q).at n c / 4) × ((log_state q).at n c / 4 < next_address q.log.memory)
   moved_there from first n c low below waits gone =
       elim (placed-cases (log_state p).at v.number (code_of block) (4 * a) n c) [
         | inl e ↦
             let at : (log_state q).at n c ≡ 4 * a = h.place.places n c low below ∙ e.2 in
-            let quarter : (log_state q).at n c / 4 ≡ a = ap (λ m. m / 4) at ∙ (let e : 4 * a / 4 ≡ a = omega arith in e) in
+            let quarter : (log_state q).at n c / 4 ≡ a = ap (λ m. m / 4) at
+            ∙ (let e : 4 * a / 4 ≡ a = omega arith in e) in
             let end = h.place.end in
-            let next = h.place.next in
-            (subst (λ m. from ≤ m) (sym quarter) (omega arith), subst (λ m. m < next_address q.log.memory) (sym quarter) (omega arith))
+            let next = h.place.next in (
+              subst (λ m. from ≤ m) (sym quarter) (omega arith),
+              subst (λ m. m < next_address q.log.memory) (sym quarter) (omega arith),
+            )
         | inr e ↦ absurd (gone (waits_after n c e.0 waits))
       ]
 
@@ -212,5 +248,6 @@ module _ (p q : Parts) (v : Inode) (block : FileBlock) (a : ℕ) (h : LandsKey p
     only = λ n c low below waits. waits_before n c waits;
     still = still_there;
     moved = moved_there from first;
-    blocks = λ b apart. h.place.blocks b (let end = h.place.end in let room = h.room in elim apart [ inl low ↦ λ e. omega arith | inr high ↦ λ e. omega arith ]);
+    blocks = λ b apart. h.place.blocks b (let end = h.place.end in let room = h.room in
+        elim apart [ inl low ↦ λ e. omega arith | inr high ↦ λ e. omega arith ]);
   }

@@ -1,5 +1,6 @@
 -- The infos that name a block, collected from a list.
-use Rattle.std.proofs.Common.{◌≡◌, ℕ, ◌+◌, ◌<◌, ◌≤◌, List, [], ◌∷◌, ◌++◌, get_or, length, take, sym, ap, ◌∙◌, subst, inl, inr, arith}
+use Rattle.std.proofs.Common.{◌≡◌, ℕ, ◌+◌, ◌<◌, ◌≤◌, List, [], ◌∷◌, ◌++◌, get_or, length, take, sym, ap, ◌∙◌, subst}
+use Rattle.std.proofs.Common.{inl, inr, arith}
 use Rattle.std.specs.Prelude.{Contains}
 use Rattle.std.proofs.lemmas.List.{get_or_default, length-append, take_more}
 use Rattle.std.proofs.lemmas.List.Elements.{All-push, Contains-append_left, Contains-push, Contains-push_cases}
@@ -22,7 +23,8 @@ AreNamed-none l = record {
 }
 
 -- one info more
-more_listed : (l : LogState) (marks old new : List BlockInfo) (info : BlockInfo) → AreNamed l marks old → AddsNamed l info old new → AreNamed l (marks ++ info ∷ []) new
+more_listed : (l : LogState) (marks old new : List BlockInfo) (info : BlockInfo) → AreNamed l marks old
+    → AddsNamed l info old new → AreNamed l (marks ++ info ∷ []) new
 more_listed l marks old new info h (inl same) = subst (AreNamed l (marks ++ info ∷ [])) (sym same.0) (record {
   each = λ other there is. elim (Contains-push_cases marks info other there) [
     | inl before ↦ h.each other before is
@@ -37,17 +39,27 @@ more_listed l marks old new info h (inr more) = subst (AreNamed l (marks ++ info
     | inl before ↦ contains_more old info other (h.each other before is)
     | inr here ↦ subst (Contains (old ++ info ∷ [])) here (Contains-push old info)
   ];
-  marked = All-push (Contains (marks ++ info ∷ [])) old info (λ k d low. contains_more marks info (get_or old k d) (h.marked k d low)) (Contains-push marks info);
+  marked = All-push (Contains (marks ++ info ∷ [])) old info
+      (λ k d low. contains_more marks info (get_or old k d) (h.marked k d low)) (Contains-push marks info);
   only = All-push (IsNamed l) old info h.only more.1;
   once = all_pairs_push (λ (a b : BlockInfo). a.ino ≡ b.ino → code_named a.lbn ≡ code_named b.lbn → ⊥) old info h.once
-      (λ k d low number code. more.2 (k, low, get_or_default old k info d low ∙ same_named l (get_or old k d) info (h.only k d low) more.1 number code));
+      (λ k d low number code. more.2 (
+        k,
+        low,
+        get_or_default old k info d low
+            ∙ same_named l (get_or old k d) info (h.only k d low) more.1 number code,
+      ));
 })
 
-pub named_more : (l : LogState) (marks old new : List BlockInfo) (i : ℕ) (d : BlockInfo) → i < length marks → AreNamed l (take i marks) old → AddsNamed l (get_or marks i d) old new
+pub named_more : (l : LogState) (marks old new : List BlockInfo) (i : ℕ) (d : BlockInfo) → i < length marks
+    → AreNamed l (take i marks) old → AddsNamed l (get_or marks i d) old new
     → AreNamed l (take (i + 1) marks) new
 named_more l marks old new i d low h adds =
-    subst (λ xs. AreNamed l xs new) (sym (take_more marks i d low)) (more_listed l (take i marks) old new (get_or marks i d) h adds)
+    subst (λ xs. AreNamed l xs new) (sym (take_more marks i d low))
+    (more_listed l (take i marks) old new (get_or marks i d) h adds)
 
-pub named_length : (l : LogState) (info : BlockInfo) (old new : List BlockInfo) → AddsNamed l info old new → length new ≤ length old + 1
+pub named_length : (l : LogState) (info : BlockInfo) (old new : List BlockInfo) → AddsNamed l info old new
+    → length new ≤ length old + 1
 named_length l info old new (inl same) = let e = ap length same.0 in omega arith
-named_length l info old new (inr more) = let e = ap length more.0 in let longer = length-append old (info ∷ []) in omega arith
+named_length l info old new (inr more) = let e = ap length more.0 in let longer = length-append old (info ∷ []) in
+    omega arith

@@ -1,5 +1,6 @@
 -- Blocks that were staged with what they had were written again.
-use Rattle.std.proofs.Common.{◌≡◌, ◌≢◌, ◌⊎◌, ℕ, zero, suc, ◌+◌, ◌*◌, ◌/◌, ◌<◌, ◌≤◌, List, All, get_or, length, refl, sym, ap, ◌∙◌, subst, inl, inr, arith}
+use Rattle.std.proofs.Common.{◌≡◌, ◌≢◌, ◌⊎◌, ℕ, zero, suc, ◌+◌, ◌*◌, ◌/◌, ◌<◌, ◌≤◌, List, All, get_or, length, refl}
+use Rattle.std.proofs.Common.{sym, ap, ◌∙◌, subst, inl, inr, arith}
 use Rattle.std.specs.Prelude.{Contains, if◌then◌else◌, ◌==◌, slice_index_or}
 use Rattle.std.specs.List.{flat_map}
 use Rattle.std.proofs.lemmas.Bool.{cases_eq, cases_lt, cond-true, cond-false, eq-eqb, ne_eqb}
@@ -23,7 +24,8 @@ use Rattle.lfs_segwrite.specs.Collecting.{blocks_of_entries, entries_of}
 use Rattle.lfs_staging.specs.Files.{content_of}
 use Rattle.lfs_segwrite.specs.Flushing.{Flushes, Waits}
 use Rattle.lfs_staging.specs.Keys.{log_state}
-use Rattle.lfs_segwrite.specs.Marking.{AreNamed, HasRoomToMark, IsOnWay, IsRewritten, MarksAgain, MarksSettled, SameShown, StagesNamed, blocks_to_mark, code_named, keys_to_mark}
+use Rattle.lfs_segwrite.specs.Marking.{AreNamed, HasRoomToMark, IsOnWay, IsRewritten, MarksAgain, MarksSettled}
+use Rattle.lfs_segwrite.specs.Marking.{SameShown, StagesNamed, blocks_to_mark, code_named, keys_to_mark}
 use Rattle.lfs_segwrite.specs.Room.{KeepsFiles}
 use Rattle.lfs_staging.specs.Store.{IsSettled, IsStore}
 use Rattle.lfs_staging.specs.View.{key_of, version_of}
@@ -37,7 +39,8 @@ use Rattle.lfs_segwrite.proofs.AdvanceLemmas.{cases_Waits}
 -- what shows the same has the same content
 pub shown_content : (old new : Parts) → SameShown old new → content_of new ≡ content_of old
 shown_content old new h =
-    content_of-same old new (ap (λ (l : LogParts). length l.tables.rows) h.log) (λ n low. file_at-kept old new n (h.records n) (h.blocks n))
+    content_of-same old new (ap (λ (l : LogParts). length l.tables.rows) h.log)
+    (λ n low. file_at-kept old new n (h.records n) (h.blocks n))
 
 -- nothing waits still where a segment was opened
 pub settled_still : (old new : Parts) → KeepsFiles old new → IsSettled old → IsSettled new
@@ -53,7 +56,8 @@ entries_most n = elim (cases_eq n 0) [
   | inr some ↦ let e : (if n == 0 then 0 else n + 1) ≡ n + 1 = cond-false _ _ _ (ne_eqb n 0 some) in omega arith
 ]
 
-staged_most : (mid staged : Parts) (named : List BlockInfo) → StagesNamed named mid staged → blocks_of_entries (entries_of staged) ≤ blocks_to_mark named
+staged_most : (mid staged : Parts) (named : List BlockInfo) → StagesNamed named mid staged
+    → blocks_of_entries (entries_of staged) ≤ blocks_to_mark named
 staged_most mid staged named h =
     let most = entries_most (length (entries_of staged)) in
     let many = entries_of-length staged in
@@ -61,14 +65,17 @@ staged_most mid staged named h =
     let records = h.records in
     omega arith
 
-pub staged_fits : (mid staged : Parts) (named : List BlockInfo) → StagesNamed named mid staged → blocks_to_mark named ≤ room_of mid.log.memory
+pub staged_fits : (mid staged : Parts) (named : List BlockInfo) → StagesNamed named mid staged
+    → blocks_to_mark named ≤ room_of mid.log.memory
     → blocks_of_entries (entries_of staged) ≤ room_of staged.log.memory
 staged_fits mid staged named h room =
     let most = staged_most mid staged named h in
-    let same : room_of staged.log.memory ≡ room_of mid.log.memory = ap (λ (l : LogParts). room_of l.memory) h.same.log in
+    let same : room_of staged.log.memory ≡ room_of mid.log.memory =
+    ap (λ (l : LogParts). room_of l.memory) h.same.log in
     omega arith
 
-module _ (old mid staged new : Parts) (marks named : List BlockInfo) (keeps : KeepsFiles old mid) (stages : StagesNamed named mid staged) (flushes : Flushes staged new)
+module _ (old mid staged new : Parts) (marks named : List BlockInfo) (keeps : KeepsFiles old mid)
+    (stages : StagesNamed named mid staged) (flushes : Flushes staged new)
     (are : AreNamed (log_state old) marks named) (fewer : mid.log.clean ≤ old.log.clean) where
   log : staged.log ≡ mid.log
   log = stages.same.log
@@ -83,14 +90,17 @@ module _ (old mid staged new : Parts) (marks named : List BlockInfo) (keeps : Ke
   rows = ap (λ (l : LogParts). l.tables.rows) log ∙ keeps.rows
 
   -- each key had its place still when all was staged
-  place_staged : (n c : ℕ) → n < length old.log.tables.rows → c < BLOCK_CODES → (log_state staged).at n c ≡ (log_state old).at n c
+  place_staged : (n c : ℕ) → n < length old.log.tables.rows → c < BLOCK_CODES → (log_state staged).at n c
+      ≡ (log_state old).at n c
   place_staged n c low below =
-      (keys_kept mid staged log stages.same.addresses).places n c (subst (λ (m : ℕ). n < m) (sym (ap length keeps.rows)) low) below
+      (keys_kept mid staged log stages.same.addresses).places n c
+      (subst (λ (m : ℕ). n < m) (sym (ap length keeps.rows)) low) below
       ∙ keeps.keys.places n c low below
 
   -- one that waited has a place in the segment that is written
   module _ (n c : ℕ) (low : n < length old.log.tables.rows) (below : c < BLOCK_CODES) (waits : Waits staged n c) where
-    ends : (next_address staged.log.memory ≤ (log_state new).at n c / 4) × ((log_state new).at n c / 4 < next_address new.log.memory)
+    ends : (next_address staged.log.memory ≤ (log_state new).at n c / 4)
+        × ((log_state new).at n c / 4 < next_address new.log.memory)
     ends = flushes.moved n c (subst (λ m. n < m) (sym numbers) low) below waits
 
     in_active : seg_of ((log_state new).at n c) ≡ staged.log.memory.active
@@ -105,10 +115,12 @@ module _ (old mid staged new : Parts) (marks named : List BlockInfo) (keeps : Ke
     pub outside : DirtyIn (log_state old) (seg_of ((log_state new).at n c)) → ⊥
     outside dirty =
         let active = staged.log.memory.active in
-        let inside : active < old.log.memory.segments = subst (λ m. active < m) segments stages.staged.log.segments.inside in
+        let inside : active < old.log.memory.segments =
+        subst (λ m. active < m) segments stages.staged.log.segments.inside in
         let was : state_of old.log.tables active ≡ Dirty = ap (state_of old.log.tables) (sym in_active) ∙ dirty in
         let still : state_of mid.log.tables active ≡ Dirty = keeps.dirty.dirty active inside was in
-        dirty_not_active (sym (ap (λ (l : LogParts). state_of l.tables active) log ∙ still) ∙ stages.staged.log.segments.is_active)
+        dirty_not_active (sym (ap (λ (l : LogParts). state_of l.tables active) log ∙ still)
+        ∙ stages.staged.log.segments.is_active)
 
     pub elsewhere : IsPlaced (log_state old) n c → (log_state new).at n c ≢ (log_state old).at n c
     elsewhere there same =
@@ -150,13 +162,15 @@ module _ (old mid staged new : Parts) (marks named : List BlockInfo) (keeps : Ke
         let low : n < length old.log.tables.rows = subst (λ m. n < m) (flushes.numbers ∙ numbers) there.number_below in
         elim (cases_Waits staged n c) [
           | inl waits ↦ absurd (outside n c low there.code_below waits within)
-          | inr free ↦ sym (flushes.still n c (subst (λ m. n < m) (sym numbers) low) there.code_below free ∙ place_staged n c low there.code_below)
+          | inr free ↦ sym (flushes.still n c (subst (λ m. n < m) (sym numbers) low) there.code_below free
+              ∙ place_staged n c low there.code_below)
         ];
     versions = λ n c there within. sym (version_all n);
   }
 
   -- no block changed that was written before
-  not_end : (a : ℕ) → state_of old.log.tables (a / 64) ≢ Clean → (a / 64 ≡ old.log.memory.active → a < next_address old.log.memory)
+  not_end : (a : ℕ) → state_of old.log.tables (a / 64) ≢ Clean
+      → (a / 64 ≡ old.log.memory.active → a < next_address old.log.memory)
       → (a < next_address staged.log.memory) ⊎ (64 * staged.log.memory.active + 64 ≤ a)
   not_end a used end =
       let from = stages.staged.log.segments.from in
@@ -167,7 +181,8 @@ module _ (old mid staged new : Parts) (marks named : List BlockInfo) (keeps : Ke
               let before = end (here ∙ ap (λ (m : SegmentMemory). m.active) memory) in
               inl (subst (λ m. a < m) (sym (ap next_address memory)) before)
           | inr clean ↦
-              let active : staged.log.memory.active ≡ mid.log.memory.active = ap (λ (l : LogParts). l.memory.active) log in
+              let active : staged.log.memory.active ≡ mid.log.memory.active =
+              ap (λ (l : LogParts). l.memory.active) log in
               absurd (used (ap (state_of old.log.tables) (here ∙ active) ∙ clean))
         ]
         | inr other ↦ elim (cases_lt (a / 64) staged.log.memory.active) [
@@ -176,7 +191,8 @@ module _ (old mid staged new : Parts) (marks named : List BlockInfo) (keeps : Ke
         ]
       ]
 
-  blocks : (a : ℕ) → state_of old.log.tables (a / 64) ≢ Clean → (a / 64 ≡ old.log.memory.active → a < next_address old.log.memory)
+  blocks : (a : ℕ) → state_of old.log.tables (a / 64) ≢ Clean
+      → (a / 64 ≡ old.log.memory.active → a < next_address old.log.memory)
       → block_at new.log.memory a ≡ block_at old.log.memory a
   blocks a used end =
       flushes.blocks a (not_end a used end) ∙ ap (λ (l : LogParts). block_at l.memory a) log ∙ keeps.blocks a used
@@ -186,11 +202,13 @@ module _ (old mid staged new : Parts) (marks named : List BlockInfo) (keeps : Ke
   on_way n zero waits = stages.only_records n waits
   on_way n (suc c) waits =
       let version : version_of staged n ≡ version_of old n = ap (λ (rs : List InodeRow). (row_at rs n).version) rows in
-      subst (λ v. Contains (flat_map keys_to_mark named) (key_of n v (suc c))) version (stages.only_frames (key_of n (version_of staged n) (suc c)) waits)
+      subst (λ v. Contains (flat_map keys_to_mark named) (key_of n v (suc c))) version
+      (stages.only_frames (key_of n (version_of staged n) (suc c)) waits)
 
   pub marks_again : 0 < length named → (blocks_to_mark named ≤ room_of old.log.memory → mid ≡ old)
       → (room_of old.log.memory < blocks_to_mark named → mid.log.clean + 1 ≡ old.log.clean)
-      → (room_of old.log.memory < blocks_to_mark named → 64 ≤ room_of mid.log.memory + 1) → MarksSettled marks (length named) old new
+      → (room_of old.log.memory < blocks_to_mark named → 64 ≤ room_of mid.log.memory + 1)
+      → MarksSettled marks (length named) old new
   marks_again some enough opened fresh = record {
     named = named;
     are_named = are;
@@ -211,16 +229,19 @@ module _ (old mid staged new : Parts) (marks named : List BlockInfo) (keeps : Ke
         let kept = flushes.clean in
         elim (cases_lt (room_of old.log.memory) (blocks_to_mark named)) [
           | inl short ↦ let one = opened short in omega arith
-          | inr fits ↦ let none : mid.log.clean ≡ old.log.clean = ap (λ (p : Parts). p.log.clean) (enough fits) in omega arith
+          | inr fits ↦ let none : mid.log.clean ≡ old.log.clean = ap (λ (p : Parts). p.log.clean) (enough fits) in
+              omega arith
         ];
     enough = λ fits. flushes.clean ∙ ap (λ (l : LogParts). l.clean) log ∙ ap (λ (p : Parts). p.log.clean) (enough fits);
     dirty = StaysDirty-trans (log_state old) (log_state mid) (log_state new) keeps.dirty (record {
       segments = flushes.segments ∙ ap (λ (l : LogParts). l.memory.segments) log;
-      dirty = λ s low dirty. ap (λ (xs : List SegState). slice_index_or xs s Clean) (flushes.states ∙ ap (λ (l : LogParts). l.tables.states) log) ∙ dirty;
+      dirty = λ s low dirty. ap (λ (xs : List SegState). slice_index_or xs s Clean) (flushes.states
+          ∙ ap (λ (l : LogParts). l.tables.states) log) ∙ dirty;
     });
     none = λ is. absurd (omega arith);
     still = λ n c low below other.
-        flushes.still n c (subst (λ m. n < m) (sym numbers) low) below (λ waits. other (on_way n c waits)) ∙ place_staged n c low below;
+        flushes.still n c (subst (λ m. n < m) (sym numbers) low) below (λ waits. other (on_way n c waits))
+        ∙ place_staged n c low below;
     left =
         let most = staged_most mid staged named stages in
         let grown = flushes.grown in
@@ -236,9 +257,15 @@ module _ (old mid staged new : Parts) (marks named : List BlockInfo) (keeps : Ke
               inr (omega arith, omega arith, short)
           | inr fits ↦
               let nothing = enough fits in
-              let first : room_of mid.log.memory ≡ room_of old.log.memory = ap (λ (p : Parts). room_of p.log.memory) nothing in
+              let first : room_of mid.log.memory ≡ room_of old.log.memory =
+              ap (λ (p : Parts). room_of p.log.memory) nothing in
               let clean : mid.log.clean ≡ old.log.clean = ap (λ (p : Parts). p.log.clean) nothing in
-              inl (active ∙ ap (λ (l : LogParts). l.memory.active) log ∙ ap (λ (p : Parts). p.log.memory.active) nothing, omega arith, omega arith)
+              inl (
+                active ∙ ap (λ (l : LogParts). l.memory.active) log
+                    ∙ ap (λ (p : Parts). p.log.memory.active) nothing,
+                omega arith,
+                omega arith,
+              )
         ];
   }
 
@@ -246,7 +273,8 @@ module _ (old mid staged new : Parts) (marks named : List BlockInfo) (keeps : Ke
   marked_content = flushes.content ∙ shown_content mid staged stages.same ∙ keeps.content
 
 -- nothing is named, and nothing is done
-pub marks_none : (p : Parts) (marks named : List BlockInfo) → AreNamed (log_state p) marks named → length named ≡ 0 → MarksSettled marks 0 p p
+pub marks_none : (p : Parts) (marks named : List BlockInfo) → AreNamed (log_state p) marks named → length named ≡ 0
+    → MarksSettled marks 0 p p
 marks_none p marks named are none = record {
   named = named;
   are_named = are;
@@ -268,10 +296,12 @@ marks_none p marks named are none = record {
 }
 
 -- what waits was written, and then the blocks were
-pub marks_after : (marks : List BlockInfo) (count : ℕ) (old mid new : Parts) → IsStore old → IsStore mid → IsStore new → WritesWaiting old mid → MarksSettled marks count mid new
+pub marks_after : (marks : List BlockInfo) (count : ℕ) (old mid new : Parts) → IsStore old → IsStore mid → IsStore new
+    → WritesWaiting old mid → MarksSettled marks count mid new
     → (old.log.clean ≤ 1 → 0 < count → 0 < mid.log.clean → HasRoomToMark marks mid) → MarksAgain marks count old new
 marks_after marks count old mid new first before store w m last =
-    let still : (s : ℕ) → s < old.log.memory.segments → DirtyIn (log_state old) s → DirtyIn (log_state mid) s = w.log.dirty.dirty in
+    let still : (s : ℕ) → s < old.log.memory.segments → DirtyIn (log_state old) s
+    → DirtyIn (log_state mid) s = w.log.dirty.dirty in
     let all : new.log.memory.segments ≡ old.log.memory.segments = m.segments ∙ w.log.segments in
     let inside : (n c : ℕ) → IsPlaced (log_state new) n c → seg_of ((log_state new).at n c) < old.log.memory.segments
     = λ n c there. let place = (store.log.keys n c there).in_volume in omega arith in
@@ -286,14 +316,19 @@ marks_after marks count old mid new first before store w m last =
             | inl here ↦ let first = here.2 in omega arith
             | inr one ↦ let first = one.1 in omega arith
           ];
-      moves = moves-trans (DirtyIn (log_state old)) (log_state old) (log_state mid) (log_state new) w.log.moves (record {
-        numbers = m.moves.numbers;
-        places = λ n c there dirty. m.moves.places n c there (still _ (inside n c there) dirty);
-        versions = λ n c there dirty. m.moves.versions n c there (still _ (inside n c there) dirty);
-      });
+      moves = moves-trans (DirtyIn (log_state old)) (log_state old) (log_state mid) (log_state new) w.log.moves
+          (record {
+            numbers = m.moves.numbers;
+            places = λ n c there dirty. m.moves.places n c there (still _ (inside n c there) dirty);
+            versions = λ n c there dirty. m.moves.versions n c there (still _ (inside n c there) dirty);
+          });
       dirty = StaysDirty-trans (log_state old) (log_state mid) (log_state new) w.log.dirty m.dirty;
       blocks = λ a low dirty.
           let was = still (a / 64) low dirty in
-          m.blocks a (λ clean. dirty_not_clean (sym was ∙ clean)) (λ here. absurd (dirty_not_active (sym was ∙ ap (state_of mid.log.tables) here ∙ before.log.segments.is_active)))
-          ∙ w.log.blocks a (λ clean. dirty_not_clean (sym dirty ∙ clean)) (λ here. absurd (dirty_not_active (sym dirty ∙ ap (state_of old.log.tables) here ∙ first.log.segments.is_active)));
+          m.blocks a (λ clean. dirty_not_clean (sym was ∙ clean))
+          (λ here. absurd (dirty_not_active (sym was ∙ ap (state_of mid.log.tables) here
+          ∙ before.log.segments.is_active)))
+          ∙ w.log.blocks a (λ clean. dirty_not_clean (sym dirty ∙ clean))
+          (λ here. absurd (dirty_not_active (sym dirty ∙ ap (state_of old.log.tables) here
+          ∙ first.log.segments.is_active)));
     }

@@ -1,5 +1,6 @@
 -- The block that an info names, and that it is there.
-use Rattle.std.proofs.Common.{◌≡◌, ◌≢◌, ◌⊎◌, ℕ, ◌-◌, ◌/◌, ◌<◌, ◌≤◌, List, [], length, min, refl, sym, ap, ◌∙◌, subst, inl, inr, arith}
+use Rattle.std.proofs.Common.{◌≡◌, ◌≢◌, ◌⊎◌, ℕ, ◌-◌, ◌/◌, ◌<◌, ◌≤◌, List, [], length, min, refl, sym, ap, ◌∙◌, subst}
+use Rattle.std.proofs.Common.{inl, inr, arith}
 use Rattle.std.specs.Prelude.{◌&&◌, if◌then◌else◌, nat_le, nat_lt}
 use Rattle.std.proofs.lemmas.Bool.{cases_eq, cases_lt, cond-true, cond-false, ne_eqb, lt-leb, lt-ltb, le-leb, le-ltb}
 use Rattle.lfs_types.specs.declared.cleaner.BlockInfo.{BlockInfo}
@@ -26,7 +27,8 @@ code_named-is : (lbn : ℕ) → code_named lbn ≡ min (code_of (file_block_of (
 unfolding code_named
 code_named-is lbn = refl
 
-pub code_named-block : (block : LogicalBlock) → IsLogicalBlock block → code_named (block_number block) ≡ code_of (file_block_of block)
+pub code_named-block : (block : LogicalBlock) → IsLogicalBlock block → code_named (block_number block)
+    ≡ code_of (file_block_of block)
 code_named-block block is =
     let low = code_of-below (file_block_of block) (file_block_of-is block is) in
     let same = ap (λ b. code_of (file_block_of b)) (block_from-block_number block is) in
@@ -41,7 +43,8 @@ record IsOther (n : ℕ) : Type 0 where
   pub data_ : FILE_BLOCKS ≤ n
   pub child : (n < 0x8000_0100) ⊎ (0x8000_0180 ≤ n)
 
-other_data : (n : ℕ) → (n < 0x8000_0100) ⊎ (0x8000_0180 ≤ n) → (if nat_le 0x8000_0100 n && nat_lt n 0x8000_0180 then Child (n - 0x8000_0100) else Data n) ≡ Data n
+other_data : (n : ℕ) → (n < 0x8000_0100) ⊎ (0x8000_0180 ≤ n)
+    → (if nat_le 0x8000_0100 n && nat_lt n 0x8000_0180 then Child (n - 0x8000_0100) else Data n) ≡ Data n
 other_data n (inl low) = rw (lt-leb 0x8000_0100 n low) refl
 other_data n (inr past) = rw (le-leb 0x8000_0100 n (omega arith), le-ltb n 0x8000_0180 past) refl
 
@@ -79,10 +82,22 @@ kinds lbn = elim (cases_eq lbn 0x8000_0000) [
       | inr not_inodes ↦ elim (cases_lt lbn FILE_BLOCKS) [
         | inl low ↦ inl (Data lbn, low, refl)
         | inr past ↦ elim (cases_lt lbn 0x8000_0100) [
-          | inl low ↦ inr (record { single = not_single; double = not_double; inodes = not_inodes; data_ = past; child = inl low })
+          | inl low ↦ inr (record {
+            single = not_single;
+            double = not_double;
+            inodes = not_inodes;
+            data_ = past;
+            child = inl low;
+          })
           | inr from ↦ elim (cases_lt lbn 0x8000_0180) [
             | inl to ↦ inl (Child (lbn - 0x8000_0100), omega arith, omega arith)
-            | inr behind ↦ inr (record { single = not_single; double = not_double; inodes = not_inodes; data_ = past; child = inr behind })
+            | inr behind ↦ inr (record {
+              single = not_single;
+              double = not_double;
+              inodes = not_inodes;
+              data_ = past;
+              child = inr behind;
+            })
           ]
         ]
       ]
@@ -97,7 +112,8 @@ named_cases lbn = elim (kinds lbn) [
   | inr other ↦ inr (other_none lbn other)
 ]
 
-pub code_named-none : (lbn : ℕ) → ((block : LogicalBlock) → IsLogicalBlock block → block_number block ≡ lbn → ⊥) → code_named lbn ≡ BLOCK_CODES
+pub code_named-none : (lbn : ℕ) → ((block : LogicalBlock) → IsLogicalBlock block → block_number block ≡ lbn → ⊥)
+    → code_named lbn ≡ BLOCK_CODES
 code_named-none lbn none = elim (kinds lbn) [
   | inl named ↦ absurd (none named.0 named.1 named.2)
   | inr other ↦ code_named-other lbn other
@@ -107,7 +123,8 @@ code_named-none lbn none = elim (kinds lbn) [
 pub codes-block : (block : FileBlock) → IsFileBlock block → codes_to_mark (code_of block) ≡ codes_on (way_to block)
 unfolding codes_to_mark
 codes-block block is =
-    cond-true _ _ _ (lt-ltb (code_of block) BLOCK_CODES (code_of-below block is)) ∙ ap codes_on (way_of-code_of block is)
+    cond-true _ _ _ (lt-ltb (code_of block) BLOCK_CODES (code_of-below block is))
+    ∙ ap codes_on (way_of-code_of block is)
 
 pub codes-none : codes_to_mark BLOCK_CODES ≡ []
 unfolding codes_to_mark
@@ -118,24 +135,29 @@ unfolding codes_to_mark
 codes-most code = elim (cases_lt code BLOCK_CODES) [
   | inl low ↦ subst (λ (cs : List ℕ). length cs ≤ 3) (sym (cond-true _ _ _ (lt-ltb code BLOCK_CODES low)))
       (subst (λ n. n ≤ 3) (sym (codes_on-long (way_of code))) (way_length (way_of code) (way_of-known code low)))
-  | inr past ↦ subst (λ (cs : List ℕ). length cs ≤ 3) (sym (cond-false _ _ _ (le-ltb code BLOCK_CODES past))) (omega arith)
+  | inr past ↦ subst (λ (cs : List ℕ). length cs ≤ 3) (sym (cond-false _ _ _ (le-ltb code BLOCK_CODES past)))
+      (omega arith)
 ]
 
 -- ---- what an info names
 -- the present address that a call gives
 pub named_address : (l : LogState) (info : BlockInfo) (result : ℕ)
-    → ((block : LogicalBlock) → IsLogicalBlock block → block_number block ≡ info.lbn → result ≡ present_address l info.ino info.version (code_of (file_block_of block)))
+    → ((block : LogicalBlock) → IsLogicalBlock block → block_number block ≡ info.lbn → result
+    ≡ present_address l info.ino info.version (code_of (file_block_of block)))
     → (((block : LogicalBlock) → IsLogicalBlock block → block_number block ≡ info.lbn → ⊥) → result ≡ 0)
     → result ≡ present_address l info.ino info.version (code_named info.lbn)
 named_address l info result known unknown = elim (named_cases info.lbn) [
   | inl h ↦
-      known h.0 h.1 h.2 ∙ ap (present_address l info.ino info.version) (sym (ap code_named (sym h.2) ∙ code_named-block h.0 h.1))
+      known h.0 h.1 h.2 ∙ ap (present_address l info.ino info.version)
+      (sym (ap code_named (sym h.2) ∙ code_named-block h.0 h.1))
   | inr none ↦
-      unknown none ∙ sym (present_address-other l info.ino info.version (code_named info.lbn) (inr (inr (let e = code_named-none info.lbn none in omega arith))))
+      unknown none ∙ sym (present_address-other l info.ino info.version (code_named info.lbn)
+      (inr (inr (let e = code_named-none info.lbn none in omega arith))))
 ]
 
 -- it is there: the number has the version, and the block a place
-pub named_there : (l : LogState) (info : BlockInfo) → IsNamed l info → IsPlaced l info.ino (code_named info.lbn) × (l.version info.ino ≡ info.version)
+pub named_there : (l : LogState) (info : BlockInfo) → IsNamed l info → IsPlaced l info.ino (code_named info.lbn)
+    × (l.version info.ino ≡ info.version)
 named_there l info h =
     let code = code_named info.lbn in
     let not_none : present_address l info.ino info.version code ≡ 0 → ⊥ = λ e. h.somewhere (sym h.present ∙ e) in
@@ -147,14 +169,22 @@ named_there l info h =
           | inr past ↦ absurd (not_none (present_address-other l info.ino info.version code (inr (inr past))))
           | inl below ↦
               let at : l.at info.ino code / 4 ≡ info.addr
-              = sym (present_address-key l info.ino code low below) ∙ ap (λ v. present_address l info.ino v code) same ∙ h.present in
-              (record { number_below = low; code_below = below; somewhere = λ none. h.somewhere (sym at ∙ ap (λ n. n / 4) none) }, same)
+              = sym (present_address-key l info.ino code low below) ∙ ap (λ v. present_address l info.ino v code) same
+              ∙ h.present in (
+                record {
+                  number_below = low;
+                  code_below = below;
+                  somewhere = λ none. h.somewhere (sym at ∙ ap (λ n. n / 4) none);
+                },
+                same,
+              )
         ]
       ]
     ]
 
 -- its place is at the address that the info names
-pub named_place : (l : LogState) (info : BlockInfo) → IsNamed l info → l.at info.ino (code_named info.lbn) / 4 ≡ info.addr
+pub named_place : (l : LogState) (info : BlockInfo) → IsNamed l info → l.at info.ino (code_named info.lbn) / 4
+    ≡ info.addr
 named_place l info h =
     let there = named_there l info h in
     sym (present_address-key l info.ino (code_named info.lbn) there.0.number_below there.0.code_below)
@@ -168,7 +198,8 @@ named_kept old new info keys h = record {
 }
 
 -- the block whose code it is
-pub named_block : (lbn : ℕ) → code_named lbn < BLOCK_CODES → (block : FileBlock) × IsFileBlock block × (code_of block ≡ code_named lbn)
+pub named_block : (lbn : ℕ) → code_named lbn < BLOCK_CODES → (block : FileBlock) × IsFileBlock block
+    × (code_of block ≡ code_named lbn)
 named_block lbn below = elim (named_cases lbn) [
   | inl h ↦ (file_block_of h.0, file_block_of-is h.0 h.1, sym (code_named-block h.0 h.1) ∙ ap code_named h.2)
   | inr none ↦ absurd (let e = code_named-none lbn none in omega arith)
@@ -183,19 +214,24 @@ same_lbn m n below same =
         | inr none ↦ absurd (let e = code_named-none n none in omega arith)
         | inl b ↦
             let codes : code_of (file_block_of a.0) ≡ code_of (file_block_of b.0)
-            = sym (code_named-block a.0 a.1) ∙ ap code_named a.2 ∙ same ∙ sym (ap code_named b.2) ∙ code_named-block b.0 b.1 in
-            let blocks : a.0 ≡ b.0 = sym (logical_of-file_block a.0) ∙ ap logical_of (same_block (file_block_of a.0) (file_block_of b.0) (file_block_of-is a.0 a.1) (file_block_of-is b.0 b.1) codes) ∙ logical_of-file_block b.0 in
+            = sym (code_named-block a.0 a.1) ∙ ap code_named a.2 ∙ same ∙ sym (ap code_named b.2)
+            ∙ code_named-block b.0 b.1 in
+            let blocks : a.0 ≡ b.0 = sym (logical_of-file_block a.0)
+            ∙ ap logical_of (same_block (file_block_of a.0) (file_block_of b.0) (file_block_of-is a.0 a.1)
+            (file_block_of-is b.0 b.1) codes) ∙ logical_of-file_block b.0 in
             sym a.2 ∙ ap block_number blocks ∙ b.2
       ]
     ]
 
-pub same_named : (l : LogState) (a b : BlockInfo) → IsNamed l a → IsNamed l b → a.ino ≡ b.ino → code_named a.lbn ≡ code_named b.lbn → a ≡ b
+pub same_named : (l : LogState) (a b : BlockInfo) → IsNamed l a → IsNamed l b → a.ino ≡ b.ino → code_named a.lbn
+    ≡ code_named b.lbn → a ≡ b
 same_named l a b p q number code =
     let there = named_there l a p in
     let other = named_there l b q in
     let lbn = same_lbn a.lbn b.lbn there.0.code_below code in
     let version : a.version ≡ b.version = sym there.1 ∙ ap l.version number ∙ other.1 in
     let address : a.addr ≡ b.addr
-    = sym p.present ∙ ap (λ n. present_address l n a.version (code_named a.lbn)) number ∙ ap (λ v. present_address l b.ino v (code_named a.lbn)) version
+    = sym p.present ∙ ap (λ n. present_address l n a.version (code_named a.lbn)) number
+    ∙ ap (λ v. present_address l b.ino v (code_named a.lbn)) version
     ∙ ap (present_address l b.ino b.version) code ∙ q.present in
     λ i. record { ino = number i; version = version i; lbn = lbn i; addr = address i }

@@ -1,5 +1,7 @@
 -- The order in which what waits is written names each key once.
-use Rattle.std.proofs.Common.{◌<◌, ◌≤◌, refl, ◌-◌, length-append, get_or, sym, ◌≡◌, ◌≢◌, ℕ, zero, suc, List, [], ◌∷◌, ◌++◌, All, map, replicate, Bool, true, false, cond, length, Some, IsSome, ap, ◌∙◌, subst, inl, inr, arith}
+use Rattle.std.proofs.Common.{◌<◌, ◌≤◌, refl, ◌-◌, length-append, get_or, sym, ◌≡◌, ◌≢◌, ℕ, zero, suc, List, [], ◌∷◌}
+use Rattle.std.proofs.Common.{◌++◌, All, map, replicate, Bool, true, false, cond, length, Some, IsSome, ap, ◌∙◌, subst}
+use Rattle.std.proofs.Common.{inl, inr, arith}
 use Rattle.std.specs.List.{Contains, filter}
 use Rattle.std.proofs.lemmas.Bool.{cases_Bool, cases_eq, cases_lt, eq-eqb, eqb-true, false≢true, ne_eqb}
 use Rattle.std.proofs.lemmas.List.{get_or-append_right, get_or-map, get_or-replicate, get_or_append_left, length-map}
@@ -15,7 +17,8 @@ use Rattle.lfs_bmap.proofs.TableLemmas.{rank_of-few}
 use Rattle.lfs_staging.specs.declared.parts.Parts.{Parts}
 use Rattle.lfs_segwrite.specs.Collecting.{AreLocked, entries_of, entry_of, in_order, in_passes, inode_blocks, is_of}
 use Rattle.lfs_staging.specs.Opening.{inodes_entry}
-use Rattle.lfs_segwrite.proofs.CollectingLemmas.{entries_of-length, filter_no, filter_yes, in_order-length, in_passes-each, in_passes-more, in_passes-none}
+use Rattle.lfs_segwrite.proofs.CollectingLemmas.{entries_of-length, filter_no, filter_yes, in_order-length}
+use Rattle.lfs_segwrite.proofs.CollectingLemmas.{in_passes-each, in_passes-more, in_passes-none}
 use Rattle.lfs_segments.specs.declared.entry.SummaryEntry.{SummaryEntry}
 
 -- a key that a list lacks is lacked by a part of it, and by it and another one that lacks it
@@ -38,25 +41,30 @@ apart_filter p (n ∷ ns) h = elim (cases_Bool (p n)) [
 ]
 
 -- each key of a filtered list passes
-first_passes : (p : Key → Bool) (n : Key) (l : List Key) (d : Key) → p n ≡ true → ((k : ℕ) → k < length l → p (get_or l k d) ≡ true)
+first_passes : (p : Key → Bool) (n : Key) (l : List Key) (d : Key) → p n ≡ true
+    → ((k : ℕ) → k < length l → p (get_or l k d) ≡ true)
     → (k : ℕ) → k < length (n ∷ l) → p (get_or (n ∷ l) k d) ≡ true
 first_passes p n l d holds rest zero low = holds
 first_passes p n l d holds rest (suc k) low = rest k (omega arith)
 
-each_passes : (p : Key → Bool) (ns : List Key) (d : Key) (k : ℕ) → k < length (filter p ns) → p (get_or (filter p ns) k d) ≡ true
+each_passes : (p : Key → Bool) (ns : List Key) (d : Key) (k : ℕ) → k < length (filter p ns)
+    → p (get_or (filter p ns) k d) ≡ true
 each_passes p [] d = λ k low. absurd (omega arith)
 each_passes p (n ∷ ns) d = elim (cases_Bool (p n)) [
   | inl holds ↦
       subst (λ (l : List Key). (k : ℕ) → k < length l → p (get_or l k d) ≡ true) (sym (filter_yes p n ns holds))
       (first_passes p n (filter p ns) d holds (each_passes p ns d))
-  | inr fails ↦ subst (λ (l : List Key). (k : ℕ) → k < length l → p (get_or l k d) ≡ true) (sym (filter_no p n ns fails)) (each_passes p ns d)
+  | inr fails ↦ subst (λ (l : List Key). (k : ℕ) → k < length l → p (get_or l k d) ≡ true)
+      (sym (filter_no p n ns fails)) (each_passes p ns d)
 ]
 
 -- two lists whose keys are apart from one another
 lists_apart : (xs ys : List Key) → AreApart xs → AreApart ys → All (λ (x : Key). Lacks x ys) xs → AreApart (xs ++ ys)
 lists_apart [] ys h g each = g
-lists_apart (x ∷ xs) ys h g each =
-    (lacks_append x xs ys h.0 (each 0 x (omega arith)), lists_apart xs ys h.1 g (λ k d low. each (suc k) d (omega arith)))
+lists_apart (x ∷ xs) ys h g each = (
+  lacks_append x xs ys h.0 (each 0 x (omega arith)),
+  lists_apart xs ys h.1 g (λ k d low. each (suc k) d (omega arith)),
+)
 
 -- a key of another pass
 lacks_pass : (n : ℕ) (k : Key) (ns : List Key) → rank_of k.lbn ≢ n → Lacks k (filter (is_of n) ns)
@@ -71,12 +79,14 @@ lacks_pass n k (m ∷ ns) other = elim (cases_eq (rank_of m.lbn) n) [
   | inr ne ↦ subst (Lacks k) (sym (filter_no (is_of n) m ns (ne_eqb (rank_of m.lbn) n ne))) (lacks_pass n k ns other)
 ]
 
-pass_is : (n : ℕ) (ks : List Key) (k : ℕ) (d : Key) → k < length (filter (is_of n) ks) → rank_of (get_or (filter (is_of n) ks) k d).lbn ≡ n
+pass_is : (n : ℕ) (ks : List Key) (k : ℕ) (d : Key) → k < length (filter (is_of n) ks)
+    → rank_of (get_or (filter (is_of n) ks) k d).lbn ≡ n
 pass_is n ks k d low = eqb-true (rank_of (get_or (filter (is_of n) ks) k d).lbn) n (each_passes (is_of n) ks d k low)
 
 -- in the passes below one there are keys of those alone
 pub passes_below : (n : ℕ) (keys : List Key) → All (λ (k : Key). rank_of k.lbn < n) (in_passes n keys)
-passes_below zero keys = subst (All (λ (k : Key). rank_of k.lbn < 0)) (sym (in_passes-none keys)) (λ k d low. absurd (omega arith))
+passes_below zero keys = subst (All (λ (k : Key). rank_of k.lbn < 0)) (sym (in_passes-none keys))
+    (λ k d low. absurd (omega arith))
 passes_below (suc n) keys =
     subst (All (λ (k : Key). rank_of k.lbn < suc n)) (sym (in_passes-more n keys))
     (All-append (λ (k : Key). rank_of k.lbn < suc n) (in_passes n keys) (filter (is_of n) keys)
@@ -89,13 +99,15 @@ passes_apart zero keys h = subst AreApart (sym (in_passes-none keys)) tt
 passes_apart (suc n) keys h =
     subst AreApart (sym (in_passes-more n keys))
     (lists_apart (in_passes n keys) (filter (is_of n) keys) (passes_apart n keys h) (apart_filter (is_of n) keys h)
-    (λ k d low. lacks_pass n (get_or (in_passes n keys) k d) keys (λ e. let less = passes_below n keys k d low in omega arith)))
+    (λ k d low. lacks_pass n (get_or (in_passes n keys) k d) keys
+    (λ e. let less = passes_below n keys k d low in omega arith)))
 
 pub in_order-apart : (keys : List Key) → AreApart keys → AreApart (in_order keys)
 in_order-apart keys h = passes_apart 3 keys h
 
 -- and each comes
-filter_has : (n : ℕ) (key : Key) (ks : List Key) → rank_of key.lbn ≡ n → Contains ks key → Contains (filter (is_of n) ks) key
+filter_has : (n : ℕ) (key : Key) (ks : List Key) → rank_of key.lbn ≡ n → Contains ks key
+    → Contains (filter (is_of n) ks) key
 filter_has n key [] is has = let low = has.1 in absurd (omega arith)
 filter_has n key (k ∷ ks) is (zero, low, e) =
     let here : is_of n k ≡ true = eq-eqb (rank_of k.lbn) n (ap (λ (x : Key). rank_of x.lbn) e ∙ is) in
@@ -103,16 +115,22 @@ filter_has n key (k ∷ ks) is (zero, low, e) =
 filter_has n key (k ∷ ks) is (suc i, low, e) =
     let rest = filter_has n key ks is (i, omega arith, e) in
     elim (cases_Bool (is_of n k)) [
-      | inl holds ↦ subst (λ xs. Contains xs key) (sym (filter_yes (is_of n) k ks holds)) (suc rest.0, let few = rest.1 in omega arith, rest.2)
+      | inl holds ↦ subst (λ xs. Contains xs key) (sym (filter_yes (is_of n) k ks holds)) (
+        suc rest.0,
+        let few = rest.1 in omega arith,
+        rest.2,
+      )
       | inr fails ↦ subst (λ xs. Contains xs key) (sym (filter_no (is_of n) k ks fails)) rest
     ]
 
-passes_have : (n : ℕ) (keys : List Key) (key : Key) → rank_of key.lbn < n → Contains keys key → Contains (in_passes n keys) key
+passes_have : (n : ℕ) (keys : List Key) (key : Key) → rank_of key.lbn < n → Contains keys key
+    → Contains (in_passes n keys) key
 passes_have zero keys key low has = absurd (omega arith)
 passes_have (suc n) keys key low has =
     subst (λ xs. Contains xs key) (sym (in_passes-more n keys)) (elim (cases_eq (rank_of key.lbn) n) [
       | inl is ↦ Contains-append_right (in_passes n keys) (filter (is_of n) keys) key (filter_has n key keys is has)
-      | inr other ↦ Contains-append_left (in_passes n keys) (filter (is_of n) keys) key (passes_have n keys key (omega arith) has)
+      | inr other ↦ Contains-append_left (in_passes n keys) (filter (is_of n) keys) key
+          (passes_have n keys key (omega arith) has)
     ])
 
 -- what waits is listed
@@ -127,7 +145,8 @@ waits_listed (e ∷ es) key h =
     ]
 
 pub listed_waits : (c : Contents) → All (λ (key : Key). IsLocked key c) (keys_of c.locked)
-listed_waits c = λ k d low. listed_has_block (get_or (keys_of c.locked) k d) c.locked k d low (same_self (get_or (keys_of c.locked) k d))
+listed_waits c = λ k d low. listed_has_block (get_or (keys_of c.locked) k d) c.locked k d low
+    (same_self (get_or (keys_of c.locked) k d))
 
 -- so the keys in order are those that wait, each once
 pub in_order-locked : (c : Contents) → AreApart (keys_of c.locked) → AreLocked (in_order (keys_of c.locked)) c
@@ -140,23 +159,29 @@ in_order-locked c apart =
     }
 
 -- where the same waits, the entries are the same
-pub entries_of-same : (old new : Parts) → new.cache ≡ old.cache → new.waiting ≡ old.waiting → entries_of new ≡ entries_of old
+pub entries_of-same : (old new : Parts) → new.cache ≡ old.cache → new.waiting ≡ old.waiting → entries_of new
+    ≡ entries_of old
 unfolding entries_of
 entries_of-same old new cache waiting =
-    ap (λ (c : Contents). map entry_of (in_order (keys_of c.locked)) ++ replicate (inode_blocks (length new.waiting)) inodes_entry) cache
-    ∙ ap (λ (vs : List Inode). map entry_of (in_order (keys_of old.cache.locked)) ++ replicate (inode_blocks (length vs)) inodes_entry) waiting
+    ap (λ (c : Contents). map entry_of (in_order (keys_of c.locked))
+    ++ replicate (inode_blocks (length new.waiting)) inodes_entry) cache
+    ∙ ap (λ (vs : List Inode). map entry_of (in_order (keys_of old.cache.locked))
+    ++ replicate (inode_blocks (length vs)) inodes_entry) waiting
 
 -- ---- places in the order
--- behind a block of a pass there is none of one before: when an indirect block is written, the blocks are whose addresses it holds
+-- behind a block of a pass there is none of one before: when an indirect block is written, the blocks are whose
+-- addresses it holds
 passes_after : (n : ℕ) (keys : List Key) (j i : ℕ) (d : Key) → j ≤ i → i < length (in_passes n keys)
     → rank_of (get_or (in_passes n keys) j d).lbn ≤ rank_of (get_or (in_passes n keys) i d).lbn
-passes_after zero keys j i d before low = let none = ap (λ (ks : List Key). length ks) (in_passes-none keys) in absurd (omega arith)
+passes_after zero keys j i d before low = let none = ap (λ (ks : List Key). length ks) (in_passes-none keys) in
+    absurd (omega arith)
 passes_after (suc n) keys j i d before low =
     let xs = in_passes n keys in
     let ys = filter (is_of n) keys in
     let long = length-append xs ys in
     let split = ap (λ (ks : List Key). length ks) (in_passes-more n keys) in
-    subst (λ ks. rank_of (get_or ks j d).lbn ≤ rank_of (get_or ks i d).lbn) (sym (in_passes-more n keys)) (elim (cases_lt i (length xs)) [
+    subst (λ ks. rank_of (get_or ks j d).lbn ≤ rank_of (get_or ks i d).lbn) (sym (in_passes-more n keys))
+    (elim (cases_lt i (length xs)) [
       | inl first ↦
           let at_i = ap (λ (k : Key). rank_of k.lbn) (get_or_append_left xs ys d i first) in
           let at_j = ap (λ (k : Key). rank_of k.lbn) (get_or_append_left xs ys d j (omega arith)) in
@@ -174,7 +199,8 @@ pub in_order-after : (keys : List Key) (j i : ℕ) (d : Key) → j ≤ i → i <
     → rank_of (get_or (in_order keys) j d).lbn ≤ rank_of (get_or (in_order keys) i d).lbn
 in_order-after keys j i d before low = passes_after 3 keys j i d before low
 
-entries_of-split : (p : Parts) → entries_of p ≡ map entry_of (in_order (keys_of p.cache.locked)) ++ replicate (inode_blocks (length p.waiting)) inodes_entry
+entries_of-split : (p : Parts) → entries_of p ≡ map entry_of (in_order (keys_of p.cache.locked))
+    ++ replicate (inode_blocks (length p.waiting)) inodes_entry
 unfolding entries_of
 entries_of-split p = refl
 
@@ -188,7 +214,8 @@ entries_of-block p k d e low =
     let ordered = in_order-length (keys_of p.cache.locked) in
     let locked = length-map p.cache.locked (λ e. e.0) in
     let mapped = length-map keys entry_of in
-    get_or_append_left (map entry_of keys) (replicate blocks inodes_entry) e k (omega arith) ∙ get_or-map entry_of keys k d e (omega arith)
+    get_or_append_left (map entry_of keys) (replicate blocks inodes_entry) e k (omega arith)
+    ∙ get_or-map entry_of keys k d e (omega arith)
 
 pub entries_of-inodes : (p : Parts) (k : ℕ) (e : SummaryEntry) → length p.cache.locked ≤ k → k < length (entries_of p)
     → get_or (entries_of p) k e ≡ inodes_entry
@@ -200,5 +227,6 @@ entries_of-inodes p k e high low =
     let mapped = length-map keys entry_of in
     let whole = entries_of-length p in
     ap (λ es. get_or es k e) (entries_of-split p)
-    ∙ get_or-append_right (map entry_of keys) (replicate blocks inodes_entry) (length (map entry_of keys)) k e refl (omega arith)
+    ∙ get_or-append_right (map entry_of keys) (replicate blocks inodes_entry) (length (map entry_of keys)) k e refl
+    (omega arith)
     ∙ get_or-replicate blocks (k - length (map entry_of keys)) inodes_entry e (omega arith)

@@ -1,5 +1,6 @@
 -- A block that is put at the log's end leaves each file as it was.
-use Rattle.std.proofs.Common.{◌≡◌, ◌≢◌, ℕ, zero, suc, ◌+◌, ◌*◌, ◌/◌, ◌<◌, ◌≤◌, List, [], length, Some, sym, ap, ◌∙◌, subst, inl, inr, arith}
+use Rattle.std.proofs.Common.{◌≡◌, ◌≢◌, ℕ, zero, suc, ◌+◌, ◌*◌, ◌/◌, ◌<◌, ◌≤◌, List, [], length, Some, sym, ap, ◌∙◌}
+use Rattle.std.proofs.Common.{subst, inl, inr, arith}
 use Rattle.std.proofs.lemmas.Bool.{cases_Bool, cases_eq, cases_lt, cond-true}
 use Rattle.lfs_ifile.specs.declared.inode.InodePlace.{InodePlace}
 use Rattle.lfs_ifile.specs.Inode.{fresh_row}
@@ -32,7 +33,8 @@ pub next_some : (m : SegmentMemory) → IsLaidOut m → 0 < next_address m
 next_some m laid = first_some m.active m.fill laid.begun
 
 -- the blocks at other addresses stay
-pub blocks_put : (old new : SegmentMemory) (before after : List SummaryEntry) → Extends old new → next_address new ≡ next_address old + 1
+pub blocks_put : (old new : SegmentMemory) (before after : List SummaryEntry) → Extends old new → next_address new
+    ≡ next_address old + 1
     → Expects old before → Expects new after → (b : ℕ) → b ≢ next_address old → block_at new b ≡ block_at old b
 blocks_put old new before after extends next expects expected b other =
     elim (cases_lt b (next_address old)) [
@@ -46,7 +48,8 @@ blocks_put old new before after extends next expects expected b other =
     ]
 
 -- where a record stands, the log was written before
-record_older : (p : Parts) (number spare : ℕ) → IsParts p.log → IsLog (log_state p) spare → number < length p.log.tables.rows → IsOlder p.log.memory (row_of p.log.tables number).address
+record_older : (p : Parts) (number spare : ℕ) → IsParts p.log → IsLog (log_state p) spare
+    → number < length p.log.tables.rows → IsOlder p.log.memory (row_of p.log.tables number).address
 record_older p number spare parts log low =
     let row = row_of p.log.tables number in
     elim (cases_eq row.address 0) [
@@ -54,13 +57,19 @@ record_older p number spare parts log low =
       | inr some ↦
           let at = placed_at p.log.tables number some in
           let slot : row.slot < 4 = (parts.formed.each_row number fresh_row low).slot in
-          let key = log.keys number 0 (record { number_below = low; code_below = omega arith; somewhere = λ none. some (omega (arith, at, none)) }) in
+          let key = log.keys number 0 (record {
+            number_below = low;
+            code_below = omega arith;
+            somewhere = λ none. some (omega (arith, at, none));
+          }) in
           let same : record_place p.log.tables number / 4 ≡ row.address = omega (arith, at, slot) in
-          subst (IsOlder p.log.memory) same (written_older p.log.memory (record_place p.log.tables number) parts.laid_out key.written)
+          subst (IsOlder p.log.memory) same (written_older p.log.memory
+          (record_place p.log.tables number) parts.laid_out key.written)
     ]
 
 -- so each record is as it was
-pub record_put : (p q : Parts) (number spare : ℕ) → IsParts p.log → IsLog (log_state p) spare → Extends p.log.memory q.log.memory → q.log.tables ≡ p.log.tables
+pub record_put : (p q : Parts) (number spare : ℕ) → IsParts p.log → IsLog (log_state p) spare
+    → Extends p.log.memory q.log.memory → q.log.tables ≡ p.log.tables
     → waiting_in q.waiting number ≡ waiting_in p.waiting number → record_of q number ≡ record_of p number
 record_put p q number spare parts log extends tables waits =
     elim (cases_lt number (length p.log.tables.rows)) [
@@ -69,19 +78,24 @@ record_put p q number spare parts log extends tables waits =
             let row = row_of p.log.tables number in
             let place : InodePlace = record { addr = row.address; slot = row.slot; version = row.version } in
             let there : place_of p.log.tables number ≡ Some place = cond-true _ _ _ used in
-            let after : place_of q.log.tables number ≡ Some place = ap (λ (t : Tables). place_of t number) tables ∙ there in
+            let after : place_of q.log.tables number ≡ Some place = ap (λ (t : Tables). place_of t number) tables
+            ∙ there in
             record_of-at q number place after ∙ ap (λ w. waiting_or w (fields_at q.log.memory place)) waits
-            ∙ ap (λ b. waiting_or (waiting_in p.waiting number) (fields_in (slot_of b row.slot))) (extends.blocks row.address (record_older p number spare parts log low))
+            ∙ ap (λ b. waiting_or (waiting_in p.waiting number) (fields_in (slot_of b row.slot)))
+            (extends.blocks row.address (record_older p number spare parts log low))
             ∙ sym (record_of-at p number place there)
         | inr free ↦
             let there = free_place p number free in
-            record_of-unused q number (ap (λ (t : Tables). place_of t number) tables ∙ there) ∙ sym (record_of-unused p number there)
+            record_of-unused q number (ap (λ (t : Tables). place_of t number) tables ∙ there)
+            ∙ sym (record_of-unused p number there)
       ]
-      | inr past ↦ record_of-past q number (subst (λ (t : Tables). length t.rows ≤ number) (sym tables) past) ∙ sym (record_of-past p number past)
+      | inr past ↦ record_of-past q number (subst (λ (t : Tables). length t.rows ≤ number) (sym tables) past)
+          ∙ sym (record_of-past p number past)
     ]
 
 -- no block of a file has the address at which the log goes on
-pub unread_next : (p : Parts) (number spare : ℕ) → IsParts p.log → IsLog (log_state p) spare → 1 ≤ room_of p.log.memory → number < length p.log.tables.rows
+pub unread_next : (p : Parts) (number spare : ℕ) → IsParts p.log → IsLog (log_state p) spare → 1 ≤ room_of p.log.memory
+    → number < length p.log.tables.rows
     → IsUnread (tree_of p number) (next_address p.log.memory)
 unread_next p number spare parts log room low = λ way known e.
     let some = next_some p.log.memory parts.laid_out in
@@ -92,8 +106,13 @@ unread_next p number spare parts log room low = λ way known e.
           let zero_ : address t way ≡ 0 = ap (address t) root ∙ address-root t in
           omega (arith, zero_, e, some)
       | inr block ↦
-          let at = place-block p number (code_at way) block ∙ ap (λ w. 4 * address t w) (known_way_of way known) ∙ ap (λ a. 4 * a) e in
-          let key = log.keys number (code_at way) (record { number_below = low; code_below = known.coded; somewhere = λ none. omega (arith, at, none, some) }) in
+          let at = place-block p number (code_at way) block ∙ ap (λ w. 4 * address t w) (known_way_of way known)
+          ∙ ap (λ a. 4 * a) e in
+          let key = log.keys number (code_at way) (record {
+            number_below = low;
+            code_below = known.coded;
+            somewhere = λ none. omega (arith, at, none, some);
+          }) in
           let below = key.written (omega (arith, at, room)) in
           omega (arith, at, below)
     ]

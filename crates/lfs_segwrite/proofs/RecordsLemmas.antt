@@ -1,5 +1,6 @@
 -- The records that wait are written, up to four into one block.
-use Rattle.std.proofs.Common.{◌≡◌, ℕ, ◌+◌, ◌-◌, ◌*◌, ◌<◌, ◌≤◌, List, [], ◌∷◌, ◌++◌, length, take, drop, get_or, Some, option_map, refl, sym, ap, ◌∙◌, subst, arith, length-append}
+use Rattle.std.proofs.Common.{◌≡◌, ℕ, ◌+◌, ◌-◌, ◌*◌, ◌<◌, ◌≤◌, List, [], ◌∷◌, ◌++◌, length, take, drop, get_or, Some}
+use Rattle.std.proofs.Common.{option_map, refl, sym, ap, ◌∙◌, subst, arith, length-append}
 use Rattle.std.specs.List.{slice_get}
 use Rattle.std.proofs.lemmas.Option.{slice_get_read}
 use Rattle.std.proofs.Math.Seq.{take-length}
@@ -29,13 +30,15 @@ pub record IsRecording (old mid p : Parts) (first address : ℕ) : Type 0 where
   pub cache : p.cache ≡ old.cache
   pub advances : (from : ℕ) → from ≤ address → Advances from old p
 
-pub recording_begins : (old mid : Parts) (first address : ℕ) (block : List ℕ) → IsParts mid.log → IsStaged old 0 → AppendsBlock old mid address block
+pub recording_begins : (old mid : Parts) (first address : ℕ) (block : List ℕ) → IsParts mid.log → IsStaged old 0
+    → AppendsBlock old mid address block
     → first ≤ length old.waiting → length old.waiting ≤ first + 4 → IsRecording old mid mid first address
 recording_begins old mid first address block parts staged put least most =
     let count : length mid.waiting ≡ length old.waiting = ap (λ (vs : List Inode). length vs) put.waiting in
     let end = put.end in
     record {
-      staged = fewer_spare mid 512 (128 * (length mid.waiting - first)) (omega arith) (appended_staged old mid address block put parts staged);
+      staged = fewer_spare mid 512 (128 * (length mid.waiting - first)) (omega arith)
+          (appended_staged old mid address block put parts staged);
       least = omega arith;
       items = put.waiting ∙ sym (ap (λ n. take n old.waiting) count ∙ take-length old.waiting);
       memory = refl;
@@ -43,7 +46,8 @@ recording_begins old mid first address block parts staged put least most =
       advances = λ from low. appended_advances old mid address block put from (omega arith);
     }
 
-pub recording_more : (old mid p q : Parts) (first address : ℕ) → IsRecording old mid p first address → first < length p.waiting
+pub recording_more : (old mid p q : Parts) (first address : ℕ) → IsRecording old mid p first address
+    → first < length p.waiting
     → ((spare : ℕ) → IsStaged p (spare + 128) → IsStaged q spare) → ((from : ℕ) → from ≤ address → Advances from p q)
     → q.waiting ≡ take (length p.waiting - 1) p.waiting → q.cache ≡ p.cache → q.log.memory ≡ p.log.memory
     → IsRecording old mid q first address
@@ -63,7 +67,8 @@ recording_more old mid p q first address h some staged advances items cache memo
     }
 
 -- the log goes on behind where it begins
-first_before : (m : SegmentMemory) → IsLaidOut m → (address : ℕ) → address ≡ next_address m → first_of m.active ≤ address
+first_before : (m : SegmentMemory) → IsLaidOut m → (address : ℕ) → address ≡ next_address m
+    → first_of m.active ≤ address
 first_before m laid address end = let begun = laid.begun in omega arith
 
 -- the last record is the one in its slot
@@ -71,31 +76,39 @@ last_at : (front : List Inode) (v d : Inode) → get_or (front ++ v ∷ []) (len
 last_at [] v d = refl
 last_at (w ∷ front) v d = last_at front v d
 
-pub record_stands : (old mid p : Parts) (first address slot : ℕ) (block : List ℕ) (inodes front : List Inode) (v : Inode) → IsLaidOut old.log.memory
+pub record_stands : (old mid p : Parts) (first address slot : ℕ) (block : List ℕ) (inodes front : List Inode)
+    (v : Inode) → IsLaidOut old.log.memory
     → AppendsBlock old mid address block → entry_at mid.log.memory address ≡ Some inodes_entry
     → inodes ≡ drop first old.waiting → length inodes ≤ 4
     → ((k : ℕ) → k < 4 → fields_in (slot_of block k) ≡ option_map fields_of (slice_get inodes k))
     → ((k : ℕ) → k < 4 → record_in block k ≡ option_map inode_key (slice_get inodes k))
     → IsRecording old mid p first address → first < length p.waiting → slot ≡ length p.waiting - 1 - first
     → p.waiting ≡ front ++ v ∷ [] → StandsAt p v address slot
-record_stands old mid p first address slot block inodes front v laid put named from_first most reading records h some is items =
-    let count : length p.waiting ≡ length front + 1 = ap (λ (vs : List Inode). length vs) items ∙ length-append front (v ∷ []) in
+record_stands old mid p first address slot block inodes front v laid put named from_first most reading records h some is
+    items =
+    let count : length p.waiting ≡ length front + 1 = ap (λ (vs : List Inode). length vs) items
+    ∙ length-append front (v ∷ []) in
     let cut : length p.waiting ≤ length old.waiting
-    = let whole = ap (λ (vs : List Inode). length vs) h.items in let taken = length-take (length p.waiting) old.waiting in omega arith in
-    let long : length inodes ≡ length old.waiting - first = ap (λ (vs : List Inode). length vs) from_first ∙ length-drop first old.waiting in
+    = let whole = ap (λ (vs : List Inode). length vs) h.items in let taken =
+    length-take (length p.waiting) old.waiting in omega arith in
+    let long : length inodes ≡ length old.waiting - first = ap (λ (vs : List Inode). length vs) from_first
+    ∙ length-drop first old.waiting in
     let in_block : slot < 4 = omega arith in
     let at : v ≡ get_or inodes slot v =
     sym (ap (λ vs. get_or vs slot v) from_first ∙ get_or-drop first old.waiting slot v
     ∙ ap (λ n. get_or old.waiting n v) (let e : first + slot ≡ length front = omega arith in e)
     ∙ sym (get_or-take (length p.waiting) old.waiting (length front) v (omega arith))
-    ∙ ap (λ vs. get_or vs (length front) v) (sym h.items) ∙ ap (λ vs. get_or vs (length front) v) items ∙ last_at front v v) in
+    ∙ ap (λ vs. get_or vs (length front) v) (sym h.items) ∙ ap (λ vs. get_or vs (length front) v) items
+    ∙ last_at front v v) in
     let got : slice_get inodes slot ≡ Some v = slice_get_read inodes (length inodes) slot v refl (omega arith) at in
     let end = put.end in
     let begun = laid.begun in
     let active = put.step.active in
     let next = put.step.next in
-    let same_active : p.log.memory.active ≡ old.log.memory.active = ap (λ (m : SegmentMemory). m.active) h.memory ∙ active in
-    let same_next : next_address p.log.memory ≡ next_address old.log.memory + 1 = ap (λ (m : SegmentMemory). next_address m) h.memory ∙ next in
+    let same_active : p.log.memory.active ≡ old.log.memory.active = ap (λ (m : SegmentMemory). m.active) h.memory
+    ∙ active in
+    let same_next : next_address p.log.memory ≡ next_address old.log.memory
+    + 1 = ap (λ (m : SegmentMemory). next_address m) h.memory ∙ next in
     record {
       from = subst (λ s. first_of s ≤ address) (sym same_active) (first_before old.log.memory laid address end);
       below = omega arith;

@@ -1,5 +1,6 @@
 -- Opening a segment keeps what the files show.
-use Rattle.std.proofs.Common.{◌≡◌, ◌≢◌, ℕ, zero, suc, ◌+◌, ◌-◌, ◌*◌, ◌/◌, ◌<◌, ◌≤◌, List, [], length, None, Some, Option, option_map, is_some, refl, sym, ap, ◌∙◌, subst, inl, inr, arith}
+use Rattle.std.proofs.Common.{◌≡◌, ◌≢◌, ℕ, zero, suc, ◌+◌, ◌-◌, ◌*◌, ◌/◌, ◌<◌, ◌≤◌, List, [], length, None, Some}
+use Rattle.std.proofs.Common.{Option, option_map, is_some, refl, sym, ap, ◌∙◌, subst, inl, inr, arith}
 use Rattle.std.specs.Prelude.{slice_index, true}
 use Rattle.std.proofs.lemmas.Bool.{cases_Bool, cases_eq, cases_lt, cond-true, cond-false}
 use Rattle.std.proofs.lemmas.List.{get_or_past}
@@ -42,40 +43,46 @@ use Rattle.lfs_staging.proofs.KeptLemmas.{block_known}
 use Rattle.lfs_staging.proofs.ForgettingLemmas.{used_low}
 
 -- ---- parts whose files read the same
-below_same : (old new : ℕ → Option File) → ((n : ℕ) → new n ≡ old n) → (n : ℕ) → content_below new n ≡ content_below old n
+below_same : (old new : ℕ → Option File) → ((n : ℕ) → new n ≡ old n) → (n : ℕ) → content_below new n
+    ≡ content_below old n
 unfolding content_below
 below_same old new same zero = refl
 below_same old new same (suc n) =
     ap (λ f. content_with n f (content_below new n)) (same n) ∙ ap (content_with n (old n)) (below_same old new same n)
 
-module _ (old new : Parts) (records : (n : ℕ) → record_of new n ≡ record_of old n) (readings : (n : ℕ) → SameReadings (tree_of old n) (tree_of new n)) where
+module _ (old new : Parts) (records : (n : ℕ) → record_of new n ≡ record_of old n) (readings : (n : ℕ)
+    → SameReadings (tree_of old n) (tree_of new n)) where
   pub blocks_alike : (n : ℕ) → data_block (tree_of new n) ≡ data_block (tree_of old n)
   blocks_alike n = λ i k. data_block-same (tree_of old n) (tree_of new n) (readings n) k i
 
   pub file_alike : (n : ℕ) → file_at new n ≡ file_at old n
   file_alike n =
       file_at-record new n ∙ ap (option_map (file_with (tree_of new n))) (records n)
-      ∙ ap (λ (g : ℕ → List ℕ). option_map (λ (f : Fields). file_of (stat_of f.attributes) (file_bytes g f.attributes.size)) (record_of old n)) (blocks_alike n)
+      ∙ ap (λ (g : ℕ → List ℕ). option_map (λ (f : Fields). file_of (stat_of f.attributes)
+      (file_bytes g f.attributes.size)) (record_of old n)) (blocks_alike n)
       ∙ sym (file_at-record old n)
 
   pub content_alike : length new.log.tables.rows ≡ length old.log.tables.rows → content_of new ≡ content_of old
   unfolding content_of
   content_alike whole =
-      ap (content_below (file_at new)) whole ∙ below_same (file_at old) (file_at new) file_alike (length old.log.tables.rows)
+      ap (content_below (file_at new)) whole ∙ below_same (file_at old) (file_at new) file_alike
+      (length old.log.tables.rows)
 
 -- the parts with another log
 abbrev pub with_log : Parts → LogParts → Parts
 with_log p l = record p { log = l }
 
 -- ---- a clean segment is opened
-module _ (p : Parts) (s : ℕ) (store : IsStore p) (inside : s < p.log.memory.segments) (was_clean : state_of p.log.tables s ≡ Clean) where
+module _ (p : Parts) (s : ℕ) (store : IsStore p) (inside : s < p.log.memory.segments)
+    (was_clean : state_of p.log.tables s ≡ Clean) where
   -- the parts with the segment opened
   abbrev q : Parts
   q = with_log p (opened_parts p.log s)
 
   -- no key lies in the segment
   away : (n c : ℕ) → IsPlaced (log_state p) n c → (a : ℕ) → (log_state p).at n c / 256 ≡ a / 64 → a / 64 ≢ s
-  away n c there a same here = (store.log.keys n c there).not_clean (ap (state_of p.log.tables) (same ∙ here) ∙ was_clean)
+  away n c there a same here = (store.log.keys n c there).not_clean (ap (state_of p.log.tables) (same ∙ here)
+      ∙ was_clean)
 
   label_kept : block_at (opened p.log.memory s) 0 ≡ block_at p.log.memory 0
   label_kept = block_at-opened_other p.log.memory s store.whole.parts.laid_out inside 0 (inl (begins s))
@@ -89,7 +96,8 @@ module _ (p : Parts) (s : ℕ) (store : IsStore p) (inside : s < p.log.memory.se
 
   -- the block of a record in the log stays
   record_block : (n : ℕ) → (row_of p.log.tables n).used ≡ true
-      → block_at (opened p.log.memory s) (row_of p.log.tables n).address ≡ block_at p.log.memory (row_of p.log.tables n).address
+      → block_at (opened p.log.memory s) (row_of p.log.tables n).address
+      ≡ block_at p.log.memory (row_of p.log.tables n).address
   record_block n used =
       let row = row_of p.log.tables n in
       elim (cases_eq row.address 0) [
@@ -97,12 +105,15 @@ module _ (p : Parts) (s : ℕ) (store : IsStore p) (inside : s < p.log.memory.se
         | inr some ↦
             let low = used_low p n used in
             let slot = (store.whole.parts.formed.each_row n fresh_row low).slot in
-            let at : (log_state p).at n 0 ≡ 4 * row.address + row.slot = place-record p n ∙ placed_at p.log.tables n some in
-            let there : IsPlaced (log_state p) n 0 = record { number_below = low; code_below = omega arith; somewhere = λ e. some (omega arith) } in
+            let at : (log_state p).at n 0 ≡ 4 * row.address + row.slot = place-record p n
+            ∙ placed_at p.log.tables n some in
+            let there : IsPlaced (log_state p) n 0 =
+            record { number_below = low; code_below = omega arith; somewhere = λ e. some (omega arith) } in
             apart_kept row.address (away n 0 there row.address (omega arith))
       ]
 
-  record_kept_at : (n : ℕ) → (row_of p.log.tables n).used ≡ true → (o : Option Inode) → waiting_in p.waiting n ≡ o → record_of q n ≡ record_of p n
+  record_kept_at : (n : ℕ) → (row_of p.log.tables n).used ≡ true → (o : Option Inode) → waiting_in p.waiting n ≡ o
+      → record_of q n ≡ record_of p n
   record_kept_at n used None w =
       record_of-logged q n _ (cond-true _ _ _ used) w
       ∙ ap (λ b. fields_in (slot_of b (row_of p.log.tables n).slot)) (record_block n used)
@@ -118,7 +129,8 @@ module _ (p : Parts) (s : ℕ) (store : IsStore p) (inside : s < p.log.memory.se
   ]
 
   -- a block with an address lies in a segment that is in use
-  block_away : (n : ℕ) (way : List ℕ) → IsBlockWay way → address (tree_of p n) way ≢ 0 → address (tree_of p n) way / 64 ≢ s
+  block_away : (n : ℕ) (way : List ℕ) → IsBlockWay way → address (tree_of p n) way ≢ 0
+      → address (tree_of p n) way / 64 ≢ s
   block_away n way known some =
       elim (cases_lt n (length p.log.tables.rows)) [
         | inr past ↦
@@ -129,9 +141,12 @@ module _ (p : Parts) (s : ℕ) (store : IsStore p) (inside : s < p.log.memory.se
         | inl low ↦
             let code = code_at way in
             let is : way_of code ≡ way = known_way_of way known in
-            let other : code ≢ 0 = λ e. some (ap (address (tree_of p n)) (sym is ∙ ap way_of e ∙ way_of-zero) ∙ address-root (tree_of p n)) in
-            let at : (log_state p).at n code ≡ 4 * address (tree_of p n) way = place-block p n code other ∙ ap (λ w. 4 * address (tree_of p n) w) is in
-            let there : IsPlaced (log_state p) n code = record { number_below = low; code_below = known.coded; somewhere = λ e. some (omega arith) } in
+            let other : code ≢ 0 = λ e. some (ap (address (tree_of p n)) (sym is ∙ ap way_of e ∙ way_of-zero)
+            ∙ address-root (tree_of p n)) in
+            let at : (log_state p).at n code ≡ 4 * address (tree_of p n) way = place-block p n code other
+            ∙ ap (λ w. 4 * address (tree_of p n) w) is in
+            let there : IsPlaced (log_state p) n code =
+            record { number_below = low; code_below = known.coded; somewhere = λ e. some (omega arith) } in
             away n code there (address (tree_of p n) way) (omega arith)
       ]
 
@@ -148,11 +163,17 @@ module _ (p : Parts) (s : ℕ) (store : IsStore p) (inside : s < p.log.memory.se
   place_same : (n c : ℕ) → c < BLOCK_CODES → (log_state q).at n c ≡ (log_state p).at n c
   place_same n c below = elim (cases_eq c 0) [
     | inl e ↦ ap ((log_state q).at n) e ∙ record_same n ∙ ap ((log_state p).at n) (sym e)
-    | inr some ↦ place-block q n c some ∙ ap (λ a. 4 * a) ((readings_kept n).addresses (way_of c) (way_of-known c below)) ∙ sym (place-block p n c some)
+    | inr some ↦ place-block q n c some ∙ ap (λ a. 4 * a)
+        ((readings_kept n).addresses (way_of c) (way_of-known c below)) ∙ sym (place-block p n c some)
   ]
 
   keys_kept : SameKeys (log_state p) (log_state q)
-  keys_kept = record { numbers = refl; segments = refl; places = λ n c low below. place_same n c below; versions = λ n low. refl }
+  keys_kept = record {
+    numbers = refl;
+    segments = refl;
+    places = λ n c low below. place_same n c below;
+    versions = λ n low. refl;
+  }
 
   file_kept : (n : ℕ) (f : Fields) → record_of q n ≡ Some f → IsFile q n f
   file_kept n f is =
@@ -161,8 +182,10 @@ module _ (p : Parts) (s : ℕ) (store : IsStore p) (inside : s < p.log.memory.se
         formed = file.formed;
         own_number = file.own_number;
         own_version = file.own_version;
-        none_past = λ block can past. (readings_kept n).addresses (way_to block) (block_known block can) ∙ file.none_past block can past;
-        padded = subst (λ (g : ℕ → List ℕ). IsPadded g f.attributes.size) (sym (blocks_alike p q record_kept readings_kept n)) file.padded;
+        none_past = λ block can past. (readings_kept n).addresses (way_to block) (block_known block can)
+            ∙ file.none_past block can past;
+        padded = subst (λ (g : ℕ → List ℕ). IsPadded g f.attributes.size)
+            (sym (blocks_alike p q record_kept readings_kept n)) file.padded;
       }
 
   files_kept : IsParts (opened_parts p.log s) → AreFiles q
@@ -172,16 +195,20 @@ module _ (p : Parts) (s : ℕ) (store : IsStore p) (inside : s < p.log.memory.se
     reserved = store.whole.reserved;
     recorded = λ n used. ap is_some (record_kept n) ∙ store.whole.recorded n used;
     files = file_kept;
-    records = λ k d low. let there = store.whole.records k d low in record { in_use = there.in_use; at_version = there.at_version };
-    frames = λ key locked. let there = store.whole.frames key locked in record { in_use = there.in_use; at_version = there.at_version };
+    records = λ k d low. let there = store.whole.records k d low in
+        record { in_use = there.in_use; at_version = there.at_version };
+    frames = λ key locked. let there = store.whole.frames key locked in
+        record { in_use = there.in_use; at_version = there.at_version };
     coded = store.whole.coded;
-    mirrors = mirrors_read p q store.whole.mirrors store.whole.cache refl (λ n version there. record { in_use = there.in_use; at_version = there.at_version })
+    mirrors = mirrors_read p q store.whole.mirrors store.whole.cache refl
+        (λ n version there. record { in_use = there.in_use; at_version = there.at_version })
         (λ n low. readings_kept n);
   }
 
   -- the whole
   opened_segment : Expects (opened p.log.memory s) [] → IsParts (opened_parts p.log s) → 0 < p.log.clean
-      → ((at : ℕ → ℕ → ℕ) → Opens (log.log_state p.log at) (log.log_state (opened_parts p.log s) at) s) → OpensSegment p q
+      → ((at : ℕ → ℕ → ℕ) → Opens (log.log_state p.log at) (log.log_state (opened_parts p.log s) at) s)
+      → OpensSegment p q
   opened_segment ready parts some step =
       let o = step (log_state p).at in
       let opens : Opens (log_state p) (log_state q) s = record {
@@ -230,12 +257,15 @@ module _ (p : Parts) (s : ℕ) (store : IsStore p) (inside : s < p.log.memory.se
       starts (suc t) = omega arith
 
 -- what a call that opened a segment left
-pub opens_segment : (p : Parts) (l : LogParts) (s : ℕ) → IsStore p → s < p.log.memory.segments → state_of p.log.tables s ≡ Clean → 0 < p.log.clean
-    → l ≡ opened_parts p.log s → Expects l.memory [] → IsParts l → ((at : ℕ → ℕ → ℕ) → Opens (log.log_state p.log at) (log.log_state l at) s)
+pub opens_segment : (p : Parts) (l : LogParts) (s : ℕ) → IsStore p → s < p.log.memory.segments → state_of p.log.tables s
+    ≡ Clean → 0 < p.log.clean
+    → l ≡ opened_parts p.log s → Expects l.memory [] → IsParts l
+    → ((at : ℕ → ℕ → ℕ) → Opens (log.log_state p.log at) (log.log_state l at) s)
     → OpensSegment p (with_log p l)
 opens_segment p l s store inside was_clean some is ready parts step =
     subst (λ m. OpensSegment p (with_log p m)) (sym is)
-    (opened_segment p s store inside was_clean (subst (λ (m : LogParts). Expects m.memory []) is ready) (subst IsParts is parts) some
+    (opened_segment p s store inside was_clean (subst (λ (m : LogParts). Expects m.memory []) is ready)
+    (subst IsParts is parts) some
     (λ at. subst (λ m. Opens (log.log_state p.log at) (log.log_state m at) s) is (step at)))
 
 -- nothing was done

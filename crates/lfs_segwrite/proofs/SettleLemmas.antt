@@ -1,5 +1,7 @@
 -- A record that stands in the log waits no more.
-use Rattle.std.proofs.Common.{◌≡◌, ◌≢◌, ℕ, zero, suc, ◌+◌, ◌-◌, ◌*◌, ◌/◌, ◌<◌, ◌≤◌, List, [], ◌∷◌, ◌++◌, length, None, Some, IsSome, is_some, true, length-append, option_and_then, refl, sym, ap, ◌∙◌, subst, inl, inr, arith}
+use Rattle.std.proofs.Common.{◌≡◌, ◌≢◌, ℕ, zero, suc, ◌+◌, ◌-◌, ◌*◌, ◌/◌, ◌<◌, ◌≤◌, List, [], ◌∷◌, ◌++◌, length, None}
+use Rattle.std.proofs.Common.{Some, IsSome, is_some, true, length-append, option_and_then, refl, sym, ap, ◌∙◌, subst}
+use Rattle.std.proofs.Common.{inl, inr, arith}
 use Rattle.std.specs.Prelude.{All, if◌then◌else◌, ◌==◌}
 use Rattle.std.proofs.lemmas.Bool.{cases_eq, cond-true, cond-false, ne_eqb, false≢true}
 use Rattle.std.proofs.lemmas.Option.{none-some}
@@ -40,11 +42,13 @@ use Rattle.lfs_staging.proofs.WaitingLemmas.{waiting-head, waiting-tail}
 use Rattle.lfs_staging.proofs.KeyLemmas.{row_place}
 
 -- ---- the list of records, and the last of them
-waiting-last : (front : List Inode) (v : Inode) → waiting_in front v.number ≡ None → waiting_in (front ++ v ∷ []) v.number ≡ Some v
+waiting-last : (front : List Inode) (v : Inode) → waiting_in front v.number ≡ None
+    → waiting_in (front ++ v ∷ []) v.number ≡ Some v
 waiting-last [] v none = waiting-head v [] v.number refl
 waiting-last (w ∷ front) v none = elim (cases_eq w.number v.number) [
   | inl is ↦ absurd (none-some w (sym none ∙ waiting-head w front v.number is))
-  | inr ne ↦ waiting-tail w (front ++ v ∷ []) v.number ne ∙ waiting-last front v (sym (waiting-tail w front v.number ne) ∙ none)
+  | inr ne ↦ waiting-tail w (front ++ v ∷ []) v.number ne
+      ∙ waiting-last front v (sym (waiting-tail w front v.number ne) ∙ none)
 ]
 
 -- ---- the record's place
@@ -52,24 +56,31 @@ record_row : (p q : Parts) (n : ℕ) → q.log.memory ≡ p.log.memory → row_o
     → waiting_in q.waiting n ≡ waiting_in p.waiting n → record_of q n ≡ record_of p n
 unfolding record_of
 record_row p q n memory row waits =
-    ap (λ w. option_and_then (λ (place : InodePlace). waiting_or w (fields_at q.log.memory place)) (place_of q.log.tables n)) waits
-    ∙ ap (λ (m : SegmentMemory). option_and_then (λ (place : InodePlace). waiting_or (waiting_in p.waiting n) (fields_at m place)) (place_of q.log.tables n)) memory
-    ∙ ap (λ (r : InodeRow). option_and_then (λ (place : InodePlace). waiting_or (waiting_in p.waiting n) (fields_at p.log.memory place)) (place_in r)) row
+    ap (λ w. option_and_then (λ (place : InodePlace). waiting_or w (fields_at q.log.memory place))
+    (place_of q.log.tables n)) waits
+    ∙ ap (λ (m : SegmentMemory). option_and_then
+    (λ (place : InodePlace). waiting_or (waiting_in p.waiting n) (fields_at m place)) (place_of q.log.tables n))
+    memory
+    ∙ ap (λ (r : InodeRow). option_and_then (λ (place : InodePlace). waiting_or (waiting_in p.waiting n)
+    (fields_at p.log.memory place)) (place_in r)) row
 
 place_row : (s t : Tables) (n : ℕ) → row_of t n ≡ row_of s n → record_place t n ≡ record_place s n
 unfolding record_place
 place_row s t n row = ap (λ (r : InodeRow). if r.address == 0 then 0 else 4 * r.address + r.slot) row
 
-place_some : (t : Tables) (n : ℕ) (r : InodeRow) → row_of t n ≡ r → r.address ≢ 0 → record_place t n ≡ 4 * r.address + r.slot
+place_some : (t : Tables) (n : ℕ) (r : InodeRow) → row_of t n ≡ r → r.address ≢ 0 → record_place t n ≡ 4 * r.address
+    + r.slot
 unfolding record_place
-place_some t n r row some = ap (λ (r : InodeRow). if r.address == 0 then 0 else 4 * r.address + r.slot) row ∙ cond-false _ _ _ (ne_eqb r.address 0 some)
+place_some t n r row some = ap (λ (r : InodeRow). if r.address == 0 then 0 else 4 * r.address + r.slot) row
+    ∙ cond-false _ _ _ (ne_eqb r.address 0 some)
 
 first_least : (segment address : ℕ) → first_of segment ≤ address → address ≢ 0
 first_least zero address from none = absurd (omega arith)
 first_least (suc segment) address from none = absurd (omega arith)
 
 -- ---- what lets it settle
-module _ (p : Parts) (v : Inode) (front : List Inode) (address slot spare : ℕ) (staged : IsStaged p (spare + 128)) (items : p.waiting ≡ front ++ v ∷ []) (stands : StandsAt p v address slot) where
+module _ (p : Parts) (v : Inode) (front : List Inode) (address slot spare : ℕ) (staged : IsStaged p (spare + 128))
+    (items : p.waiting ≡ front ++ v ∷ []) (stands : StandsAt p v address slot) where
   pub last_once : (waiting_in front v.number ≡ None) × AreOnce front
   last_once = once_front front v (subst AreOnce items staged.once)
 
@@ -77,24 +88,31 @@ module _ (p : Parts) (v : Inode) (front : List Inode) (address slot spare : ℕ)
   last_waits = ap (λ vs. waiting_in vs v.number) items ∙ waiting-last front v last_once.0
 
   pub last_present : IsPresent p v.number v.version
-  last_present = (All-pop (λ (w : Inode). IsPresent p w.number w.version) p.waiting front (Some v) items staged.whole.records).1
+  last_present = (All-pop (λ (w : Inode). IsPresent p w.number w.version) p.waiting front
+      (Some v) items staged.whole.records).1
 
   pub front_present : All (λ (w : Inode). IsPresent p w.number w.version) front
-  front_present = (All-pop (λ (w : Inode). IsPresent p w.number w.version) p.waiting front (Some v) items staged.whole.records).0
+  front_present = (All-pop (λ (w : Inode). IsPresent p w.number w.version) p.waiting front
+      (Some v) items staged.whole.records).0
 
   pub last_low : v.number < length p.log.tables.rows
   last_low = used_low p v.number last_present.in_use
 
   pub last_may : MayTake (log_state p) (spare + 128) v.number 0 (4 * address + slot)
   last_may =
-      MayTake-written p.log (log_state p).at (spare + 128) v.number 0 address slot staged.whole.parts stands.from stands.below stands.in_block last_low (omega arith)
-      (stands.named ∙ ap (λ n. Some (record { number = v.number; version = n; code = 0 })) last_present.at_version) (omega arith)
+      MayTake-written p.log (log_state p).at (spare
+      + 128) v.number 0 address slot staged.whole.parts stands.from stands.below stands.in_block last_low
+      (omega arith)
+      (stands.named ∙ ap (λ n. Some (record { number = v.number; version = n; code = 0 })) last_present.at_version)
+      (omega arith)
 
   pub last_move : MayMoveLive p.log 0 (row_of p.log.tables v.number).address address
   last_move =
       let slots = (staged.whole.parts.formed.each_row v.number fresh_row last_low).slot in
-      MayMoveLive-taken p.log (log_state p).at (spare + 128) v.number 0 (row_of p.log.tables v.number).address staged.log last_low (omega arith)
-      (row_place p.log.tables v.number slots) (4 * address + slot) address last_may (let low = stands.in_block in omega arith)
+      MayMoveLive-taken p.log (log_state p).at (spare + 128) v.number 0
+      (row_of p.log.tables v.number).address staged.log last_low (omega arith)
+      (row_place p.log.tables v.number slots) (4 * address + slot) address last_may
+      (let low = stands.in_block in omega arith)
 
 -- ---- what settling makes
 pub record Settles (p q : Parts) (v : Inode) (front : List Inode) (address slot : ℕ) : Type 0 where
@@ -112,7 +130,8 @@ pub record Settles (p q : Parts) (v : Inode) (front : List Inode) (address slot 
   pub clean : q.log.clean ≡ p.log.clean
   pub kept : IsParts q.log
   pub step : (at : ℕ → ℕ → ℕ) → at v.number 0 ≡ record_place p.log.tables v.number
-      → Assigns (log.log_state p.log at) (log.log_state q.log (placed at v.number 0 (record_place q.log.tables v.number))) v.number 0 (record_place q.log.tables v.number)
+      → Assigns (log.log_state p.log at) (log.log_state q.log
+      (placed at v.number 0 (record_place q.log.tables v.number))) v.number 0 (record_place q.log.tables v.number)
 
 module _ (p q : Parts) (v : Inode) (front : List Inode) (address slot : ℕ) (h : Settles p q v front address slot) where
   present : IsPresent p v.number v.version
@@ -126,19 +145,22 @@ module _ (p q : Parts) (v : Inode) (front : List Inode) (address slot : ℕ) (h 
 
   used_same : (n : ℕ) → (row_of q.log.tables n).used ≡ (row_of p.log.tables n).used
   used_same n = elim (cases_eq n v.number) [
-    | inl e ↦ ap (λ m. (row_of q.log.tables m).used) e ∙ ap (λ (r : InodeRow). r.used) h.row ∙ ap (λ m. (row_of p.log.tables m).used) (sym e)
+    | inl e ↦ ap (λ m. (row_of q.log.tables m).used) e ∙ ap (λ (r : InodeRow). r.used) h.row
+        ∙ ap (λ m. (row_of p.log.tables m).used) (sym e)
     | inr ne ↦ ap (λ (r : InodeRow). r.used) (h.rows n ne)
   ]
 
   version_kept : (n : ℕ) → version_of q n ≡ version_of p n
   version_kept n = elim (cases_eq n v.number) [
-    | inl e ↦ ap (λ m. (row_of q.log.tables m).version) e ∙ ap (λ (r : InodeRow). r.version) h.row ∙ ap (λ m. (row_of p.log.tables m).version) (sym e)
+    | inl e ↦ ap (λ m. (row_of q.log.tables m).version) e ∙ ap (λ (r : InodeRow). r.version) h.row
+        ∙ ap (λ m. (row_of p.log.tables m).version) (sym e)
     | inr ne ↦ ap (λ (r : InodeRow). r.version) (h.rows n ne)
   ]
 
   waits_other : (n : ℕ) → n ≢ v.number → waiting_in q.waiting n ≡ waiting_in p.waiting n
   waits_other n ne =
-      ap (λ vs. waiting_in vs n) h.left ∙ sym (waiting-front front v n (λ e. ne (sym e))) ∙ ap (λ vs. waiting_in vs n) (sym h.items)
+      ap (λ vs. waiting_in vs n) h.left ∙ sym (waiting-front front v n (λ e. ne (sym e)))
+      ∙ ap (λ vs. waiting_in vs n) (sym h.items)
 
   gone : waiting_in q.waiting v.number ≡ None
   gone = ap (λ vs. waiting_in vs v.number) h.left ∙ (last_once p v front address slot 0 h.staged h.items h.stands).0
@@ -148,10 +170,15 @@ module _ (p q : Parts) (v : Inode) (front : List Inode) (address slot : ℕ) (h 
   record_here =
       let used : (row_of q.log.tables v.number).used ≡ true = used_same v.number ∙ present.in_use in
       record_of-logged q v.number _ (cond-true _ _ _ used) gone
-      ∙ ap (λ (r : InodeRow). fields_at q.log.memory (record { addr = r.address; slot = r.slot; version = v.version })) h.row
+      ∙ ap (λ (r : InodeRow). fields_at q.log.memory (record { addr = r.address; slot = r.slot; version = v.version }))
+      h.row
       ∙ ap (λ (m : SegmentMemory). fields_at m (record { addr = address; slot = slot; version = v.version })) h.memory
       ∙ h.stands.reads
-      ∙ sym (waiting_record p v (record { waits = last_waits p v front address slot 0 h.staged h.items h.stands; in_use = present.in_use; at_version = present.at_version }))
+      ∙ sym (waiting_record p v (record {
+        waits = last_waits p v front address slot 0 h.staged h.items h.stands;
+        in_use = present.in_use;
+        at_version = present.at_version;
+      }))
 
   record_kept : (n : ℕ) → record_of q n ≡ record_of p n
   record_kept n = elim (cases_eq n v.number) [
@@ -177,23 +204,30 @@ module _ (p q : Parts) (v : Inode) (front : List Inode) (address slot : ℕ) (h 
 
   -- its place is the slot
   place_here : record_place q.log.tables v.number ≡ 4 * address + slot
-  place_here = place_some q.log.tables v.number (placed_row address slot (row_of p.log.tables v.number)) h.row some_address
+  place_here = place_some q.log.tables v.number
+      (placed_row address slot (row_of p.log.tables v.number)) h.row some_address
 
   place_other : (n : ℕ) → n ≢ v.number → record_place q.log.tables n ≡ record_place p.log.tables n
   place_other n ne = place_row p.log.tables q.log.tables n (h.rows n ne)
 
-  places_after : (n c : ℕ) → n < length p.log.tables.rows → c < BLOCK_CODES → (log_state q).at n c ≡ placed (log_state p).at v.number 0 (4 * address + slot) n c
+  places_after : (n c : ℕ) → n < length p.log.tables.rows → c < BLOCK_CODES → (log_state q).at n c
+      ≡ placed (log_state p).at v.number 0 (4 * address + slot) n c
   places_after n c low below = elim (cases_eq c 0) [
-    | inr some ↦ alike_place p q alike n c low below some ∙ sym (placed-code (log_state p).at v.number 0 (4 * address + slot) n c some)
+    | inr some ↦ alike_place p q alike n c low below some
+        ∙ sym (placed-code (log_state p).at v.number 0 (4 * address + slot) n c some)
     | inl none ↦ ap ((log_state q).at n) none ∙ (elim (cases_eq n v.number) [
-      | inl e ↦ ap (record_place q.log.tables) e ∙ place_here ∙ sym (ap (λ m. placed (log_state p).at v.number 0 (4 * address + slot) m 0) e ∙ placed-here (log_state p).at v.number 0 (4 * address + slot))
+      | inl e ↦ ap (record_place q.log.tables) e ∙ place_here
+          ∙ sym (ap (λ m. placed (log_state p).at v.number 0 (4 * address + slot) m 0) e
+          ∙ placed-here (log_state p).at v.number 0 (4 * address + slot))
       | inr ne ↦ place_other n ne ∙ sym (placed-number (log_state p).at v.number 0 (4 * address + slot) n 0 ne)
     ]) ∙ ap (placed (log_state p).at v.number 0 (4 * address + slot) n) (sym none)
   ]
 
   assigns : Assigns (log_state p) (log_state q) v.number 0 (4 * address + slot)
   assigns =
-      let taken = subst (λ place. Assigns (log_state p) (log.log_state q.log (placed (log_state p).at v.number 0 place)) v.number 0 place) place_here (h.step (log_state p).at refl) in
+      let taken = subst (λ place. Assigns (log_state p)
+      (log.log_state q.log (placed (log_state p).at v.number 0 place)) v.number 0 place) place_here
+      (h.step (log_state p).at refl) in
       record {
         numbers = taken.numbers;
         segments = taken.segments;
@@ -208,10 +242,12 @@ module _ (p q : Parts) (v : Inode) (front : List Inode) (address slot : ℕ) (h 
   pub settled_staged : (spare : ℕ) → IsStaged p (spare + 128) → IsStaged q spare
   settled_staged spare staged =
       let may = last_may p v front address slot spare staged h.items h.stands in
-      let log = taken_log (log_state p) (log_state q) (spare + 128) v.number 0 (4 * address + slot) staged.log may assigns in
+      let log = taken_log (log_state p) (log_state q) (spare + 128) v.number 0 (4 * address
+      + slot) staged.log may assigns in
       let left : spare + 128 - 128 * units 0 ≡ spare = omega arith in
       let files = alike_files p q alike staged.whole h.kept
-      (subst (All (λ (w : Inode). IsPresent p w.number w.version)) (sym h.left) (front_present p v front address slot spare staged h.items h.stands)) in
+      (subst (All (λ (w : Inode). IsPresent p w.number w.version)) (sym h.left)
+      (front_present p v front address slot spare staged h.items h.stands)) in
       let count : length p.waiting ≡ length front + 1 = ap length h.items ∙ length-append front (v ∷ []) in
       let left_count = ap length h.left in
       alike_staged p q alike (spare + 128) spare staged files (subst (IsLog (log_state q)) left log)
@@ -224,25 +260,32 @@ module _ (p q : Parts) (v : Inode) (front : List Inode) (address slot : ℕ) (h 
     | inl e ↦ absurd (false≢true (sym (ap (λ m. is_some (waiting_in q.waiting m)) e ∙ ap is_some gone) ∙ waits))
     | inr ne ↦ subst IsSome (waits_other n ne) waits
   ]
-  waits_before n (suc c) waits = subst (λ m. IsLocked (key_of n m (suc c)) p.cache) (version_kept n) (subst (IsLocked (key_of n (version_of q n) (suc c))) h.cache waits)
+  waits_before n (suc c) waits = subst (λ m. IsLocked (key_of n m (suc c)) p.cache) (version_kept n)
+      (subst (IsLocked (key_of n (version_of q n) (suc c))) h.cache waits)
 
-  stays : (n c : ℕ) → n < length p.log.tables.rows → c < BLOCK_CODES → (Waits p n c → ⊥) → (log_state q).at n c ≡ (log_state p).at n c
-  stays n zero low below none = place_other n (λ e. none (ap (λ m. is_some (waiting_in p.waiting m)) e ∙ ap is_some (last_waits p v front address slot 0 h.staged h.items h.stands)))
+  stays : (n c : ℕ) → n < length p.log.tables.rows → c < BLOCK_CODES → (Waits p n c → ⊥) → (log_state q).at n c
+      ≡ (log_state p).at n c
+  stays n zero low below none = place_other n
+      (λ e. none (ap (λ m. is_some (waiting_in p.waiting m)) e
+      ∙ ap is_some (last_waits p v front address slot 0 h.staged h.items h.stands)))
   stays n (suc c) low below none = alike_place p q alike n (suc c) low below (λ e. absurd (omega arith))
 
-  moves : (from : ℕ) → from ≤ address → (n c : ℕ) → n < length p.log.tables.rows → c < BLOCK_CODES → Waits p n c → (Waits q n c → ⊥)
+  moves : (from : ℕ) → from ≤ address → (n c : ℕ) → n < length p.log.tables.rows → c < BLOCK_CODES → Waits p n c
+      → (Waits q n c → ⊥)
       → (from ≤ (log_state q).at n c / 4) × ((log_state q).at n c / 4 < next_address q.log.memory)
   moves from first n zero low below waits none = elim (cases_eq n v.number) [
     | inl e ↦
         let at : record_place q.log.tables n ≡ 4 * address + slot = ap (record_place q.log.tables) e ∙ place_here in
         let slot_ = h.stands.in_block in
         let end = h.stands.below in
-        let next : next_address q.log.memory ≡ next_address p.log.memory = ap (λ (m : SegmentMemory). next_address m) h.memory in
+        let next : next_address q.log.memory ≡ next_address p.log.memory =
+        ap (λ (m : SegmentMemory). next_address m) h.memory in
         (omega arith, omega arith)
     | inr ne ↦ absurd (none (subst IsSome (sym (waits_other n ne)) waits))
   ]
   moves from first n (suc c) low below waits none =
-      absurd (none (subst (IsLocked (key_of n (version_of q n) (suc c))) (sym h.cache) (subst (λ m. IsLocked (key_of n m (suc c)) p.cache) (sym (version_kept n)) waits)))
+      absurd (none (subst (IsLocked (key_of n (version_of q n) (suc c))) (sym h.cache)
+      (subst (λ m. IsLocked (key_of n m (suc c)) p.cache) (sym (version_kept n)) waits)))
 
   pub settled_advances : (from : ℕ) → from ≤ address → Advances from p q
   settled_advances from first = record {
@@ -254,7 +297,8 @@ module _ (p q : Parts) (v : Inode) (front : List Inode) (address slot : ℕ) (h 
     numbers = h.inodes;
     used = used_same;
     versions = version_kept;
-    next = let next : next_address q.log.memory ≡ next_address p.log.memory = ap (λ (m : SegmentMemory). next_address m) h.memory in omega arith;
+    next = let next : next_address q.log.memory
+        ≡ next_address p.log.memory = ap (λ (m : SegmentMemory). next_address m) h.memory in omega arith;
     only = λ n c low below waits. waits_before n c waits;
     still = stays;
     moved = moves from first;

@@ -1,5 +1,6 @@
 -- The blocks of several infos wait, one after another.
-use Rattle.std.proofs.Common.{◌≡◌, ℕ, zero, suc, ◌+◌, ◌*◌, ◌<◌, ◌≤◌, List, [], ◌∷◌, ◌++◌, All, get_or, length, map, take, IsSome, is_some, sym, ap, ◌∙◌, subst, inl, inr, arith}
+use Rattle.std.proofs.Common.{◌≡◌, ℕ, zero, suc, ◌+◌, ◌*◌, ◌<◌, ◌≤◌, List, [], ◌∷◌, ◌++◌, All, get_or, length, map}
+use Rattle.std.proofs.Common.{take, IsSome, is_some, sym, ap, ◌∙◌, subst, inl, inr, arith}
 use Rattle.std.specs.Prelude.{◌==◌}
 use Rattle.std.specs.List.{Contains, flat_map}
 use Rattle.std.proofs.lemmas.Bool.{false≢true}
@@ -14,12 +15,14 @@ use Rattle.lfs_cache.specs.Keys.{same_key}
 use Rattle.lfs_staging.specs.declared.parts.Parts.{Parts}
 use Rattle.lfs_segwrite.specs.Flushing.{Waits}
 use Rattle.lfs_staging.specs.Keys.{log_state}
-use Rattle.lfs_segwrite.specs.Marking.{IsNamed, StagesAgain, StagesNamed, code_named, codes_to_mark, keys_to_mark, number_named}
+use Rattle.lfs_segwrite.specs.Marking.{IsNamed, StagesAgain, StagesNamed, code_named, codes_to_mark, keys_to_mark}
+use Rattle.lfs_segwrite.specs.Marking.{number_named}
 use Rattle.lfs_staging.specs.Staging.{IsStaged}
 use Rattle.lfs_staging.specs.Store.{IsSettled}
 use Rattle.lfs_staging.specs.View.{key_of, version_of, waiting_in}
 use Rattle.lfs_segwrite.proofs.AgainLemmas.{SameShown-refl, SameShown-trans}
-use Rattle.lfs_segwrite.proofs.CountingLemmas.{frames_counted, keys_few, keys_more, mapped, numbers_more, records_counted}
+use Rattle.lfs_segwrite.proofs.CountingLemmas.{frames_counted, keys_few, keys_more, mapped, numbers_more}
+use Rattle.lfs_segwrite.proofs.CountingLemmas.{records_counted}
 use Rattle.lfs_staging.proofs.KeptLemmas.{keys_kept}
 use Rattle.lfs_segwrite.proofs.NamedLemmas.{named_kept, named_there}
 use Rattle.lfs_staging.proofs.StagingLemmas.{version-same}
@@ -28,7 +31,8 @@ use Rattle.lfs_staging.proofs.StagingLemmas.{version-same}
 still_waits : (old new : Parts) (number code n c : ℕ) → StagesAgain number code old new → Waits old n c → Waits new n c
 still_waits old new number code n zero h waits = h.records_still n waits
 still_waits old new number code n (suc c) h waits =
-    subst (λ version. IsLocked (key_of n version (suc c)) new.cache) (sym (version-same old new n h.same.log)) (h.frames_still _ waits)
+    subst (λ version. IsLocked (key_of n version (suc c)) new.cache) (sym (version-same old new n h.same.log))
+    (h.frames_still _ waits)
 
 -- nothing waits where nothing is there
 none_locked : (es : List (Key × List ℕ)) (key : Key) → es ≡ [] → IsSome (block_in key es) → ⊥
@@ -51,10 +55,12 @@ stages_none p staged settled =
       records = omega arith;
     }
 
-module _ (p q : Parts) (named : List BlockInfo) (i : ℕ) (low : i < length named) (h : StagesNamed (take i named) p q) where
+module _ (p q : Parts) (named : List BlockInfo) (i : ℕ) (low : i < length named)
+    (h : StagesNamed (take i named) p q) where
   -- an info names still what it named
   pub stages_named : (d : BlockInfo) → All (IsNamed (log_state p)) named → IsNamed (log_state q) (get_or named i d)
-  stages_named d are = named_kept (log_state p) (log_state q) (get_or named i d) (keys_kept p q h.same.log h.same.addresses) (are i d low)
+  stages_named d are = named_kept (log_state p) (log_state q) (get_or named i d)
+      (keys_kept p q h.same.log h.same.addresses) (are i d low)
 
   pub stages_frames : length q.cache.locked ≤ 3 * i
   stages_frames =
@@ -67,7 +73,8 @@ module _ (p q : Parts) (named : List BlockInfo) (i : ℕ) (low : i < length name
   pub stages_records : length q.waiting ≤ i
   stages_records =
       let most = distinct_count-le ◌==◌ (map number_named (take i named)) in
-      let long : length (map number_named (take i named)) ≡ length (take i named) = length-map (take i named) number_named in
+      let long : length (map number_named (take i named))
+      ≡ length (take i named) = length-map (take i named) number_named in
       let some = length-take-le i named (omega arith) in
       let records = h.records in
       omega arith
@@ -79,19 +86,25 @@ module _ (p q : Parts) (named : List BlockInfo) (i : ℕ) (low : i < length name
 
     -- each key that waits more is on the way to the block of this info, at its version
     only_frames : (key : Key) → IsLocked key r.cache → Contains (flat_map keys_to_mark (take (i + 1) named)) key
-    only_frames key locked = subst (λ keys. Contains keys key) (sym (keys_more named i d low)) (elim (again.frames key locked) [
-      | inl one ↦
-          let version : version_of q info.ino ≡ info.version = (named_there (log_state q) info (stages_named d are)).1 in
-          Contains-append_right (flat_map keys_to_mark (take i named)) (keys_to_mark info) key
-          (subst (Contains (keys_to_mark info)) (sym (one.2 ∙ ap (λ v. key_of info.ino v one.0) version)) (mapped (key_of info.ino info.version) (codes_to_mark (code_named info.lbn)) one.0 one.1))
-      | inr was ↦ Contains-append_left (flat_map keys_to_mark (take i named)) (keys_to_mark info) key (h.only_frames key was)
-    ])
+    only_frames key locked = subst (λ keys. Contains keys key) (sym (keys_more named i d low))
+        (elim (again.frames key locked) [
+          | inl one ↦
+              let version : version_of q info.ino ≡ info.version =
+              (named_there (log_state q) info (stages_named d are)).1 in
+              Contains-append_right (flat_map keys_to_mark (take i named)) (keys_to_mark info) key
+              (subst (Contains (keys_to_mark info)) (sym (one.2 ∙ ap (λ v. key_of info.ino v one.0) version))
+              (mapped (key_of info.ino info.version) (codes_to_mark (code_named info.lbn)) one.0 one.1))
+          | inr was ↦ Contains-append_left (flat_map keys_to_mark (take i named)) (keys_to_mark info) key
+              (h.only_frames key was)
+        ])
 
     only_records : (n : ℕ) → IsSome (waiting_in r.waiting n) → Contains (map number_named (take (i + 1) named)) n
-    only_records n waits = subst (λ numbers. Contains numbers n) (sym (numbers_more named i d low)) (elim (again.records n waits) [
-      | inl is ↦ subst (Contains (map number_named (take i named) ++ info.ino ∷ [])) (sym is) (Contains-push (map number_named (take i named)) info.ino)
-      | inr was ↦ Contains-append_left (map number_named (take i named)) (info.ino ∷ []) n (h.only_records n was)
-    ])
+    only_records n waits = subst (λ numbers. Contains numbers n) (sym (numbers_more named i d low))
+        (elim (again.records n waits) [
+          | inl is ↦ subst (Contains (map number_named (take i named) ++ info.ino ∷ [])) (sym is)
+              (Contains-push (map number_named (take i named)) info.ino)
+          | inr was ↦ Contains-append_left (map number_named (take i named)) (info.ino ∷ []) n (h.only_records n was)
+        ])
 
     pub stages_more : StagesNamed (take (i + 1) named) p r
     stages_more = record {

@@ -17,15 +17,19 @@ module _ (xs : List Change) (i : ℕ) (d : Change) (low : i < length xs) (is : d
   pub next_applied : (c new : Content) → new ≡ changed d c → applied (drop (i + 1) xs) new ≡ applied (drop i xs) c
   next_applied c new made = ap (applied (drop (i + 1) xs)) made ∙ sym (ap (λ ys. applied ys c) next_first)
 
-  pub next_versions : (number version : ℕ) → versions_after (drop (i + 1) xs) number (version_after d number version) ≡ versions_after (drop i xs) number version
+  pub next_versions : (number version : ℕ) → versions_after (drop (i + 1) xs) number (version_after d number version)
+      ≡ versions_after (drop i xs) number version
   next_versions number version = sym (ap (λ ys. versions_after ys number version) next_first)
 
-  pub next_can : (n : ℕ) (c : Content) → CanChangeAll n (drop i xs) c → CanChange n d c × CanChangeAll n (drop (i + 1) xs) (changed d c)
+  pub next_can : (n : ℕ) (c : Content) → CanChangeAll n (drop i xs) c → CanChange n d c
+      × CanChangeAll n (drop (i + 1) xs) (changed d c)
   next_can n c can = subst (λ ys. CanChangeAll n ys c) next_first can
 
-  pub rest_can : (n m : ℕ) (c new : Content) → CanChangeAll n (drop i xs) c → m ≡ n → new ≡ changed d c → CanChangeAll m (drop (i + 1) xs) new
+  pub rest_can : (n m : ℕ) (c new : Content) → CanChangeAll n (drop i xs) c → m ≡ n → new ≡ changed d c
+      → CanChangeAll m (drop (i + 1) xs) new
   rest_can n m c new can same made =
-      subst (λ k. CanChangeAll k (drop (i + 1) xs) new) (sym same) (subst (CanChangeAll n (drop (i + 1) xs)) (sym made) (next_can n c can).1)
+      subst (λ k. CanChangeAll k (drop (i + 1) xs) new) (sym same)
+      (subst (CanChangeAll n (drop (i + 1) xs)) (sym made) (next_can n c can).1)
 
   pub next_peak : peak_of_all (drop i xs) ≡ max (peak_of d) (frames_of d + peak_of_all (drop (i + 1) xs))
   next_peak = ap peak_of_all next_first

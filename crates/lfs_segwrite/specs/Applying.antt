@@ -1,5 +1,6 @@
 -- Changes of a store's content, made one after another, and written all together.
-use Rattle.std.specs.Prelude.{◌≡◌, ◌≢◌, ◌⊎◌, ◌||◌, ℕ, ◌+◌, ◌*◌, ◌/◌, ◌<◌, ◌≤◌, Bool, true, false, List, [], ◌∷◌, length, max, nat_lt, if◌then◌else◌, ◌==◌, sum_by, Option, None, Some}
+use Rattle.std.specs.Prelude.{◌≡◌, ◌≢◌, ◌⊎◌, ◌||◌, ℕ, ◌+◌, ◌*◌, ◌/◌, ◌<◌, ◌≤◌, Bool, true, false, List, [], ◌∷◌, length}
+use Rattle.std.specs.Prelude.{max, nat_lt, if◌then◌else◌, ◌==◌, sum_by, Option, None, Some}
 use Rattle.std.specs.List.{list_any}
 use Rattle.lfs_types.specs.Changes.{applied, changed}
 use Rattle.lfs_types.specs.Stored.{bytes_of, shown_attrs}
@@ -39,7 +40,8 @@ abbrev pub IsInReach : Change → Type 0
 IsInReach (Make ino attrs) = Unit {0}
 IsInReach (Remove ino) = Unit {0}
 IsInReach (SetAttrs ino attrs) = Unit {0}
-IsInReach (Put ino off bytes) = (length bytes.now ≤ TRANSFER_BYTES) × (0 < length bytes.now → off + length bytes.now ≤ FILE_BYTES)
+IsInReach (Put ino off bytes) = (length bytes.now ≤ TRANSFER_BYTES)
+    × (0 < length bytes.now → off + length bytes.now ≤ FILE_BYTES)
 IsInReach (SetLength ino len) = len ≤ FILE_BYTES
 
 -- the frames that changes take at most
@@ -97,7 +99,8 @@ abbrev pub versions_after : List Change → ℕ → ℕ → ℕ
 versions_after [] number version = version
 versions_after (change ∷ changes) number version = versions_after changes number (version_after change number version)
 
--- The parts are staged with this content and these versions, by at most so many frames and so many records more. Nothing was
+-- The parts are staged with this content and these versions, by at most so many frames and so many records more.
+-- Nothing was
 -- written.
 pub record StagesTo (content : Content) (versions : ℕ → ℕ → ℕ) (frames records : ℕ) (old new : Parts) : Type 0 where
   pub staged : IsStaged new 0
@@ -109,11 +112,13 @@ pub record StagesTo (content : Content) (versions : ℕ → ℕ → ℕ) (frames
 
 -- a change waits
 abbrev pub StagesChange : Change → Parts → Parts → Type 0
-StagesChange change old new = StagesTo (changed change (content_of old)) (version_after change) (frames_of change) (records_of change) old new
+StagesChange change old new = StagesTo (changed change (content_of old)) (version_after change) (frames_of change)
+    (records_of change) old new
 
 -- changes wait, in order
 abbrev pub StagesAll : List Change → Parts → Parts → Type 0
-StagesAll changes old new = StagesTo (applied changes (content_of old)) (versions_after changes) (frames_of_all changes) (records_of_all changes) old new
+StagesAll changes old new = StagesTo (applied changes (content_of old)) (versions_after changes) (frames_of_all changes)
+    (records_of_all changes) old new
 
 -- Blocks were written at the log's end, perhaps in a clean segment that was opened for them. No key came to lie in a
 -- segment that was dirty, each of these is dirty still, and no block that was written is another.
@@ -135,8 +140,10 @@ waiting_blocks p = blocks_of_entries (entries_of p)
 pub record HasRoom (p : Parts) : Type 0 where
   pub room : (waiting_blocks p ≤ room_of p.log.memory) ⊎ (0 < p.log.clean)
 
--- All that waited was written as one partial segment: where the log ended, or at the start of a segment that was opened for
--- it, where it had no room. The content is the same, nothing waits, and each key that did not wait has the place that it
+-- All that waited was written as one partial segment: where the log ended, or at the start of a segment that was opened
+-- for
+-- it, where it had no room. The content is the same, nothing waits, and each key that did not wait has the place that
+-- it
 -- had.
 pub record WritesWaiting (old new : Parts) : Type 0 where
   pub store : IsStore new
@@ -168,9 +175,11 @@ peak_of_all (change ∷ changes) = max (peak_of change) (frames_of change + peak
 -- changes could have more wait than may wait
 abbrev pub passes_limits : Parts → List Change → Bool
 passes_limits p changes =
-    nat_lt LOCKED_LIMIT (length p.cache.locked + peak_of_all changes) || nat_lt WAITING_LIMIT (length p.waiting + length changes)
+    nat_lt LOCKED_LIMIT (length p.cache.locked + peak_of_all changes) || nat_lt WAITING_LIMIT (length p.waiting
+    + length changes)
 
--- There is room for so many blocks that are to be written for any changes: more than two segments are clean, or two, and the
+-- There is room for so many blocks that are to be written for any changes: more than two segments are clean, or two,
+-- and the
 -- blocks fit the active one.
 abbrev pub HasRoomToTake : ℕ → Parts → Type 0
 HasRoomToTake blocks p = (2 < p.log.clean) ⊎ ((p.log.clean ≡ 2) × (blocks ≤ room_of p.log.memory))
@@ -198,11 +207,15 @@ pub record MakesWay (changes : List Change) (old new : Parts) : Type 0 where
   pub store : IsStore new
   pub frames : length new.cache.locked + peak_of_all changes ≤ LOCKED_LIMIT
   pub records : length new.waiting + length changes ≤ WAITING_LIMIT
-  pub either : ((passes_limits old changes ≡ false) × (new ≡ old)) ⊎ ((passes_limits old changes ≡ true) × WritesWaiting old new)
+  pub either : ((passes_limits old changes ≡ false) × (new ≡ old))
+      ⊎ ((passes_limits old changes ≡ true) × WritesWaiting old new)
 
--- What waited before them was written where with the changes more could wait than may, and nothing else was. Then all the
--- changes were made, in order, and wait, with nothing beside them. A number that was made has the version behind its last,
--- each other one the version that it had. One segment was opened at most, and only where what waited had no room and the
+-- What waited before them was written where with the changes more could wait than may, and nothing else was. Then all
+-- the
+-- changes were made, in order, and wait, with nothing beside them. A number that was made has the version behind its
+-- last,
+-- each other one the version that it had. One segment was opened at most, and only where what waited had no room and
+-- the
 -- changes had some; two stay clean where the changes may not use what is kept back.
 pub record MakesChanges (by : Reserve) (changes : List Change) (old new : Parts) : Type 0 where
   pub store : IsStore new
@@ -210,7 +223,8 @@ pub record MakesChanges (by : Reserve) (changes : List Change) (old new : Parts)
   pub content : content_of new ≡ applied changes (content_of old)
   pub versions : (number : ℕ) → version_of new number ≡ versions_after changes number (version_of old number)
   pub log : WritesAhead old new
-  pub reserve : new.log.clean < old.log.clean → HasRoomFor by changes old × ((may_use_reserve by (content_of old) changes ≡ true) ⊎ (2 < old.log.clean))
+  pub reserve : new.log.clean < old.log.clean → HasRoomFor by changes old
+      × ((may_use_reserve by (content_of old) changes ≡ true) ⊎ (2 < old.log.clean))
   pub opened : old.log.clean ≤ new.log.clean + 1
   pub enough : waiting_blocks old ≤ room_of old.log.memory → new.log.clean ≡ old.log.clean
   pub delayed : passes_limits old changes ≡ false → StaysInLog old new

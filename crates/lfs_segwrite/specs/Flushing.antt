@@ -17,8 +17,10 @@ abbrev pub Waits : Parts → ℕ → ℕ → Type 0
 Waits p number zero = IsSome (waiting_in p.waiting number)
 Waits p number (suc code) = IsLocked (key_of number (version_of p number) (suc code)) p.cache
 
--- All that waited was written as one partial segment, behind what the active segment held: one summary and the blocks that
--- it names, and nothing where nothing waited. The content is the same. Each key that waited has a place there, every other
+-- All that waited was written as one partial segment, behind what the active segment held: one summary and the blocks
+-- that
+-- it names, and nothing where nothing waited. The content is the same. Each key that waited has a place there, every
+-- other
 -- one the place that it had, and no other block changed.
 pub record Flushes (old new : Parts) : Type 0 where
   pub store : IsStore new
@@ -36,6 +38,7 @@ pub record Flushes (old new : Parts) : Type 0 where
   pub moved : (number code : ℕ) → number < length old.log.tables.rows → code < BLOCK_CODES → Waits old number code
       → (next_address old.log.memory ≤ (log_state new).at number code / 4)
       × ((log_state new).at number code / 4 < next_address new.log.memory)
-  pub blocks : (a : ℕ) → (a < next_address old.log.memory) ⊎ (SEGMENT_BLOCKS * old.log.memory.active + SEGMENT_BLOCKS ≤ a)
+  pub blocks : (a : ℕ) → (a < next_address old.log.memory)
+      ⊎ (SEGMENT_BLOCKS * old.log.memory.active + SEGMENT_BLOCKS ≤ a)
       → block_at new.log.memory a ≡ block_at old.log.memory a
   pub grown : next_address new.log.memory ≡ next_address old.log.memory + blocks_of_entries (entries_of old)

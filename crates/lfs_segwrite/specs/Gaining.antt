@@ -1,5 +1,6 @@
 -- What it takes to clean a segment, and when that gains room.
-use Rattle.std.specs.Prelude.{◌≡◌, ◌⊎◌, ℕ, zero, suc, ◌+◌, ◌*◌, ◌/◌, ◌<◌, ◌≤◌, ◌&&◌, ◌==◌, Bool, not, List, All, drop, length, max, take}
+use Rattle.std.specs.Prelude.{◌≡◌, ◌⊎◌, ℕ, zero, suc, ◌+◌, ◌*◌, ◌/◌, ◌<◌, ◌≤◌, ◌&&◌, ◌==◌, Bool, not, List, All, drop}
+use Rattle.std.specs.Prelude.{length, max, take}
 use Rattle.std.specs.List.{filter}
 use Rattle.lfs_types.specs.declared.cleaner.BlockInfo.{BlockInfo}
 use Rattle.lfs_types.specs.declared.cleaner.TheConstants.{MARK_LIMIT}
@@ -62,8 +63,10 @@ pass_blocks p segment = blocks_by_eights (live_infos p segment)
 abbrev pub widest : Parts → ℕ → ℕ
 widest p segment = widest_eight (live_infos p segment)
 
--- So many blocks, of which so many are written at once at most, are less than a segment has, and can be written: in what the
--- active one has left; or with a clean segment, where what is left behind in the active one, less than is written at once, is
+-- So many blocks, of which so many are written at once at most, are less than a segment has, and can be written: in
+-- what the
+-- active one has left; or with a clean segment, where what is left behind in the active one, less than is written at
+-- once, is
 -- made up for too.
 abbrev pub IsWorth : ℕ → ℕ → Parts → Type 0
 IsWorth blocks most p =
@@ -90,7 +93,8 @@ pub record ExceedsRoom (marks : List BlockInfo) (p : Parts) : Type 0 where
   pub none : p.log.clean ≡ 0
   pub short : room_of p.log.memory < blocks_to_mark named
 
--- So many blocks were written at most, and so many at once at most: where the log ended; or, where they had no room there, some
+-- So many blocks were written at most, and so many at once at most: where the log ended; or, where they had no room
+-- there, some
 -- of them in a segment that was opened, and what was left in the one before was less than was written at once.
 abbrev pub Spends : ℕ → ℕ → Parts → Parts → Type 0
 Spends blocks most old new =
@@ -98,7 +102,8 @@ Spends blocks most old new =
     ⊎ ((new.log.clean + 1 ≡ old.log.clean) × (WHOLE ≤ room_of new.log.memory + blocks)
     × (room_of old.log.memory + WHOLE < room_of new.log.memory + blocks + most) × (room_of old.log.memory < blocks))
 
--- Blocks were written again, with what they had. What moved went to segments that weren't dirty; these are dirty still, and
+-- Blocks were written again, with what they had. What moved went to segments that weren't dirty; these are dirty still,
+-- and
 -- their blocks are what they were.
 pub record MovesBlocks (old new : Parts) : Type 0 where
   pub store : IsStore new
@@ -113,22 +118,26 @@ pub record MovesBlocks (old new : Parts) : Type 0 where
   pub blocks : (a : ℕ) → a / SEGMENT_BLOCKS < old.log.memory.segments → DirtyIn (log_state old) (a / SEGMENT_BLOCKS)
       → block_at new.log.memory a ≡ block_at old.log.memory a
 
--- The blocks of the first so many eights of some infos were written again, so that none of these infos names a block now. Each
+-- The blocks of the first so many eights of some infos were written again, so that none of these infos names a block
+-- now. Each
 -- key that is on no way to one of them has the place that it had.
 pub record MovesEights (infos : List BlockInfo) (count : ℕ) (old new : Parts) : Type 0 where
   pub moved : MovesBlocks old new
   pub gone : All (λ (info : BlockInfo). IsNamed (log_state new) info → ⊥) (take (MARK_LIMIT * count) infos)
-  pub still : (number code : ℕ) → number < length old.log.tables.rows → code < BLOCK_CODES → (IsOnWay infos old number code → ⊥)
+  pub still : (number code : ℕ) → number < length old.log.tables.rows → code < BLOCK_CODES
+      → (IsOnWay infos old number code → ⊥)
       → (log_state new).at number code ≡ (log_state old).at number code
   pub spent : Spends (total (eight_blocks infos) count) (widest_eight infos) old new
 
--- A dirty segment was emptied: no block is left in it, and what it took was counted before. Each key that was on no way to one
+-- A dirty segment was emptied: no block is left in it, and what it took was counted before. Each key that was on no way
+-- to one
 -- of its blocks has the place that it had.
 pub record Empties (segment : ℕ) (old new : Parts) : Type 0 where
   pub moved : MovesBlocks old new
   pub dirty : state_of new.log.tables segment ≡ Dirty
   pub empty : live_of new.log.tables segment ≡ 0
-  pub still : (number code : ℕ) → number < length old.log.tables.rows → code < BLOCK_CODES → (IsOnWay (live_infos old segment) old number code → ⊥)
+  pub still : (number code : ℕ) → number < length old.log.tables.rows → code < BLOCK_CODES
+      → (IsOnWay (live_infos old segment) old number code → ⊥)
       → (log_state new).at number code ≡ (log_state old).at number code
   pub spent : Spends (pass_blocks old segment) (widest old segment) old new
   pub gains : space old < space new + WHOLE

@@ -34,7 +34,8 @@ pub record ExpectsBlock (m : SegmentMemory) (entry : SummaryEntry) : Type 0 wher
   pub rest : List SummaryEntry
   pub expects : Expects m (entry ∷ rest)
 
--- A block was put at the log's end, where no block of a file lay: each record, and the block at each other address, is as
+-- A block was put at the log's end, where no block of a file lay: each record, and the block at each other address, is
+-- as
 -- it was.
 pub record AppendsBlock (old new : Parts) (a : ℕ) (block : List ℕ) : Type 0 where
   pub end : a ≡ next_address old.log.memory
@@ -63,12 +64,15 @@ pub record MayLand (p : Parts) (v : Inode) (block : FileBlock) : Type 0 where
 pub record LandsBlock (old new : Parts) (v : Inode) (block : FileBlock) (a : ℕ) : Type 0 where
   pub lands : (i : ℕ) (up : List ℕ) → way_to block ≡ i ∷ up → Lands (tree_of old v.number) (tree_of new v.number) i up a
   pub records : (number : ℕ) → number ≢ v.number → record_of new number ≡ record_of old number
-  pub readings : (number : ℕ) → number < length old.log.tables.rows → number ≢ v.number → SameReadings (tree_of old number) (tree_of new number)
-  pub file_data : (number n : ℕ) → number < length old.log.tables.rows → data_block (tree_of new number) n ≡ data_block (tree_of old number) n
+  pub readings : (number : ℕ) → number < length old.log.tables.rows → number ≢ v.number
+      → SameReadings (tree_of old number) (tree_of new number)
+  pub file_data : (number n : ℕ) → number < length old.log.tables.rows → data_block (tree_of new number) n
+      ≡ data_block (tree_of old number) n
   pub rows : new.log.tables.rows ≡ old.log.tables.rows
   pub settled : block_in (key_of v.number v.version (code_of block)) new.cache.locked ≡ None
 
--- A key took a place in the block at an address that the log just got, at its end: every other key kept the place that it
+-- A key took a place in the block at an address that the log just got, at its end: every other key kept the place that
+-- it
 -- had. Live bytes apart, nothing else of the log changed.
 pub record GetsPlace (old new : Parts) (number code a place : ℕ) : Type 0 where
   pub end : a ≡ next_address old.log.memory

@@ -1,5 +1,6 @@
 -- Blocks that are written again at the log's end, as a cleaner asks.
-use Rattle.std.specs.Prelude.{◌≡◌, ◌≢◌, ◌⊎◌, ℕ, zero, suc, ◌+◌, ◌/◌, ◌<◌, ◌≤◌, ◌==◌, false, List, [], ◌∷◌, ◌++◌, All, Contains, AllPairs, length, map, min, if◌then◌else◌, nat_lt, IsSome}
+use Rattle.std.specs.Prelude.{◌≡◌, ◌≢◌, ◌⊎◌, ℕ, zero, suc, ◌+◌, ◌/◌, ◌<◌, ◌≤◌, ◌==◌, false, List, [], ◌∷◌, ◌++◌, All}
+use Rattle.std.specs.Prelude.{Contains, AllPairs, length, map, min, if◌then◌else◌, nat_lt, IsSome}
 use Rattle.std.specs.List.{flat_map}
 use Rattle.std.specs.Set.{distinct_count}
 use Rattle.lfs_types.specs.declared.cleaner.BlockInfo.{BlockInfo}
@@ -48,9 +49,11 @@ pub record AreNamed (l : LogState) (marks named : List BlockInfo) : Type 0 where
 -- an info was added to a list, if it names a block and wasn't there
 abbrev pub AddsNamed : LogState → BlockInfo → List BlockInfo → List BlockInfo → Type 0
 AddsNamed l info old new =
-    ((new ≡ old) × (IsNamed l info → Contains old info)) ⊎ ((new ≡ old ++ info ∷ []) × IsNamed l info × (Contains old info → ⊥))
+    ((new ≡ old) × (IsNamed l info → Contains old info))
+    ⊎ ((new ≡ old ++ info ∷ []) × IsNamed l info × (Contains old info → ⊥))
 
--- the codes of the blocks on the way to the block with a code, but for the record's; none where no file can have the block
+-- the codes of the blocks on the way to the block with a code, but for the record's; none where no file can have the
+-- block
 unfoldable pub codes_to_mark : ℕ → List ℕ
 codes_to_mark code = if nat_lt code BLOCK_CODES then codes_on (way_of code) else []
 
@@ -62,7 +65,8 @@ keys_to_mark info = map (key_of info.ino info.version) (codes_to_mark (code_name
 abbrev pub number_named : BlockInfo → ℕ
 number_named info = info.ino
 
--- the frames that the blocks of some infos take at most: one for each block on the ways to them, though it be on several
+-- the frames that the blocks of some infos take at most: one for each block on the ways to them, though it be on
+-- several
 abbrev pub frames_to_mark : List BlockInfo → ℕ
 frames_to_mark named = distinct_count same_key (flat_map keys_to_mark named)
 
@@ -81,7 +85,8 @@ pub record SameShown (old new : Parts) : Type 0 where
   pub blocks : (n m : ℕ) → data_block (tree_of new n) m ≡ data_block (tree_of old n) m
   pub addresses : (n : ℕ) (way : List ℕ) → IsBlockWay way → address (tree_of new n) way ≡ address (tree_of old n) way
 
--- The block with a code of a number waits with what it had, and what waited does still. What waits more is on the way to it.
+-- The block with a code of a number waits with what it had, and what waited does still. What waits more is on the way
+-- to it.
 pub record StagesAgain (number code : ℕ) (old new : Parts) : Type 0 where
   pub same : SameShown old new
   pub waits : Waits new number code
@@ -90,7 +95,8 @@ pub record StagesAgain (number code : ℕ) (old new : Parts) : Type 0 where
   pub frames : TakesOnly number (version_of old number) (codes_to_mark code) old.cache new.cache
   pub records : (n : ℕ) → IsSome (waiting_in new.waiting n) → (n ≡ number) ⊎ IsSome (waiting_in old.waiting n)
 
--- So do the blocks of some infos, where nothing waited. What waits is on the ways to them, and no more than was reckoned.
+-- So do the blocks of some infos, where nothing waited. What waits is on the ways to them, and no more than was
+-- reckoned.
 pub record StagesNamed (named : List BlockInfo) (old new : Parts) : Type 0 where
   pub same : SameShown old new
   pub staged : IsStaged new 0
@@ -100,11 +106,13 @@ pub record StagesNamed (named : List BlockInfo) (old new : Parts) : Type 0 where
   pub frames : length new.cache.locked ≤ frames_to_mark named
   pub records : length new.waiting ≤ records_to_mark named
 
--- a key is written again for some infos: the record of a number that one of them has, or a block on the way to the block
+-- a key is written again for some infos: the record of a number that one of them has, or a block on the way to the
+-- block
 -- of one
 abbrev pub IsOnWay : List BlockInfo → Parts → ℕ → ℕ → Type 0
 IsOnWay named p number zero = Contains (map number_named named) number
-IsOnWay named p number (suc code) = Contains (flat_map keys_to_mark named) (key_of number (version_of p number) (suc code))
+IsOnWay named p number (suc code) = Contains (flat_map keys_to_mark named)
+    (key_of number (version_of p number) (suc code))
 
 -- A block has another place, outside the segments that were dirty.
 pub record IsRewritten (old new : LogState) (info : BlockInfo) : Type 0 where
@@ -112,7 +120,8 @@ pub record IsRewritten (old new : LogState) (info : BlockInfo) : Type 0 where
   pub elsewhere : new.at info.ino (code_named info.lbn) ≢ old.at info.ino (code_named info.lbn)
   pub outside : DirtyIn old (seg_of (new.at info.ino (code_named info.lbn))) → ⊥
 
--- Behind so many blocks some segment can still be cleaned in what the active segment and a clean one have left, with some to
+-- Behind so many blocks some segment can still be cleaned in what the active segment and a clean one have left, with
+-- some to
 -- spare.
 abbrev pub LeavesCleanable : ℕ → Parts → Type 0
 LeavesCleanable blocks p = (s : ℕ) × HasCleanable p false (blocks + SPARE) (room_of p.log.memory + WHOLE) s
@@ -136,9 +145,11 @@ pub record LacksRoomFor (marks : List BlockInfo) (p : Parts) : Type 0 where
   pub are_named : AreNamed (log_state p) marks named
   pub lacks : LacksRoomToMark (blocks_to_mark named) p
 
--- The blocks that some infos name were written again, so many, and nothing was done where none is named. Each key that is on
+-- The blocks that some infos name were written again, so many, and nothing was done where none is named. Each key that
+-- is on
 -- no way to one of them has the place that it had, and the log grew by no more than the blocks that they take: where it
--- ended, or from the start of a segment that was opened for them, where they had no room. What moved went to segments that
+-- ended, or from the start of a segment that was opened for them, where they had no room. What moved went to segments
+-- that
 -- weren't dirty. No block changed that was written before, and no segment became clean.
 pub record MarksSettled (marks : List BlockInfo) (count : ℕ) (old new : Parts) : Type 0 where
   pub named : List BlockInfo
@@ -158,15 +169,18 @@ pub record MarksSettled (marks : List BlockInfo) (count : ℕ) (old new : Parts)
   pub enough : blocks_to_mark named ≤ room_of old.log.memory → new.log.clean ≡ old.log.clean
   pub dirty : StaysDirty (log_state old) (log_state new)
   pub none : count ≡ 0 → new ≡ old
-  pub still : (number code : ℕ) → number < length old.log.tables.rows → code < BLOCK_CODES → (IsOnWay named old number code → ⊥)
+  pub still : (number code : ℕ) → number < length old.log.tables.rows → code < BLOCK_CODES
+      → (IsOnWay named old number code → ⊥)
       → (log_state new).at number code ≡ (log_state old).at number code
   pub left : ((new.log.memory.active ≡ old.log.memory.active)
       × (room_of old.log.memory ≤ room_of new.log.memory + blocks_to_mark named) × (new.log.clean ≡ old.log.clean))
       ⊎ ((SEGMENT_BLOCKS ≤ room_of new.log.memory + blocks_to_mark named + 1) × (new.log.clean + 1 ≡ old.log.clean)
       × (room_of old.log.memory < blocks_to_mark named))
 
--- What waits was written first. Then the blocks that some infos name, as the map then stood, were written again, so many.
--- What moved went to segments that weren't dirty, these are dirty still, and two segments were opened at most. Where one
+-- What waits was written first. Then the blocks that some infos name, as the map then stood, were written again, so
+-- many.
+-- What moved went to segments that weren't dirty, these are dirty still, and two segments were opened at most. Where
+-- one
 -- was clean at most, and is by then, blocks were written only where a segment can be cleaned behind them.
 pub record MarksAgain (marks : List BlockInfo) (count : ℕ) (old new : Parts) : Type 0 where
   pub between : Parts

@@ -29,7 +29,8 @@ pub record Advances (from : ℕ) (old new : Parts) : Type 0 where
   pub used : (number : ℕ) → (row_of new.log.tables number).used ≡ (row_of old.log.tables number).used
   pub versions : (number : ℕ) → version_of new number ≡ version_of old number
   pub next : next_address old.log.memory ≤ next_address new.log.memory
-  pub only : (number code : ℕ) → number < length old.log.tables.rows → code < BLOCK_CODES → Waits new number code → Waits old number code
+  pub only : (number code : ℕ) → number < length old.log.tables.rows → code < BLOCK_CODES → Waits new number code
+      → Waits old number code
   pub still : (number code : ℕ) → number < length old.log.tables.rows → code < BLOCK_CODES → (Waits old number code → ⊥)
       → (log_state new).at number code ≡ (log_state old).at number code
   pub moved : (number code : ℕ) → number < length old.log.tables.rows → code < BLOCK_CODES → Waits old number code

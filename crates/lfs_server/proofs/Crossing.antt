@@ -5,7 +5,8 @@ use mir.Syntax.{Sym, Ty}
 use denote.Exit.{Kept}
 use denote.RattleType.{RattleType}
 use denote.Param.{arg, param}
-use denote.Param.Send.{AllSend, IsSend, IsSync, arg_send, param_send, recorded_send, recorded_send_at, recorded_send_of, SendAt, sendable, shr_send, struct_send, struct_send_at, view_send}
+use denote.Param.Send.{AllSend, IsSend, IsSync, arg_send, param_send, recorded_send, recorded_send_at, recorded_send_of}
+use denote.Param.Send.{SendAt, sendable, shr_send, struct_send, struct_send_at, view_send}
 use denote.Ref.{NamedLft}
 use denote.Struct.Declared as declared
 use denote.Struct.Tuple.{TupleAt, field_at, type_at}
@@ -32,27 +33,39 @@ kept_send S F s g a b =
     view_send _ _ _ _ _ (recorded_send (the_field S F s g).row _ _ T.to_one (struct_send (declared.shape T) all))
 
 -- all threads may share it behind its lock
-pub locked_sync : (S F : RattleType) (s : Sizes S.Denot) (g : Ghosts F.Denot) → IsSend S → IsSend F → IsSync (mutex_row (the_row S F s g))
+pub locked_sync : (S F : RattleType) (s : Sizes S.Denot) (g : Ghosts F.Denot) → IsSend S → IsSend F
+    → IsSync (mutex_row (the_row S F s g))
 locked_sync S F s g a b =
     let keeps : IsSend (the_row S F s g) = kept_send S F s g a b in search (crosses, keeps)
 
 -- a closure may go where all that it captures may
-pub closure_send : (i : ℕ) (δ : Ty) (k : Kept) (ν : Sym) (Rs : List RattleType) → AllSend (declared.fields (type_at ν Rs)) → IsSend (param i (arg δ k (TupleAt ν Rs)))
+pub closure_send : (i : ℕ) (δ : Ty) (k : Kept) (ν : Sym) (Rs : List RattleType)
+    → AllSend (declared.fields (type_at ν Rs)) → IsSend (param i (arg δ k (TupleAt ν Rs)))
 closure_send i δ k ν Rs all =
     let T = type_at ν Rs in
-    param_send i (arg δ k (TupleAt ν Rs)) (arg_send δ k (TupleAt ν Rs) (recorded_send (field_at ν Rs).row _ _ T.to_one (struct_send (declared.shape T) all)))
+    param_send i (arg δ k (TupleAt ν Rs)) (arg_send δ k (TupleAt ν Rs)
+    (recorded_send (field_at ν Rs).row _ _ T.to_one (struct_send (declared.shape T) all)))
 
 -- what holds of a type's values holds of each
 send_at : (R : RattleType) → IsSend R → (x : R.Denot) → SendAt R x
 send_at R goes x = (goes.owned x, λ k. goes.leaving k x)
 
 -- a server of a client may go to a thread
-pub server_send : (a : NamedLft) (S R F G : RattleType) (s : Sizes S.Denot) (g : Ghosts F.Denot) → IsSend S → IsSync R → IsSend F → IsSync G → IsSend (server.the_row a S R F G s g)
+pub server_send : (a : NamedLft) (S R F G : RattleType) (s : Sizes S.Denot) (g : Ghosts F.Denot) → IsSend S → IsSync R
+    → IsSend F → IsSync G → IsSend (server.the_row a S R F G s g)
 server_send a S R F G s g send_S sync_R send_F sync_G =
     let T = server.the_type a S R F G s g in
     let runs : IsSync (run_row a R G) = search (sendable, run.the_sync, sync_R, sync_G) in
     let locked = locked_sync S F s g send_S send_F in
     let tells : IsSync (mutex_row told_row) = search (sendable, crosses, told.the_send) in
     recorded_send_of (server.the_field a S R F G s g).row _ _ T.to_one
-    (λ d. struct_send_at (declared.shape T) (T.to d)
-    (send_at _ (shr_send a.mir a.lft _ runs) _, (send_at _ (shr_send a.mir a.lft _ locked) _, (send_at _ (shr_send a.mir a.lft _ tells) _, (recorded_send_at (button_field).row _ _ button_type.to_one button.the_send d.button, tt)))))
+    (λ d. struct_send_at (declared.shape T) (T.to d) (
+      send_at _ (shr_send a.mir a.lft _ runs) _,
+      (
+        send_at _ (shr_send a.mir a.lft _ locked) _,
+        (
+          send_at _ (shr_send a.mir a.lft _ tells) _,
+          (recorded_send_at (button_field).row _ _ button_type.to_one button.the_send d.button, tt),
+        ),
+      ),
+    ))

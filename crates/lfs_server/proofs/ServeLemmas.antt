@@ -15,7 +15,8 @@ use Rattle.lfs_volume.specs.Journals.{Begins, IsJournal, Since}
 use Rattle.lfs_volume.specs.Seen.{Seen}
 use Rattle.lfs_logstore.specs.States.{opening_state, state_of}
 
-serve_fault : (sessions segments inodes frames : ℕ) (fault : ServeFault) → IsInRange segments inodes frames → IsFaultOf sessions fault → IsServeFault sessions segments inodes frames fault
+serve_fault : (sessions segments inodes frames : ℕ) (fault : ServeFault) → IsInRange segments inodes frames
+    → IsFaultOf sessions fault → IsServeFault sessions segments inodes frames fault
 serve_fault sessions segments inodes frames Sessions ranges p = p
 serve_fault sessions segments inodes frames (Format fault) ranges (run, some, few) = absurd run
 serve_fault sessions segments inodes frames Memory ranges (run, some, few) = (some, few, ranges)
@@ -23,12 +24,16 @@ serve_fault sessions segments inodes frames (Unsettled session) ranges (run, som
 serve_fault sessions segments inodes frames Thread ranges (run, some, few) = (some, few, ranges)
 
 -- the fault of a run over a volume is one of the run on a volume that is laid out
-pub serve_faults : {A : Type 0} (sessions segments inodes frames : ℕ) (result : Result A ServeFault) → IsInRange segments inodes frames → IfErr result (IsFaultOf sessions) → IfErr result (IsServeFault sessions segments inodes frames)
+pub serve_faults : {A : Type 0} (sessions segments inodes frames : ℕ) (result : Result A ServeFault)
+    → IsInRange segments inodes frames → IfErr result (IsFaultOf sessions)
+    → IfErr result (IsServeFault sessions segments inodes frames)
 serve_faults sessions segments inodes frames (Ok a) ranges p = tt
-serve_faults sessions segments inodes frames (Err fault) ranges p = serve_fault sessions segments inodes frames fault ranges p
+serve_faults sessions segments inodes frames (Err fault) ranges p =
+    serve_fault sessions segments inodes frames fault ranges p
 
 -- a run is not made for a fault of laying out its volume
-pub layout_fault : (sessions segments inodes frames : ℕ) (fault : FormatFault) → (0 < sessions) × (sessions ≤ 8) → IsFormatFault segments inodes frames fault
+pub layout_fault : (sessions segments inodes frames : ℕ) (fault : FormatFault) → (0 < sessions) × (sessions ≤ 8)
+    → IsFormatFault segments inodes frames fault
     → IsServeFault sessions segments inodes frames (served_fault fault)
 layout_fault sessions segments inodes frames TooFew few p = (p, few.0, few.1)
 layout_fault sessions segments inodes frames TooMany few p = (p, few.0, few.1)
@@ -44,15 +49,21 @@ pub no_fault : {A E : Type 0} (a : A) (e : E) → Ok a ≡ Err e → ⊥
 no_fault {A} {E} a e eq = subst (λ (r : Result A E). IfOk r (λ _. ⊥)) (sym eq) tt
 
 -- a log that was just laid out is fresh
-pub fresh_log : (segments inodes frames : ℕ) (store : Parts) → state_of store ≡ opening_state segments inodes → IsOpening segments inodes frames store → IsFreshLog segments inodes frames store
+pub fresh_log : (segments inodes frames : ℕ) (store : Parts) → state_of store ≡ opening_state segments inodes
+    → IsOpening segments inodes frames store → IsFreshLog segments inodes frames store
 fresh_log segments inodes frames store opening laid_out = record { opening = opening; laid_out = laid_out }
 
 -- where a run began on a volume that shows the opening tree, its journal is legal from there
-pub legal_from_opening : {F C E : Type 0} (state : F → StoreState) (volume : C → Seen F) (result : Result C E) (old : Seen F) → Begins (state old.since) old.since_level opening_world
-    → IfOk result (λ c. state (volume c).since ≡ state old.since) → IfOk result (λ c. (volume c).since_level ≡ old.since_level)
-    → IfOk result (λ c. Since (state (volume c).since) (volume c).since_level (λ from. IsJournal from (state (volume c).store) (volume c).level (volume c).journal (volume c).limit))
-    → IfOk result (λ c. IsJournal opening_world (state (volume c).store) (volume c).level (volume c).journal (volume c).limit)
+pub legal_from_opening : {F C E : Type 0} (state : F → StoreState) (volume : C → Seen F) (result : Result C E)
+    (old : Seen F) → Begins (state old.since) old.since_level opening_world
+    → IfOk result (λ c. state (volume c).since ≡ state old.since)
+    → IfOk result (λ c. (volume c).since_level ≡ old.since_level)
+    → IfOk result (λ c. Since (state (volume c).since) (volume c).since_level
+    (λ from. IsJournal from (state (volume c).store) (volume c).level (volume c).journal (volume c).limit))
+    → IfOk result (λ c. IsJournal opening_world (state (volume c).store) (volume c).level (volume c).journal
+    (volume c).limit)
 legal_from_opening state volume (Ok c) old begins since since_level legal =
     legal opening_world
-    (subst (λ l. Begins (state (volume c).since) l opening_world) (sym since_level) (subst (λ s. Begins s old.since_level opening_world) (sym since) begins))
+    (subst (λ l. Begins (state (volume c).since) l opening_world) (sym since_level)
+    (subst (λ s. Begins s old.since_level opening_world) (sym since) begins))
 legal_from_opening state volume (Err e) old begins since since_level legal = tt

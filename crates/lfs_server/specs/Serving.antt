@@ -38,16 +38,20 @@ served_fault TooFew = Format TooFew
 served_fault TooMany = Format TooMany
 served_fault formats.Memory = Memory
 
--- the fault of a run of so many sessions on a volume that is laid out for it: Sessions as above; else Format for numbers of
+-- the fault of a run of so many sessions on a volume that is laid out for it: Sessions as above; else Format for
+-- numbers of
 -- segments, inode numbers and frames out of their ranges, and for these alone
 abbrev pub IsServeFault : ℕ → ℕ → ℕ → ℕ → ServeFault → Type 0
 IsServeFault sessions segments inodes frames Sessions = (sessions ≡ 0) ⊎ (8 < sessions)
-IsServeFault sessions segments inodes frames (Format TooFew) = IsTooFew segments inodes frames × (0 < sessions) × (sessions ≤ 8)
-IsServeFault sessions segments inodes frames (Format TooMany) = IsTooMany segments inodes frames × (0 < sessions) × (sessions ≤ 8)
+IsServeFault sessions segments inodes frames (Format TooFew) = IsTooFew segments inodes frames × (0 < sessions)
+    × (sessions ≤ 8)
+IsServeFault sessions segments inodes frames (Format TooMany) = IsTooMany segments inodes frames × (0 < sessions)
+    × (sessions ≤ 8)
 IsServeFault sessions segments inodes frames (Format fault) = ⊥
 IsServeFault sessions segments inodes frames fault = (0 < sessions) × (sessions ≤ 8) × IsInRange segments inodes frames
 
--- the fault of stopping a server whose journal and limit these are: it names a session whose transcript the journal hasn't
+-- the fault of stopping a server whose journal and limit these are: it names a session whose transcript the journal
+-- hasn't
 abbrev pub IsStopFault : List Entry → ℕ → List Transcript → ServeFault → Type 0
 IsStopFault journal limit transcripts (Unsettled session) = Differs journal limit transcripts session
 IsStopFault journal limit transcripts fault = ⊥

@@ -1,5 +1,6 @@
 -- When a journal is an interleaving of what sessions asked and were answered.
-use Rattle.std.specs.Prelude.{◌≡◌, ℕ, ◌-◌, ◌<◌, ◌≤◌, ◌==◌, ◌⊎◌, Bool, true, false, List, [], ◌∷◌, ◌++◌, length, map, drop, Option, None, Some}
+use Rattle.std.specs.Prelude.{◌≡◌, ℕ, ◌-◌, ◌<◌, ◌≤◌, ◌==◌, ◌⊎◌, Bool, true, false, List, [], ◌∷◌, ◌++◌, length, map}
+use Rattle.std.specs.Prelude.{drop, Option, None, Some}
 use Rattle.std.specs.Global.{Vec}
 use Rattle.std.specs.List.{filter, slice_get}
 use Rattle.lfs_types.specs.Caller.{Caller}
@@ -25,7 +26,8 @@ pub record Run : Type 0 where
   pub transcripts : List (List Answer)
 
 -- that of these lists, the transcripts being vectors
-abbrev pub run_of : List Entry → ℕ → List (Caller × Request) → List Answer → List (List (Caller × Request)) → List (Vec Answer) → Run
+abbrev pub run_of : List Entry → ℕ → List (Caller × Request) → List Answer → List (List (Caller × Request))
+    → List (Vec Answer) → Run
 run_of journal limit setup answers scripts transcripts = record {
   journal = journal;
   limit = limit;
@@ -166,4 +168,5 @@ abbrev pub IsLowestToDiffer : Run → ℕ → Type 0
 IsLowestToDiffer run u =
     ((u ≡ 0) × (BeginsWithSetup run → ⊥))
     ⊎ ((BeginsWithSetup run × IsLowest (is_full run) (later_entries run) run.scripts run.transcripts u)
-    ⊎ ((u ≡ 255) × BeginsWithSetup run × ((session : ℕ) → 1 ≤ session → HasSession run session) × (HasNoStranger run → ⊥)))
+    ⊎ ((u ≡ 255) × BeginsWithSetup run × ((session : ℕ) → 1 ≤ session → HasSession run session)
+    × (HasNoStranger run → ⊥)))

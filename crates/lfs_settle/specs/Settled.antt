@@ -22,7 +22,8 @@ AreTold is_full journal (t ∷ ts) = (IsAmong t.session ts → ⊥) × IsTold is
 abbrev pub IsToldOtherwise : Bool → List Entry → List Transcript → ℕ → Type 0
 IsToldOtherwise is_full journal [] session = ⊥
 IsToldOtherwise is_full journal (t ∷ ts) session =
-    ((t.session ≡ session) × (IsAmong session ts ⊎ (IsTold is_full journal t → ⊥))) ⊎ IsToldOtherwise is_full journal ts session
+    ((t.session ≡ session) × (IsAmong session ts ⊎ (IsTold is_full journal t → ⊥)))
+    ⊎ IsToldOtherwise is_full journal ts session
 
 -- the entry is of a session that has a transcript, or of the cleaner: session 255, as user 0
 abbrev pub HasTeller : List Transcript → Entry → Type 0

@@ -1,5 +1,6 @@
 -- The clean blocks that a cache holds are what the log has: how that is kept.
-use Rattle.std.proofs.Common.{◌≡◌, ◌≢◌, ◌⊎◌, ℕ, ◌<◌, List, [], None, Some, length, false, true, refl, sym, ap, ◌∙◌, subst, inl, inr}
+use Rattle.std.proofs.Common.{◌≡◌, ◌≢◌, ◌⊎◌, ℕ, ◌<◌, List, [], None, Some, length, false, true, refl, sym, ap, ◌∙◌}
+use Rattle.std.proofs.Common.{subst, inl, inr}
 use Rattle.std.proofs.lemmas.Bool.{cases_eq, false≢true}
 use Rattle.std.proofs.lemmas.Option.{none-some}
 use Rattle.lfs_cache.specs.declared.key.Key.{Key}
@@ -38,10 +39,12 @@ mirrors_none p none = record {
   each = λ key bytes there. absurd (none-some bytes (sym (ap (block_in key) none) ∙ there));
 }
 
--- a clean block is what the log has still, where its number is in use still and its address and the block there are the same
+-- a clean block is what the log has still, where its number is in use still and its address and the block there are the
+-- same
 pub logged_kept : (p q : Parts) (key : Key) (bytes : List ℕ) → IsLogged p key bytes → IsPresent q key.ino key.version
     → address (tree_of q key.ino) (way_of key.lbn) ≡ address (tree_of p key.ino) (way_of key.lbn)
-    → block_at q.log.memory (address (tree_of p key.ino) (way_of key.lbn)) ≡ block_at p.log.memory (address (tree_of p key.ino) (way_of key.lbn))
+    → block_at q.log.memory (address (tree_of p key.ino) (way_of key.lbn))
+    ≡ block_at p.log.memory (address (tree_of p key.ino) (way_of key.lbn))
     → IsLogged q key bytes
 logged_kept p q key bytes was present at block = record {
   present = present;
@@ -79,7 +82,8 @@ pub mirrors_read : (p q : Parts) → Mirrors p → IsContents p.cache → q.cach
     → ((n : ℕ) → n < length p.log.tables.rows → SameReadings (tree_of p n) (tree_of q n)) → Mirrors q
 mirrors_read p q mirrors formed cache present readings = record {
   each = λ key bytes there.
-      let held : block_in key p.cache.lru ≡ Some bytes = sym (ap (λ (c : Contents). block_in key c.lru) cache) ∙ there in
+      let held : block_in key p.cache.lru ≡ Some bytes = sym (ap (λ (c : Contents). block_in key c.lru) cache)
+      ∙ there in
       let was = mirrors.each key bytes held in
       let free = clean_waits p.cache key bytes formed held in
       let same = readings key.ino (used_low p key.ino was.present.in_use) in
@@ -97,7 +101,8 @@ mirrors_read p q mirrors formed cache present readings = record {
 }
 
 -- of two keys of numbers in use that differ, the number or the code does
-pub apart_present : (p : Parts) (k key : Key) → IsPresent p k.ino k.version → IsPresent p key.ino key.version → same_key k key ≡ false
+pub apart_present : (p : Parts) (k key : Key) → IsPresent p k.ino k.version → IsPresent p key.ino key.version
+    → same_key k key ≡ false
     → (key.ino ≢ k.ino) ⊎ (key.lbn ≢ k.lbn)
 apart_present p k key a b apart = elim (cases_eq key.ino k.ino) [
   | inr ne ↦ inl ne

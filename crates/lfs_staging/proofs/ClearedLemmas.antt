@@ -1,5 +1,6 @@
 -- A block of a file is given back: what that makes of each file, and of the log.
-use Rattle.std.proofs.Common.{◌≡◌, ◌≢◌, ℕ, ◌+◌, ◌<◌, ◌⊎◌, List, [], ◌∷◌, length, None, IsSome, false, sym, ap, ◌∙◌, subst, inl, inr, arith}
+use Rattle.std.proofs.Common.{◌≡◌, ◌≢◌, ℕ, ◌+◌, ◌<◌, ◌⊎◌, List, [], ◌∷◌, length, None, IsSome, false, sym, ap, ◌∙◌}
+use Rattle.std.proofs.Common.{subst, inl, inr, arith}
 use Rattle.std.specs.Prelude.{⊤}
 use Rattle.std.proofs.lemmas.Bool.{cases_eq, cases_lt}
 use Rattle.lfs_types.specs.declared.limits.TheConstants.{FILE_BLOCKS}
@@ -24,7 +25,8 @@ use Rattle.lfs_bmap.proofs.BlockLemmas.{code_of-below}
 use Rattle.lfs_bmap.proofs.CountingLemmas.{placed-cases}
 use Rattle.lfs_bmap.proofs.LogLemmas.{left_log}
 use Rattle.lfs_bmap.proofs.PlaceLemmas.{data_block-read, data_block-past}
-use Rattle.lfs_bmap.proofs.ReadingLemmas.{cleared_address, cleared_addresses, cleared_bytes, cleared_others, kept_blocks, Clears}
+use Rattle.lfs_bmap.proofs.ReadingLemmas.{cleared_address, cleared_addresses, cleared_bytes, cleared_others}
+use Rattle.lfs_bmap.proofs.ReadingLemmas.{kept_blocks, Clears}
 use Rattle.lfs_bmap.proofs.WayLemmas.{no_way_through, same_code, way_of-known}
 use Rattle.lfs_staging.specs.declared.parts.Parts.{Parts}
 use Rattle.lfs_staging.specs.Clean.{GainsNoClean}
@@ -33,7 +35,8 @@ use Rattle.lfs_staging.specs.Addressing.{IsWaiting, Sets}
 use Rattle.lfs_staging.specs.View.{key_of, record_of, root_in, tree_of, version_of}
 use Rattle.lfs_staging.proofs.TableLemmas.{room_at}
 use Rattle.lfs_staging.proofs.UnstagedLemmas as unstaged
-use Rattle.lfs_staging.proofs.UnstagedLemmas.{Readdresses, Unstages, known, parent_set, place_after, place_kept, record_here, waits_none, waits_other, waits_rest, way_here}
+use Rattle.lfs_staging.proofs.UnstagedLemmas.{Readdresses, Unstages, known, parent_set, place_after, place_kept}
+use Rattle.lfs_staging.proofs.UnstagedLemmas.{record_here, waits_none, waits_other, waits_rest, way_here}
 
 -- The steps: the address is set to none, the live bytes go, and the block waits no more.
 pub record Steps (p s q : Parts) (v : Inode) (block : FileBlock) (i : ℕ) (up : List ℕ) : Type 0 where
@@ -50,7 +53,8 @@ pub record Steps (p s q : Parts) (v : Inode) (block : FileBlock) (i : ℕ) (up :
   pub rows : q.log.tables.rows ≡ p.log.tables.rows
   pub waiting : q.waiting ≡ s.waiting
   pub gone : block_in (key_of v.number v.version (code_of block)) q.cache.locked ≡ None
-  pub kept : (key : Key) → same_key (key_of v.number v.version (code_of block)) key ≡ false → block_in key q.cache.locked ≡ block_in key s.cache.locked
+  pub kept : (key : Key) → same_key (key_of v.number v.version (code_of block)) key ≡ false
+      → block_in key q.cache.locked ≡ block_in key s.cache.locked
   pub clean : GainsNoClean s.cache q.cache
   pub unclean : block_in (key_of v.number v.version (code_of block)) q.cache.lru ≡ None
 
@@ -75,7 +79,8 @@ module _ (p s q : Parts) (v : Inode) (block : FileBlock) (i : ℕ) (up : List �
   pub record_other : (m : ℕ) → m ≢ v.number → record_of q m ≡ record_of p m
   record_other = unstaged.record_other p s q v block 0 i up unstages
 
-  pub waits_key : (key : Key) → same_key (key_of v.number v.version (code_of block)) key ≡ false → same_key (key_of v.number v.version (code_at up)) key ≡ false
+  pub waits_key : (key : Key) → same_key (key_of v.number v.version (code_of block)) key ≡ false
+      → same_key (key_of v.number v.version (code_at up)) key ≡ false
       → block_in key q.cache.locked ≡ block_in key p.cache.locked
   waits_key = unstaged.waits_key p s q v block 0 i up unstages
 
@@ -106,32 +111,40 @@ module _ (p s q : Parts) (v : Inode) (block : FileBlock) (i : ℕ) (up : List �
 
   -- it has no address and reads as zeros
   pub address_here : address (tree_of q v.number) (i ∷ up) ≡ 0
-  address_here = cleared_address (tree_of p v.number) (tree_of q v.number) i up known_way slice_index-cells_zero_block clears
+  address_here = cleared_address (tree_of p v.number)
+      (tree_of q v.number) i up known_way slice_index-cells_zero_block clears
 
-  pub address_rest : (way : List ℕ) → IsBlockWay way → way ≢ i ∷ up → address (tree_of q v.number) way ≡ address (tree_of p v.number) way
-  address_rest = cleared_addresses (tree_of p v.number) (tree_of q v.number) i up known_way slice_index-cells_zero_block clears
+  pub address_rest : (way : List ℕ) → IsBlockWay way → way ≢ i ∷ up → address (tree_of q v.number) way
+      ≡ address (tree_of p v.number) way
+  address_rest = cleared_addresses (tree_of p v.number)
+      (tree_of q v.number) i up known_way slice_index-cells_zero_block clears
 
   pub zeros_here : (k : ℕ) → block ≡ Data k → data_block (tree_of q v.number) k ≡ zero_block
   zeros_here k is =
       let low : k < FILE_BLOCKS = subst IsFileBlock is h.can in
       let code : code_of block ≡ 131 + k = ap code_of is in
-      data_block-read (tree_of q v.number) k low ∙ ap (read (tree_of q v.number)) (ap way_of (sym code) ∙ way_here block i up h.can h.way)
+      data_block-read (tree_of q v.number) k low
+      ∙ ap (read (tree_of q v.number)) (ap way_of (sym code) ∙ way_here block i up h.can h.way)
       ∙ cleared_bytes (tree_of p v.number) (tree_of q v.number) i up known_way slice_index-cells_zero_block clears
 
   -- every other data block reads as before
-  data_at : (k : ℕ) → k < FILE_BLOCKS → 131 + k ≢ code_of block → read (tree_of q v.number) (way_of (131 + k)) ≡ read (tree_of p v.number) (way_of (131 + k))
+  data_at : (k : ℕ) → k < FILE_BLOCKS → 131 + k ≢ code_of block → read (tree_of q v.number) (way_of (131 + k))
+      ≡ read (tree_of p v.number) (way_of (131 + k))
   data_at k low ne =
-      cleared_others (tree_of p v.number) (tree_of q v.number) i up known_way slice_index-cells_zero_block clears (way_of (131 + k)) (way_of-known (131 + k) (omega arith))
+      cleared_others (tree_of p v.number) (tree_of q v.number) i up known_way slice_index-cells_zero_block clears
+      (way_of (131 + k)) (way_of-known (131 + k) (omega arith))
       (λ e. no_way_through (131 + k) i (omega arith) (subst (λ w. IsWay (i ∷ w)) (sym e) known_way.leads))
       (λ e. ne (same_code (131 + k) (code_of block) (e ∙ sym (way_here block i up h.can h.way))))
 
-  pub data_same : (m k : ℕ) → (m ≢ v.number) ⊎ (131 + k ≢ code_of block) → data_block (tree_of q m) k ≡ data_block (tree_of p m) k
+  pub data_same : (m k : ℕ) → (m ≢ v.number) ⊎ (131 + k ≢ code_of block) → data_block (tree_of q m) k
+      ≡ data_block (tree_of p m) k
   data_same m k apart =
       elim (cases_lt k FILE_BLOCKS) [
         | inl low ↦ data_block-read (tree_of q m) k low ∙ (elim (cases_eq m v.number) [
           | inl e ↦
               let other : 131 + k ≢ code_of block = elim apart [ inl ne ↦ absurd (ne e) | inr ne ↦ ne ] in
-              ap (λ n. read (tree_of q n) (way_of (131 + k))) e ∙ data_at k low other ∙ ap (λ n. read (tree_of p n) (way_of (131 + k))) (sym e)
+              ap (λ n. read (tree_of q n) (way_of (131 + k))) e ∙ data_at k low other
+              ∙ ap (λ n. read (tree_of p n) (way_of (131 + k))) (sym e)
           | inr ne ↦ (others_same m ne).bytes (way_of (131 + k)) (way_of-known (131 + k) (omega arith))
         ]) ∙ sym (data_block-read (tree_of p m) k low)
         | inr past ↦ data_block-past (tree_of q m) k past ∙ sym (data_block-past (tree_of p m) k past)
@@ -147,7 +160,8 @@ module _ (p s q : Parts) (v : Inode) (block : FileBlock) (i : ℕ) (up : List �
     others = λ m is. others_same m;
   }
 
-  pub address_same : (m d : ℕ) → d < BLOCK_CODES → (m ≢ v.number) ⊎ (d ≢ code_of block) → address (tree_of q m) (way_of d) ≡ address (tree_of p m) (way_of d)
+  pub address_same : (m d : ℕ) → d < BLOCK_CODES → (m ≢ v.number) ⊎ (d ≢ code_of block)
+      → address (tree_of q m) (way_of d) ≡ address (tree_of p m) (way_of d)
   address_same m d = unstaged.address_same (λ m. ⊤) p q v block 0 readdresses m d tt
 
   -- a key that has a place had it
@@ -156,14 +170,16 @@ module _ (p s q : Parts) (v : Inode) (block : FileBlock) (i : ℕ) (up : List �
     numbers = ap length h.rows;
     places = λ number code there within.
         elim (placed-cases (log_state p).at v.number (code_of block) 0 number code) [
-          | inl e ↦ absurd (there.somewhere (place_after (λ m. ⊤) p q v block 0 readdresses number code tt there.code_below ∙ e.2))
+          | inl e ↦ absurd (there.somewhere (place_after
+              (λ m. ⊤) p q v block 0 readdresses number code tt there.code_below ∙ e.2))
           | inr e ↦ sym (place_kept (λ m. ⊤) p q v block 0 readdresses number code tt there.code_below e.0)
         ];
     versions = λ number code there within. sym (version_same number);
   }
 
   -- The log is kept.
-  pub log_after : Assigns (log_state p) (log.log_state q.log (placed (log_state p).at v.number (code_of block) 0)) v.number (code_of block) 0 → IsLog (log_state q) 0
+  pub log_after : Assigns (log_state p) (log.log_state q.log (placed (log_state p).at v.number (code_of block) 0))
+      v.number (code_of block) 0 → IsLog (log_state q) 0
   log_after left =
       let now : Assigns (log_state p) (log_state q) v.number (code_of block) 0 = record {
         numbers = left.numbers;

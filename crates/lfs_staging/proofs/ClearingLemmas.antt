@@ -1,5 +1,6 @@
 -- Blocks of a file are given back one after another.
-use Rattle.std.proofs.Common.{◌≡◌, ℕ, ◌+◌, ◌<◌, ◌≤◌, List, ◌∷◌, Option, None, Some, IsSome, true, refl, sym, ap, ◌∙◌, subst, inl, inr, arith}
+use Rattle.std.proofs.Common.{◌≡◌, ℕ, ◌+◌, ◌<◌, ◌≤◌, List, ◌∷◌, Option, None, Some, IsSome, true, refl, sym, ap, ◌∙◌}
+use Rattle.std.proofs.Common.{subst, inl, inr, arith}
 use Rattle.std.proofs.lemmas.Bool.{cases_eq, cases_lt, cond-true}
 use Rattle.std.proofs.lemmas.Option.{same_Some}
 use Rattle.lfs_types.specs.declared.limits.TheConstants.{FILE_BLOCKS}
@@ -35,7 +36,8 @@ use Rattle.lfs_staging.proofs.TableLemmas.{apart_code}
 use Rattle.lfs_staging.proofs.ViewLemmas.{not_locked, record_of-waiting}
 
 -- ---- what waits of a number
-pub is_waiting : (p : Parts) (number : ℕ) (v : Inode) → waiting_in p.waiting number ≡ Some v → (row_of p.log.tables number).used ≡ true
+pub is_waiting : (p : Parts) (number : ℕ) (v : Inode) → waiting_in p.waiting number ≡ Some v
+    → (row_of p.log.tables number).used ≡ true
     → ((f : Fields) → record_of p number ≡ Some f → f.attributes.version ≡ version_of p number) → IsWaiting p v
 is_waiting p number v waits used own =
     let same = waiting_number p.waiting number v waits in
@@ -71,12 +73,14 @@ pub rest_version : (number : ℕ) (a b : Parts) → KeepsRest number a b → (n 
 rest_version number a b h n = ap (λ (rs : List InodeRow). (row_at rs n).version) h.rows
 
 -- the attributes that the record had
-pub rest_attributes : (number : ℕ) (a b : Parts) → KeepsRest number a b → (f g : Fields) → record_of a number ≡ Some f → record_of b number ≡ Some g → g.attributes ≡ f.attributes
+pub rest_attributes : (number : ℕ) (a b : Parts) → KeepsRest number a b → (f g : Fields) → record_of a number ≡ Some f
+    → record_of b number ≡ Some g → g.attributes ≡ f.attributes
 rest_attributes number a b h f g was is =
     let at = h.attributes f was in
     sym (ap (λ (x : Fields). x.attributes) (same_Some _ g (sym at.there ∙ is)))
 
-pub rest_used : (number : ℕ) (a b : Parts) → KeepsRest number a b → (row_of a.log.tables number).used ≡ true → (row_of b.log.tables number).used ≡ true
+pub rest_used : (number : ℕ) (a b : Parts) → KeepsRest number a b → (row_of a.log.tables number).used ≡ true
+    → (row_of b.log.tables number).used ≡ true
 rest_used number a b h used = ap (λ (rs : List InodeRow). (row_at rs number).used) h.rows ∙ used
 
 pub some_fields : (o : Option Fields) → IsSome o → (f : Fields) × (o ≡ Some f)
@@ -84,8 +88,10 @@ some_fields None there = absurd (cc)
 some_fields (Some f) there = (f, refl)
 
 -- the record has as many data blocks as it had
-pub rest_count : (number blocks : ℕ) (a b : Parts) → IsStaged a 0 → (row_of a.log.tables number).used ≡ true → KeepsRest number a b
-    → ((f : Fields) → record_of a number ≡ Some f → blocks ≡ block_count f.attributes.size) → (g : Fields) → record_of b number ≡ Some g → blocks ≡ block_count g.attributes.size
+pub rest_count : (number blocks : ℕ) (a b : Parts) → IsStaged a 0 → (row_of a.log.tables number).used ≡ true
+    → KeepsRest number a b
+    → ((f : Fields) → record_of a number ≡ Some f → blocks ≡ block_count f.attributes.size) → (g : Fields)
+    → record_of b number ≡ Some g → blocks ≡ block_count g.attributes.size
 rest_count number blocks a b staged used h all g is =
     let was = some_fields (record_of a number) (staged.whole.recorded number used) in
     all was.0 was.1 ∙ ap (λ (x : Attributes). block_count x.size) (sym (rest_attributes number a b h was.0 g was.1 is))
@@ -93,7 +99,8 @@ rest_count number blocks a b staged used h all g is =
 -- ---- what is gone
 -- a block past the size has no address, and doesn't wait
 pub past_gone : (p : Parts) (number blocks : ℕ) → IsStaged p 0 → (row_of p.log.tables number).used ≡ true
-    → ((f : Fields) → record_of p number ≡ Some f → blocks ≡ block_count f.attributes.size) → (block : FileBlock) → IsFileBlock block → blocks ≤ first_under block
+    → ((f : Fields) → record_of p number ≡ Some f → blocks ≡ block_count f.attributes.size) → (block : FileBlock)
+    → IsFileBlock block → blocks ≤ first_under block
     → IsGone p number (way_to block)
 past_gone p number blocks staged used all block is past =
     let here = some_fields (record_of p number) (staged.whole.recorded number used) in
@@ -103,7 +110,8 @@ past_gone p number blocks staged used all block is past =
 
 -- so one that isn't gone lies within it
 pub there_within : (p : Parts) (number blocks : ℕ) → IsStaged p 0 → (row_of p.log.tables number).used ≡ true
-    → ((f : Fields) → record_of p number ≡ Some f → blocks ≡ block_count f.attributes.size) → (block : FileBlock) → IsFileBlock block → (IsGone p number (way_to block) → ⊥)
+    → ((f : Fields) → record_of p number ≡ Some f → blocks ≡ block_count f.attributes.size) → (block : FileBlock)
+    → IsFileBlock block → (IsGone p number (way_to block) → ⊥)
     → first_under block < blocks
 there_within p number blocks staged used all block is there = elim (cases_lt (first_under block) blocks) [
   | inl inside ↦ inside
@@ -111,34 +119,44 @@ there_within p number blocks staged used all block is there = elim (cases_lt (fi
 ]
 
 -- a block that was given back is gone
-pub cleared_gone : (b c : Parts) (number : ℕ) (block : FileBlock) → ClearsBlock number block b c → IsGone c number (way_to block)
+pub cleared_gone : (b c : Parts) (number : ℕ) (block : FileBlock) → ClearsBlock number block b c
+    → IsGone c number (way_to block)
 cleared_gone b c number block q =
     block_gone c number block q.nowhere
-    (λ locked. q.free (subst (λ n. IsLocked (key_of number n (code_of block)) c.cache) (rest_version number b c q.rest number) locked))
+    (λ locked. q.free (subst (λ n. IsLocked (key_of number n (code_of block)) c.cache)
+    (rest_version number b c q.rest number) locked))
 
 -- and others stay so
-pub gone_still : (b c : Parts) (number : ℕ) (block t : FileBlock) → ClearsBlock number block b c → IsFileBlock block → IsFileBlock t → IsGone b number (way_to t) → IsGone c number (way_to t)
+pub gone_still : (b c : Parts) (number : ℕ) (block t : FileBlock) → ClearsBlock number block b c → IsFileBlock block
+    → IsFileBlock t → IsGone b number (way_to t) → IsGone c number (way_to t)
 gone_still b c number block t q can is was = elim (cases_eq (code_of t) (code_of block)) [
-  | inl same ↦ subst (λ x. IsGone c number (way_to x)) (same_block block t can is (sym same)) (cleared_gone b c number block q)
+  | inl same ↦ subst (λ x. IsGone c number (way_to x)) (same_block block t can is (sym same))
+      (cleared_gone b c number block q)
   | inr other ↦ block_gone c number t
-      (q.addresses (way_to t) (block_known t is) (λ e. other (same_code (code_of t) (code_of block) (way_of-code_of t is ∙ e ∙ sym (way_of-code_of block can)))) ∙ was.nowhere)
-      (λ locked. gone_free b number t was (subst (λ n. IsLocked (key_of number n (code_of t)) b.cache) (rest_version number b c q.rest number) (q.only _ locked)))
+      (q.addresses (way_to t) (block_known t is)
+      (λ e. other (same_code (code_of t) (code_of block) (way_of-code_of t is ∙ e
+      ∙ sym (way_of-code_of block can)))) ∙ was.nowhere)
+      (λ locked. gone_free b number t was (subst (λ n. IsLocked (key_of number n (code_of t)) b.cache)
+      (rest_version number b c q.rest number) (q.only _ locked)))
 ]
 
 -- a data block that is gone reads as zeros
-pub gone_zeros : (p : Parts) (number index : ℕ) → IsGone p number (data_way index) → data_block (tree_of p number) index ≡ zero_block
+pub gone_zeros : (p : Parts) (number index : ℕ) → IsGone p number (data_way index) → data_block (tree_of p number) index
+    ≡ zero_block
 gone_zeros p number index gone =
     let tree = tree_of p number in
     elim (cases_lt index FILE_BLOCKS) [
       | inl low ↦
           data_block-read tree index low ∙ ap (read tree) (way_of-data index) ∙ read-via tree (data_way index)
           ∙ ap (bytes_via tree (data_way index)) gone.nowhere
-          ∙ via-none tree (data_way index) (not_locked (key_of number (version_of p number) (code_at (data_way index))) p.cache gone.free)
+          ∙ via-none tree (data_way index) (not_locked
+          (key_of number (version_of p number) (code_at (data_way index))) p.cache gone.free)
       | inr past ↦ data_block-past tree index past
     ]
 
 -- ---- data blocks
-pub clears_none : (p : Parts) (number first end : ℕ) → MayClearBetween p number first end → ClearsBlocks number first first p p
+pub clears_none : (p : Parts) (number first end : ℕ) → MayClearBetween p number first end
+    → ClearsBlocks number first first p p
 clears_none p number first end may = record {
   staged = may.staged;
   rest = rest_refl number p may.waits;
@@ -149,7 +167,8 @@ clears_none p number first end may = record {
   data_same = λ n index apart. refl;
 }
 
-pub may_clear : (a b : Parts) (number first index end : ℕ) → MayClearBetween a number first end → ClearsBlocks number first index a b → first ≤ index → index < end
+pub may_clear : (a b : Parts) (number first index end : ℕ) → MayClearBetween a number first end
+    → ClearsBlocks number first index a b → first ≤ index → index < end
     → MayClear b number (Data index)
 may_clear a b number first index end may h from low =
     let bounded = may.bounded in
@@ -170,11 +189,14 @@ may_clear a b number first index end may h from low =
           subst (HolderWaits b.cache number (version_of b number)) (table_of-way (Data index) (omega arith) i up way)
           (holder_at b.cache number (version_of b number) t (table_of-is (Data index) (omega arith)) (λ some.
           subst (λ n. IsLocked (key_of number n (code_of t)) b.cache) (sym version)
-          (h.tables (code_of t) (table_of-code (Data index) (omega arith)) (holder_code a.cache number (version_of a number) t some (may.holders index from low)))));
-      beneath = λ j known. absurd (no_way_through (131 + index) j (omega arith) (subst (λ w. IsWay (j ∷ w)) (sym (way_of-data index)) known.leads));
+          (h.tables (code_of t) (table_of-code (Data index) (omega arith))
+          (holder_code a.cache number (version_of a number) t some (may.holders index from low)))));
+      beneath = λ j known. absurd (no_way_through (131 + index) j (omega arith)
+          (subst (λ w. IsWay (j ∷ w)) (sym (way_of-data index)) known.leads));
     }
 
-pub clears_more : (a b c : Parts) (number first index : ℕ) → first ≤ index → index < FILE_BLOCKS → ClearsBlocks number first index a b → ClearsBlock number (Data index) b c
+pub clears_more : (a b c : Parts) (number first index : ℕ) → first ≤ index → index < FILE_BLOCKS
+    → ClearsBlocks number first index a b → ClearsBlock number (Data index) b c
     → ClearsBlocks number first (index + 1) a c
 clears_more a b c number first index from low p q = record {
   staged = q.staged;
@@ -186,7 +208,8 @@ clears_more a b c number first index from low p q = record {
   ];
   still = λ block is gone. gone_still b c number (Data index) block q low is (p.still block is gone);
   tables = λ code few locked.
-      q.kept _ (apart_code number number (version_of b number) (version_of a number) (131 + index) code (λ e. omega arith)) (p.tables code few locked);
+      q.kept _ (apart_code number number (version_of b number) (version_of a number) (131 + index) code
+      (λ e. omega arith)) (p.tables code few locked);
   data_same = λ n k apart. q.data_same n k (elim apart [
     | inl other ↦ inl other
     | inr out ↦ inr (λ e. elim out [ inl before ↦ omega arith | inr past ↦ omega arith ])

@@ -1,5 +1,6 @@
 -- A file is cut, step by step.
-use Rattle.std.proofs.Common.{◌≡◌, ℕ, ◌+◌, ◌-◌, ◌/◌, ◌<◌, ◌≤◌, List, length, Some, refl, sym, ap, ◌∙◌, subst, inl, inr, arith}
+use Rattle.std.proofs.Common.{◌≡◌, ℕ, ◌+◌, ◌-◌, ◌/◌, ◌<◌, ◌≤◌, List, length, Some, refl, sym, ap, ◌∙◌, subst, inl, inr}
+use Rattle.std.proofs.Common.{arith}
 use Rattle.std.specs.List.{Contains}
 use Rattle.std.proofs.lemmas.Bool.{cases_lt}
 use Rattle.std.proofs.lemmas.Option.{same_Some}
@@ -25,7 +26,8 @@ use Rattle.lfs_bmap.proofs.PlaceLemmas.{data_block-past, data_block-same}
 use Rattle.lfs_bmap.proofs.TableLemmas.{codes_on-table_few}
 use Rattle.lfs_staging.specs.declared.parts.Parts.{Parts}
 use Rattle.lfs_staging.specs.Changing.{StaysInLog, frames_of_length, length_codes}
-use Rattle.lfs_staging.specs.Cutting.{CutsFile, CutsLast, DropsBlocks, MayDropAll, MayShorten, Shortens, cut_codes, last_table}
+use Rattle.lfs_staging.specs.Cutting.{CutsFile, CutsLast, DropsBlocks, MayDropAll, MayShorten, Shortens, cut_codes}
+use Rattle.lfs_staging.specs.Cutting.{last_table}
 use Rattle.lfs_staging.specs.Staging.{HasFrames, IsStaged, MayStage, StagesOwnRecord, TakesOnly}
 use Rattle.lfs_staging.specs.View.{record_of, tree_of, version_of}
 use Rattle.lfs_staging.proofs.ClearingLemmas.{gone_zeros, rest_attributes}
@@ -34,7 +36,8 @@ use Rattle.lfs_staging.proofs.GrowthLemmas.{one_record}
 use Rattle.lfs_staging.proofs.KeptLemmas.{parents_own}
 use Rattle.lfs_staging.proofs.StagedLemmas.{may_again, parents_staged, stays-trans, stays_files, stays_same}
 use Rattle.lfs_staging.proofs.StagingLemmas.{version-same}
-use Rattle.lfs_staging.proofs.TakenLemmas.{frames_after, frames_enough, taken_most, takes_both, takes_none, takes_part, takes_version}
+use Rattle.lfs_staging.proofs.TakenLemmas.{frames_after, frames_enough, taken_most, takes_both, takes_none, takes_part}
+use Rattle.lfs_staging.proofs.TakenLemmas.{takes_version}
 use Rattle.lfs_segments.proofs.MemoryLemmas.{length-zero_block}
 
 -- ---- the record waits
@@ -43,20 +46,24 @@ module _ (a b : Parts) (v : Inode) (may : MayStage a v) (own : StagesOwnRecord v
   own_again = may_again a b v may own.same own.files own.parents own.room
 
   pub own_kept : IsStaged a 0 → IsStaged b 0
-  own_kept staged = parents_staged a b v Record may (parents_own a b v.number Record own refl) 0 staged (λ x is has. absurd (codes_on-record (code_of x) has))
+  own_kept staged = parents_staged a b v Record may (parents_own a b v.number Record own refl) 0 staged
+      (λ x is has. absurd (codes_on-record (code_of x) has))
 
   -- there are frames for the last block of a length
-  pub own_room : (index : ℕ) → index < FILE_BLOCKS → length a.cache.locked + 4 ≤ LOCKED_LIMIT → HasFrames b v.number (codes_on (data_way index))
+  pub own_room : (index : ℕ) → index < FILE_BLOCKS → length a.cache.locked + 4 ≤ LOCKED_LIMIT
+      → HasFrames b v.number (codes_on (data_way index))
   own_room index low room =
       let codes = codes_on (way_to (Data index)) in
-      frames_after a b v.number codes (version-same a b v.number own.same.log) (takes_none v.number (version_of a v.number) codes a.cache b.cache own.cache)
+      frames_after a b v.number codes (version-same a b v.number own.same.log)
+      (takes_none v.number (version_of a v.number) codes a.cache b.cache own.cache)
       (frames_enough a v.number codes (omega (arith, codes_on-most (Data index) low (λ e. omega arith))))
 
 -- the number of the last data block that a length leaves
 pub last_index : (v : Inode) (p : Parts) (len : ℕ) → MayStage p v → len < v.size → len / 512 < FILE_BLOCKS
 last_index v p len may less = let most = (may.files.files v.number (fields_of v) may.here).formed.sized.0 in omega arith
 
-module _ (a b c : Parts) (v : Inode) (len left blocks : ℕ) (may : MayStage a v) (less : len < v.size) (left_is : left ≡ block_count len) (blocks_is : blocks ≡ block_count v.size)
+module _ (a b c : Parts) (v : Inode) (len left blocks : ℕ) (may : MayStage a v) (less : len < v.size) (left_is : left
+    ≡ block_count len) (blocks_is : blocks ≡ block_count v.size)
     (own : StagesOwnRecord v.number a b) (last : CutsLast v.number len b c) where
   log_same : c.log ≡ a.log
   log_same = last.log ∙ own.same.log
@@ -71,7 +78,8 @@ module _ (a b c : Parts) (v : Inode) (len left blocks : ℕ) (may : MayStage a v
   takes : TakesOnly v.number (version_of a v.number) (length_codes len) a.cache c.cache
   takes =
       subst (λ (s : Contents). TakesOnly v.number (version_of a v.number) (length_codes len) s c.cache) own.cache
-      (takes_version v.number (version_of b v.number) (version_of a v.number) (length_codes len) b.cache c.cache (version-same a b v.number own.same.log) last.takes)
+      (takes_version v.number (version_of b v.number) (version_of a v.number) (length_codes len) b.cache c.cache
+      (version-same a b v.number own.same.log) last.takes)
 
   pub may_drop_all : length a.cache.locked + 4 ≤ LOCKED_LIMIT → MayDropAll c v.number left blocks
   may_drop_all room = record {
@@ -95,7 +103,8 @@ module _ (a b c : Parts) (v : Inode) (len left blocks : ℕ) (may : MayStage a v
         (frames_enough a v.number (cut_codes left t) (omega arith));
   }
 
-  module _ (d : Parts) (staged : IsStaged a 0) (sized : IsSizeOf v.kind len) (drops : DropsBlocks v.number left c d) where
+  module _ (d : Parts) (staged : IsStaged a 0) (sized : IsSizeOf v.kind len)
+      (drops : DropsBlocks v.number left c d) where
     rows : d.log.tables.rows ≡ a.log.tables.rows
     rows = drops.rest.rows ∙ ap (λ (l : LogParts). l.tables.rows) log_same
 
@@ -118,10 +127,12 @@ module _ (a b c : Parts) (v : Inode) (len left blocks : ℕ) (may : MayStage a v
         elim (cases_lt m left) [
           | inl low ↦
               subst (λ x. IsBlockCut m len x (data_block (tree_of d v.number) m)) (first_same v.number m)
-              (subst (IsBlockCut m len (data_block (tree_of b v.number) m)) (sym (drops.data_same v.number m (inr low))) (last.cut m (omega arith)))
+              (subst (IsBlockCut m len (data_block (tree_of b v.number) m)) (sym (drops.data_same v.number m (inr low)))
+              (last.cut m (omega arith)))
           | inr from ↦
               subst (IsBlockCut m len (data_block (tree_of a v.number) m)) (sym (zeros m from))
-              (past_cut m len (data_block (tree_of a v.number) m) zero_block length-zero_block (λ k low. zero_block-at k) (omega arith))
+              (past_cut m len (data_block (tree_of a v.number) m) zero_block length-zero_block
+              (λ k low. zero_block-at k) (omega arith))
         ]
 
     same_attributes : (f : Fields) → record_of d v.number ≡ Some f → f.attributes ≡ attributes v
@@ -135,16 +146,21 @@ module _ (a b c : Parts) (v : Inode) (len left blocks : ℕ) (may : MayStage a v
       sized = λ f is. subst (λ (x : Attributes). IsSizeOf x.kind len) (sym (same_attributes f is)) sized;
       less = λ f is. subst (λ (x : Attributes). len ≤ x.size) (sym (same_attributes f is)) (omega arith);
       gone = λ block is other past. drops.gone block is other (omega arith);
-      padded = cut_padded (data_block (tree_of a v.number)) (data_block (tree_of d v.number)) v.size len old_padded cut_all;
+      padded = cut_padded (data_block (tree_of a v.number))
+          (data_block (tree_of d v.number)) v.size len old_padded cut_all;
     }
 
     frames : length d.cache.locked ≤ length a.cache.locked + frames_of_length len
     frames =
         let version = version-same a c v.number log_same in
-        let kept = subst (λ n. (x : ℕ) → Contains (codes_on (way_to (last_table n))) x → Contains (length_codes len) x) (sym left_is) (length_codes-table len) in
-        let second = takes_version v.number (version_of c v.number) (version_of a v.number) (length_codes len) c.cache d.cache version
-        (takes_part v.number (version_of c v.number) (codes_on (way_to (last_table left))) (length_codes len) c.cache d.cache kept drops.takes) in
-        let most = taken_most v.number (version_of a v.number) (length_codes len) a.cache d.cache drops.staged.whole.cache
+        let kept = subst (λ n. (x : ℕ) → Contains (codes_on (way_to (last_table n))) x → Contains (length_codes len) x)
+        (sym left_is) (length_codes-table len) in
+        let second = takes_version v.number (version_of c v.number) (version_of a v.number)
+        (length_codes len) c.cache d.cache version
+        (takes_part v.number (version_of c v.number) (codes_on (way_to (last_table left)))
+        (length_codes len) c.cache d.cache kept drops.takes) in
+        let most = taken_most v.number (version_of a v.number)
+        (length_codes len) a.cache d.cache drops.staged.whole.cache
         (takes_both v.number (version_of a v.number) (length_codes len) a.cache c.cache d.cache takes second) in
         let many = length_codes-length len in
         omega arith
@@ -155,7 +171,8 @@ module _ (a b c : Parts) (v : Inode) (len left blocks : ℕ) (may : MayStage a v
     log_stays : StaysInLog a d
     log_stays =
         stays-trans a c d
-        (stays_same a c log_same (λ n way known. last.addresses n way known ∙ (own.same.readings n).addresses way known))
+        (stays_same a c log_same (λ n way known. last.addresses n way known
+        ∙ (own.same.readings n).addresses way known))
         drops.rest.log
 
     pub cut_file : (e : Parts) → Shortens v.number len d e → CutsFile v.number len a e
@@ -167,10 +184,14 @@ module _ (a b c : Parts) (v : Inode) (len left blocks : ℕ) (may : MayStage a v
           let at = drops.rest.attributes f (records v.number ∙ is) in
           short.here _ at.there;
       others = λ n other. short.others n other ∙ drops.rest.others n other ∙ records n;
-      cut = λ m. subst (λ t. IsBlockCut m len (data_block (tree_of a v.number) m) (data_block t m)) (sym (short.blocks v.number)) (cut_all m);
+      cut = λ m. subst (λ t. IsBlockCut m len (data_block (tree_of a v.number) m) (data_block t m))
+          (sym (short.blocks v.number)) (cut_all m);
       data_same = λ n m other.
-          ap (λ t. data_block t m) (short.blocks n) ∙ drops.data_same n m (inl other) ∙ last.others n m (inl other) ∙ first_same n m;
-      frames = let same : length e.cache.locked ≡ length d.cache.locked = ap (λ (s : Contents). length s.locked) short.cache in let most = frames in omega arith;
+          ap (λ t. data_block t m) (short.blocks n) ∙ drops.data_same n m (inl other) ∙ last.others n m (inl other)
+          ∙ first_same n m;
+      frames = let same : length e.cache.locked
+          ≡ length d.cache.locked = ap (λ (s : Contents). length s.locked) short.cache in let most = frames in
+          omega arith;
       waiting = let fewer = short.waiting in let most = waiting in omega arith;
       waits = short.waits;
     }

@@ -1,5 +1,6 @@
 -- Clean blocks come into the cache and go: each file, and what waits, stays.
-use Rattle.std.proofs.Common.{◌≡◌, ℕ, ◌≤◌, List, [], All, length, None, Some, IsSome, is_some, true, refl, sym, ap, ◌∙◌, subst, inl, inr}
+use Rattle.std.proofs.Common.{◌≡◌, ℕ, ◌≤◌, List, [], All, length, None, Some, IsSome, is_some, true, refl, sym, ap, ◌∙◌}
+use Rattle.std.proofs.Common.{subst, inl, inr}
 use Rattle.lfs_inodes.specs.declared.inode.Inode.{Inode}
 use Rattle.lfs_cache.specs.declared.key.Key.{Key}
 use Rattle.lfs_cache.specs.Changes.{GainsOnly, IsContents, KeepsBlocks}
@@ -26,7 +27,8 @@ use Rattle.lfs_staging.proofs.SettingLemmas.{present_kept, record_same}
 use Rattle.lfs_staging.proofs.StagingLemmas.{version-same}
 use Rattle.lfs_staging.proofs.HolderLemmas.{holder_kept}
 
-module _ (p q : Parts) (log : q.log ≡ p.log) (waiting : q.waiting ≡ p.waiting) (dirty : q.cache.locked ≡ p.cache.locked) where
+module _ (p q : Parts) (log : q.log ≡ p.log) (waiting : q.waiting ≡ p.waiting) (dirty : q.cache.locked
+    ≡ p.cache.locked) where
   pub filled_record : (n : ℕ) → record_of q n ≡ record_of p n
   filled_record n = record_same p q n log (ap (λ vs. waiting_in vs n) waiting)
 
@@ -35,7 +37,8 @@ module _ (p q : Parts) (log : q.log ≡ p.log) (waiting : q.waiting ≡ p.waitin
       let waits : (way : List ℕ) → (tree_of q n).waits way ≡ (tree_of p n).waits way
       = λ way. ap (block_in (key_of n (version_of q n) (code_at way))) dirty
       ∙ ap (λ version. block_in (key_of n version (code_at way)) p.cache.locked) (version-same p q n log) in
-      let blocks : (a : ℕ) → block_at q.log.memory a ≡ block_at p.log.memory a = λ a. ap (λ (l : LogParts). block_at l.memory a) log in
+      let blocks : (a : ℕ) → block_at q.log.memory a
+      ≡ block_at p.log.memory a = λ a. ap (λ (l : LogParts). block_at l.memory a) log in
       λ i. record { root = root_in (filled_record n i); waits = λ way. waits way i; block = λ a. blocks a i }
 
   pub filled_logged : (key : Key) (bytes : List ℕ) → IsLogged p key bytes → IsLogged q key bytes
@@ -62,9 +65,11 @@ module _ (p q : Parts) (log : q.log ≡ p.log) (waiting : q.waiting ≡ p.waitin
     log = log_kept p q 0 log (λ n way known. ap (λ t. address t way) (filled_tree n)) store.log;
     ready = subst (λ (l : LogParts). Expects l.memory []) (sym log) store.ready;
     parents = record {
-      records = λ key locked. subst (λ vs. IsSome (waiting_in vs key.ino)) (sym waiting) (store.parents.records key (still_locked key locked));
+      records = λ key locked. subst (λ vs. IsSome (waiting_in vs key.ino)) (sym waiting)
+          (store.parents.records key (still_locked key locked));
       holders = λ key locked i up way.
-          holder_kept p.cache q.cache key.ino key.version up (λ code was. subst (λ es. is_some (block_in (key_of key.ino key.version code) es) ≡ true) (sym dirty) was)
+          holder_kept p.cache q.cache key.ino key.version up
+          (λ code was. subst (λ es. is_some (block_in (key_of key.ino key.version code) es) ≡ true) (sym dirty) was)
           (store.parents.holders key (still_locked key locked) i up way);
     };
     once = subst AreOnce (sym waiting) store.once;
@@ -80,21 +85,26 @@ module _ (p q : Parts) (log : q.log ≡ p.log) (waiting : q.waiting ≡ p.waitin
       (λ n low. file_at-kept p q n (filled_record n) (λ k. ap (λ t. data_block t k) (filled_tree n)))
 
 -- a key's block came to the front, if it is held
-pub held_used : (p : Parts) (key : Key) (block : List ℕ) (s : Contents) → s ≡ used key p.cache → block_in key p.cache.locked ≡ None
-    → KeepsBlocks p.cache (used key p.cache) → IsContents (used key p.cache) → Holds key block p (record p { cache = s })
+pub held_used : (p : Parts) (key : Key) (block : List ℕ) (s : Contents) → s ≡ used key p.cache
+    → block_in key p.cache.locked ≡ None
+    → KeepsBlocks p.cache (used key p.cache) → IsContents (used key p.cache)
+    → Holds key block p (record p { cache = s })
 held_used p key block s is free keeps formed = record {
   log = refl;
   waiting = refl;
   dirty = ap (λ (c : Contents). c.locked) is ∙ used_locked key p.cache free;
   formed = subst IsContents (sym is) formed;
   clean = λ other bytes there.
-      inr ((keeps_clean p.cache (used key p.cache) keeps formed).each other bytes (subst (λ (c : Contents). block_in other c.lru ≡ Some bytes) is there));
+      inr ((keeps_clean p.cache (used key p.cache) keeps formed).each other bytes
+      (subst (λ (c : Contents). block_in other c.lru ≡ Some bytes) is there));
 }
 
 -- or it took a frame
-pub held_filled : (p : Parts) (key : Key) (block : List ℕ) (s t : Contents) → s ≡ used key p.cache → block_in key p.cache.locked ≡ None
+pub held_filled : (p : Parts) (key : Key) (block : List ℕ) (s t : Contents) → s ≡ used key p.cache
+    → block_in key p.cache.locked ≡ None
     → KeepsBlocks p.cache (used key p.cache) → IsContents (used key p.cache)
-    → t.locked ≡ s.locked → GainsOnly key s t → IsContents t → block_of key t ≡ Some block → Holds key block p (record p { cache = t })
+    → t.locked ≡ s.locked → GainsOnly key s t → IsContents t → block_of key t ≡ Some block
+    → Holds key block p (record p { cache = t })
 held_filled p key block s t is free keeps formed locked gains whole here = record {
   log = refl;
   waiting = refl;
@@ -103,22 +113,25 @@ held_filled p key block s t is free keeps formed locked gains whole here = recor
   clean = λ other bytes there. elim (filled_clean s t key block whole gains here other bytes there) [
     | inl own ↦ inl own
     | inr was ↦
-        inr ((keeps_clean p.cache (used key p.cache) keeps formed).each other bytes (subst (λ (c : Contents). block_in other c.lru ≡ Some bytes) is was))
+        inr ((keeps_clean p.cache (used key p.cache) keeps formed).each other bytes
+        (subst (λ (c : Contents). block_in other c.lru ≡ Some bytes) is was))
   ];
 }
 
 -- a block that is what the log has came to be held
-pub held_clean : (p q : Parts) (key : Key) (block : List ℕ) → Mirrors p → Holds key block p q → IsLogged p key block → SameButClean p q
+pub held_clean : (p q : Parts) (key : Key) (block : List ℕ) → Mirrors p → Holds key block p q → IsLogged p key block
+    → SameButClean p q
 held_clean p q key block mirrors h logged = record {
   log = h.log;
   waiting = h.waiting;
   dirty = h.dirty;
   formed = h.formed;
   mirrors = record {
-    each = λ other bytes there. filled_logged p q h.log h.waiting h.dirty other bytes (elim (h.clean other bytes there) [
-      | inl here ↦ subst (λ b. IsLogged p other b) (sym here.1) (subst (λ k. IsLogged p k block) (sym here.0) logged)
-      | inr was ↦ mirrors.each other bytes was
-    ]);
+    each = λ other bytes there. filled_logged p q h.log h.waiting h.dirty other bytes
+        (elim (h.clean other bytes there) [
+          | inl here ↦ subst (λ b. IsLogged p other b) (sym here.1) (subst (λ k. IsLogged p k block) (sym here.0) logged)
+          | inr was ↦ mirrors.each other bytes was
+        ]);
   };
 }
 
@@ -139,7 +152,13 @@ module _ (p q : Parts) (h : SameButClean p q) where
   same_content = filled_content p q h.log h.waiting h.dirty
 
 pub SameButClean-refl : (p : Parts) → AreFiles p → SameButClean p p
-SameButClean-refl p files = record { log = refl; waiting = refl; dirty = refl; formed = files.cache; mirrors = files.mirrors }
+SameButClean-refl p files = record {
+  log = refl;
+  waiting = refl;
+  dirty = refl;
+  formed = files.cache;
+  mirrors = files.mirrors;
+}
 
 pub SameButClean-trans : (p q r : Parts) → SameButClean p q → SameButClean q r → SameButClean p r
 SameButClean-trans p q r first second = record {

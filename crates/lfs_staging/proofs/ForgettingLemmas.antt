@@ -1,5 +1,6 @@
 -- A block leaves what waits: what leads to it, the live bytes that it had, and what waits still.
-use Rattle.std.proofs.Common.{◌≡◌, ◌≢◌, ℕ, ◌-◌, ◌*◌, ◌/◌, ◌%◌, ◌<◌, ◌≤◌, List, [], ◌∷◌, length, IsSome, true, refl, sym, ap, ◌∙◌, subst, inl, inr, arith}
+use Rattle.std.proofs.Common.{◌≡◌, ◌≢◌, ℕ, ◌-◌, ◌*◌, ◌/◌, ◌%◌, ◌<◌, ◌≤◌, List, [], ◌∷◌, length, IsSome, true, refl, sym}
+use Rattle.std.proofs.Common.{ap, ◌∙◌, subst, inl, inr, arith}
 use Rattle.std.proofs.lemmas.Bool.{cases_lt, false≢true}
 use Rattle.std.proofs.lemmas.List.{get_or_past}
 use Rattle.std.proofs.lemmas.List.Elements.{All-weaker}
@@ -29,15 +30,21 @@ use Rattle.lfs_staging.specs.View.{key_of, tree_of, waiting_in}
 use Rattle.lfs_staging.proofs.KeyLemmas.{place-block}
 
 -- the segment of the old address has the block's live bytes
-pub live_had : (p : Parts) (number code from : ℕ) → IsLog (log_state p) 0 → number < length p.log.tables.rows → code < BLOCK_CODES → code ≢ 0
+pub live_had : (p : Parts) (number code from : ℕ) → IsLog (log_state p) 0 → number < length p.log.tables.rows
+    → code < BLOCK_CODES → code ≢ 0
     → address (tree_of p number) (way_of code) ≡ from → from ≢ 0 → 128 * units code ≤ live_of p.log.tables (from / 64)
 live_had p number code from log low below block is some =
     let at : (log_state p).at number code ≡ 4 * from = place-block p number code block ∙ ap (λ a. 4 * a) is in
-    let key = log.keys number code (record { number_below = low; code_below = below; somewhere = λ none. omega (arith, at, none, some) }) in
+    let key = log.keys number code (record {
+      number_below = low;
+      code_below = below;
+      somewhere = λ none. omega (arith, at, none, some);
+    }) in
     let inside : from / 64 < p.log.memory.segments = omega (arith, at, key.in_volume) in
     let part = live-part (length p.log.tables.rows) BLOCK_CODES (log_state p).at (from / 64) number code low below in
     let weight : weight_of ((log_state p).at number code) (from / 64) code ≡ 128 * units code =
-    ap (λ w. weight_of w (from / 64) code) at ∙ weight-here (4 * from) (from / 64) code (λ none. omega arith) (omega arith) in
+    ap (λ w. weight_of w (from / 64) code) at
+    ∙ weight-here (4 * from) (from / 64) code (λ none. omega arith) (omega arith) in
     let counted = log.counted (from / 64) inside in
     omega (arith, part, weight, counted)
 
@@ -46,11 +53,13 @@ pub used_low : (p : Parts) (number : ℕ) → (row_of p.log.tables number).used 
 used_low p number used =
     elim (cases_lt number (length p.log.tables.rows)) [
       | inl low ↦ low
-      | inr past ↦ absurd (false≢true (sym (ap (λ (r : InodeRow). r.used) (get_or_past p.log.tables.rows number fresh_row past)) ∙ used))
+      | inr past ↦ absurd (false≢true (sym (ap (λ (r : InodeRow). r.used)
+          (get_or_past p.log.tables.rows number fresh_row past)) ∙ used))
     ]
 
 -- a block's way leads somewhere, but for the record's
-pub way_some : (block : FileBlock) → IsFileBlock block → code_of block ≢ 0 → (i : ℕ) × (up : List ℕ) × (way_to block ≡ i ∷ up)
+pub way_some : (block : FileBlock) → IsFileBlock block → code_of block ≢ 0 → (i : ℕ) × (up : List ℕ)
+    × (way_to block ≡ i ∷ up)
 way_some Record can other = absurd (other refl)
 way_some Single can other = (12, [], refl)
 way_some Double can other = (13, [], refl)
@@ -64,17 +73,21 @@ way_some (Data index) can other =
       ]
     ]
 
-pub waited_parent : (p : Parts) (v : Inode) → IsWaiting p v → (up : List ℕ) → HolderWaits p.cache v.number v.version up → up ≢ [] → IsSome ((tree_of p v.number).waits up)
+pub waited_parent : (p : Parts) (v : Inode) → IsWaiting p v → (up : List ℕ) → HolderWaits p.cache v.number v.version up
+    → up ≢ [] → IsSome ((tree_of p v.number).waits up)
 waited_parent p v is [] waits some = absurd (some refl)
-waited_parent p v is (j ∷ above) waits some = subst (λ n. IsSome (block_in (key_of v.number n (code_at (j ∷ above))) p.cache.locked)) is.at_version waits
+waited_parent p v is (j ∷ above) waits some =
+    subst (λ n. IsSome (block_in (key_of v.number n (code_at (j ∷ above))) p.cache.locked)) is.at_version waits
 
 -- what waits stays of its number where the inode map is the same
-pub stays_landed : (p r s q : Parts) (v : Inode) → StaysWaiting r s v → r.waiting ≡ p.waiting → q.waiting ≡ s.waiting → q.log.tables.rows ≡ s.log.tables.rows
+pub stays_landed : (p r s q : Parts) (v : Inode) → StaysWaiting r s v → r.waiting ≡ p.waiting → q.waiting ≡ s.waiting
+    → q.log.tables.rows ≡ s.log.tables.rows
     → IsContents q.cache → StaysWaiting p q v
 stays_landed p r s q v stays before after rows formed = record {
   cache = formed;
   present = subst (λ items. All (λ (x : Inode). IsPresent q x.number x.version) items) (sym after)
-      (All-weaker (λ (x : Inode). IsPresent s x.number x.version) (λ (x : Inode). IsPresent q x.number x.version) (λ x h. record {
+      (All-weaker (λ (x : Inode). IsPresent s x.number x.version) (λ (x : Inode). IsPresent q x.number x.version)
+      (λ x h. record {
         in_use = ap (λ (rs : List InodeRow). (row_at rs x.number).used) rows ∙ h.in_use;
         at_version = h.at_version ∙ sym (ap (λ (rs : List InodeRow). (row_at rs x.number).version) rows);
       }) s.waiting stays.present);
@@ -85,6 +98,7 @@ stays_landed p r s q v stays before after rows formed = record {
     at_version = stays.here.at_version ∙ sym (ap (λ (rs : List InodeRow). (row_at rs stays.after.number).version) rows);
   };
   same = stays.same;
-  others = λ number other. ap (λ items. waiting_in items number) after ∙ stays.others number other ∙ ap (λ items. waiting_in items number) before;
+  others = λ number other. ap (λ items. waiting_in items number) after ∙ stays.others number other
+      ∙ ap (λ items. waiting_in items number) before;
   numbers = ap numbers_of after ∙ stays.numbers ∙ ap numbers_of before;
 }

@@ -1,5 +1,6 @@
 -- How many frames wait, and of whom.
-use Rattle.std.proofs.Common.{◌≡◌, ℕ, ◌+◌, ◌≤◌, List, [], ◌∷◌, length, None, Some, IsSome, is_some, true, false, refl, sym, ap, ◌∙◌, subst, inl, inr, arith}
+use Rattle.std.proofs.Common.{◌≡◌, ℕ, ◌+◌, ◌≤◌, List, [], ◌∷◌, length, None, Some, IsSome, is_some, true, false, refl}
+use Rattle.std.proofs.Common.{sym, ap, ◌∙◌, subst, inl, inr, arith}
 use Rattle.std.proofs.lemmas.Bool.{cond-true, cond-false, false≢true, cases_eq}
 use Rattle.std.proofs.lemmas.Option.{none-some}
 use Rattle.lfs_inodes.specs.declared.inode.Inode.{Inode}
@@ -20,15 +21,18 @@ use Rattle.lfs_cache.proofs.ChangeLemmas.{without_shorter}
 without_less : (k : Key) (es : List (Key × List ℕ)) → IsSome (block_in k es) → length (without_key k es) + 1 ≤ length es
 without_less k [] there = absurd (cc)
 without_less k (e ∷ es) there = elim (same_cases e.0 k) [
-  | inl same ↦ let is : length (without_key k (e ∷ es)) ≡ length (without_key k es) = ap length (cond-true _ _ _ same) in let rest = without_shorter k es in omega arith
+  | inl same ↦ let is : length (without_key k (e ∷ es))
+      ≡ length (without_key k es) = ap length (cond-true _ _ _ same) in let rest = without_shorter k es in omega arith
   | inr apart ↦
-      let is : length (without_key k (e ∷ es)) ≡ length (without_key k es) + 1 = ap length (cond-false _ _ _ apart) ∙ omega arith in
+      let is : length (without_key k (e ∷ es)) ≡ length (without_key k es) + 1 = ap length (cond-false _ _ _ apart)
+      ∙ omega arith in
       let rest = without_less k es (subst IsSome (cond-false _ _ _ apart) there) in
       omega arith
 ]
 
 -- a key of a list is none that the list lacks
-lacks_apart : (n k : Key) (es : List (Key × List ℕ)) → Lacks n (keys_of es) → IsSome (block_in k es) → same_key n k ≡ false
+lacks_apart : (n k : Key) (es : List (Key × List ℕ)) → Lacks n (keys_of es) → IsSome (block_in k es) → same_key n k
+    ≡ false
 lacks_apart n k [] lacks there = absurd (cc)
 lacks_apart n k (e ∷ es) lacks there = elim (same_cases e.0 k) [
   | inl same ↦
@@ -41,7 +45,8 @@ lacks_apart n k (e ∷ es) lacks there = elim (same_cases e.0 k) [
 ]
 
 -- a list whose keys are apart and stand in another list is no longer
-pub part_most : (xs ys : List (Key × List ℕ)) → AreApart (keys_of xs) → ((k : Key) → IsSome (block_in k xs) → IsSome (block_in k ys)) → length xs ≤ length ys
+pub part_most : (xs ys : List (Key × List ℕ)) → AreApart (keys_of xs)
+    → ((k : Key) → IsSome (block_in k xs) → IsSome (block_in k ys)) → length xs ≤ length ys
 part_most [] ys apart there = omega arith
 part_most (e ∷ es) ys apart there =
     let here : IsSome (block_in e.0 ys) = there e.0 (ap is_some (cond-true _ _ _ (same_self e.0))) in
@@ -52,12 +57,15 @@ part_most (e ∷ es) ys apart there =
     omega arith
 
 -- where what waits waited and a key waits no more, fewer frames do
-pub locked_less : (c d : Contents) (key : Key) → IsContents d → ((k : Key) → IsLocked k d → IsLocked k c) → IsLocked key c → block_in key d.locked ≡ None
+pub locked_less : (c d : Contents) (key : Key) → IsContents d → ((k : Key) → IsLocked k d → IsLocked k c)
+    → IsLocked key c → block_in key d.locked ≡ None
     → length d.locked + 1 ≤ length c.locked
 locked_less c d key formed only was gone =
     let less = without_less key c.locked was in
-    let rest = part_most d.locked (without_key key c.locked) (locked_apart d formed) (λ k locked. elim (same_cases key k) [
-      | inl same ↦ absurd (false≢true (sym (ap is_some gone) ∙ subst (λ x. is_some (block_in x d.locked) ≡ true) (sym (same_is key k same)) locked))
+    let rest = part_most d.locked (without_key key c.locked) (locked_apart d formed)
+    (λ k locked. elim (same_cases key k) [
+      | inl same ↦ absurd (false≢true (sym (ap is_some gone)
+          ∙ subst (λ x. is_some (block_in x d.locked) ≡ true) (sym (same_is key k same)) locked))
       | inr other ↦ subst IsSome (sym (block_other key k c.locked other)) (only k locked)
     ]) in
     omega arith
@@ -67,12 +75,14 @@ locked_less c d key formed only was gone =
 pub waiting_number : (vs : List Inode) (number : ℕ) (v : Inode) → waiting_in vs number ≡ Some v → v.number ≡ number
 waiting_number [] number v is = absurd (none-some v is)
 waiting_number (w ∷ vs) number v is = elim (cases_eq w.number number) [
-  | inl same ↦ let one : w ≡ v = cc (sym (waiting-head w vs number same) ∙ is) in ap (λ (x : Inode). x.number) (sym one) ∙ same
+  | inl same ↦ let one : w ≡ v = cc (sym (waiting-head w vs number same) ∙ is) in ap (λ (x : Inode). x.number) (sym one)
+      ∙ same
   | inr other ↦ waiting_number vs number v (sym (waiting-tail w vs number other) ∙ is)
 ]
 
 -- which numbers have a record that waits rests on the numbers alone
-numbers_none : (xs ys : List Inode) (number : ℕ) → numbers_of ys ≡ numbers_of xs → waiting_in xs number ≡ None → waiting_in ys number ≡ None
+numbers_none : (xs ys : List Inode) (number : ℕ) → numbers_of ys ≡ numbers_of xs → waiting_in xs number ≡ None
+    → waiting_in ys number ≡ None
 numbers_none xs [] number same none = refl
 numbers_none [] (w ∷ ys) number same none = absurd (cc)
 numbers_none (v ∷ xs) (w ∷ ys) number same none =
@@ -80,7 +90,8 @@ numbers_none (v ∷ xs) (w ∷ ys) number same none =
     let rest : numbers_of ys ≡ numbers_of xs = cc in
     elim (cases_eq v.number number) [
       | inl is ↦ absurd (none-some v (sym none ∙ waiting-head v xs number is))
-      | inr other ↦ waiting-tail w ys number (λ e. other (sym first ∙ e)) ∙ numbers_none xs ys number rest (sym (waiting-tail v xs number other) ∙ none)
+      | inr other ↦ waiting-tail w ys number (λ e. other (sym first ∙ e))
+          ∙ numbers_none xs ys number rest (sym (waiting-tail v xs number other) ∙ none)
     ]
 
 pub once_numbers : (xs ys : List Inode) → numbers_of ys ≡ numbers_of xs → AreOnce xs → AreOnce ys

@@ -1,5 +1,6 @@
 -- What holds of the files and of what waits holds still when a block was given back.
-use Rattle.std.proofs.Common.{◌≡◌, ◌≢◌, ℕ, ◌+◌, ◌/◌, ◌%◌, ◌≤◌, ◌⊎◌, List, [], ◌∷◌, length, Some, IsSome, is_some, true, false, refl, sym, ap, ◌∙◌, subst, inl, inr, arith}
+use Rattle.std.proofs.Common.{◌≡◌, ◌≢◌, ℕ, ◌+◌, ◌/◌, ◌%◌, ◌≤◌, ◌⊎◌, List, [], ◌∷◌, length, Some, IsSome, is_some, true}
+use Rattle.std.proofs.Common.{false, refl, sym, ap, ◌∙◌, subst, inl, inr, arith}
 use Rattle.std.specs.Prelude.{slice_index}
 use Rattle.std.proofs.lemmas.Bool.{cases_eq, false≢true}
 use Rattle.std.proofs.lemmas.Option.{none-some, same_Some}
@@ -37,14 +38,16 @@ use Rattle.lfs_staging.specs.Staging.{IsStaged}
 use Rattle.lfs_staging.specs.Store.{AreFiles, HolderWaits, IsFile, IsPresent, IsWithin, Mirrors, ParentsWait}
 use Rattle.lfs_staging.specs.View.{key_of, record_of, tree_of, version_of, waiting_in}
 use Rattle.lfs_staging.proofs.CleanLemmas.{apart_present, coded_below, logged_kept}
-use Rattle.lfs_staging.proofs.ClearedLemmas.{Steps, address_here, address_rest, address_same, data_same, moves, record_other, version_same, waits_key, zeros_here}
+use Rattle.lfs_staging.proofs.ClearedLemmas.{Steps, address_here, address_rest, address_same, data_same, moves}
+use Rattle.lfs_staging.proofs.ClearedLemmas.{record_other, version_same, waits_key, zeros_here}
 use Rattle.lfs_staging.proofs.FrameLemmas.{once_numbers}
 use Rattle.lfs_staging.proofs.SettingLemmas.{waiting_record}
 use Rattle.lfs_bmap.proofs.BlockLemmas.{code_of-below, same_block}
 use Rattle.lfs_segments.proofs.MemoryLemmas.{length-zero_block}
 
 -- a block within the size is none past it
-pub within_apart : (block b : FileBlock) (size : ℕ) → IsFileBlock block → IsFileBlock b → IsWithin block size → block_count size ≤ first_under b → code_of b ≢ code_of block
+pub within_apart : (block b : FileBlock) (size : ℕ) → IsFileBlock block → IsFileBlock b → IsWithin block size
+    → block_count size ≤ first_under b → code_of b ≢ code_of block
 within_apart block b size can is within past e = let same = ap first_under (same_block b block is can e) in omega arith
 
 -- the data block with a code
@@ -56,7 +59,8 @@ data_of_code (Child index) k can e = absurd (omega arith)
 data_of_code (Data index) k can e = let same : index ≡ k = omega arith in ap Data same
 
 -- blocks each of which is the same or zeros are padded alike
-pub padded_zeroed : (old new : ℕ → List ℕ) (size : ℕ) → ((n : ℕ) → (new n ≡ old n) ⊎ (new n ≡ zero_block)) → IsPadded old size → IsPadded new size
+pub padded_zeroed : (old new : ℕ → List ℕ) (size : ℕ) → ((n : ℕ) → (new n ≡ old n) ⊎ (new n ≡ zero_block))
+    → IsPadded old size → IsPadded new size
 padded_zeroed old new size each h = record {
   whole = λ n. elim (each n) [
     | inl same ↦ ap length same ∙ h.whole n
@@ -69,16 +73,20 @@ padded_zeroed old new size each h = record {
 }
 
 -- what holds the block's address waits
-pub parent_of : (p : Parts) (v : Inode) (block : FileBlock) → MayClear p v.number block → v.version ≡ version_of p v.number → (i : ℕ) (up : List ℕ) → way_to block ≡ i ∷ up → HolderWaits p.cache v.number v.version up
+pub parent_of : (p : Parts) (v : Inode) (block : FileBlock) → MayClear p v.number block → v.version
+    ≡ version_of p v.number → (i : ℕ) (up : List ℕ) → way_to block ≡ i ∷ up → HolderWaits p.cache v.number v.version up
 parent_of p v block may at i up e = subst (λ n. HolderWaits p.cache v.number n up) (sym at) (may.parent i up e)
 
 -- no block has its address in it
-pub beneath_of : (p : Parts) (number : ℕ) (block : FileBlock) → MayClear p number block → (i : ℕ) (up : List ℕ) → way_to block ≡ i ∷ up
+pub beneath_of : (p : Parts) (number : ℕ) (block : FileBlock) → MayClear p number block → (i : ℕ) (up : List ℕ)
+    → way_to block ≡ i ∷ up
     → (j : ℕ) → IsBlockWay (j ∷ i ∷ up) → address (tree_of p number) (j ∷ i ∷ up) ≡ 0
 beneath_of p number block may i up e j known =
-    ap (λ w. address (tree_of p number) (j ∷ w)) (sym e) ∙ (may.beneath j (subst (λ w. IsBlockWay (j ∷ w)) (sym e) known)).nowhere
+    ap (λ w. address (tree_of p number) (j ∷ w)) (sym e)
+    ∙ (may.beneath j (subst (λ w. IsBlockWay (j ∷ w)) (sym e) known)).nowhere
 
-module _ (p s q : Parts) (v : Inode) (block : FileBlock) (i : ℕ) (up : List ℕ) (h : Steps p s q v block i up) (may : MayClear p v.number block)
+module _ (p s q : Parts) (v : Inode) (block : FileBlock) (i : ℕ) (up : List ℕ) (h : Steps p s q v block i up)
+    (may : MayClear p v.number block)
     (stays : StaysWaiting p q v) (parts : IsParts q.log) where
   files : AreFiles p
   files = may.staged.whole
@@ -111,20 +119,25 @@ module _ (p s q : Parts) (v : Inode) (block : FileBlock) (i : ℕ) (up : List �
       elim (same_cases (key_of v.number v.version (code_of block)) key) [
         | inl is ↦
             let e = same_is (key_of v.number v.version (code_of block)) key is in
-            absurd (false≢true (sym (ap (λ k. is_some (block_in k q.cache.locked)) (sym e) ∙ ap is_some h.gone) ∙ locked))
+            absurd (false≢true (sym (ap (λ k. is_some (block_in k q.cache.locked)) (sym e) ∙ ap is_some h.gone)
+            ∙ locked))
         | inr apart ↦ elim (same_cases (key_of v.number v.version (code_at up)) key) [
           | inl is ↦ parent up refl (same_is (key_of v.number v.version (code_at up)) key is) apart
           | inr far ↦ sym (ap is_some (waits_key p s q v block i up h key apart far)) ∙ locked
         ]
       ]
     where
-      parent : (w : List ℕ) → w ≡ up → key_of v.number v.version (code_at up) ≡ key → same_key (key_of v.number v.version (code_of block)) key ≡ false → IsLocked key p.cache
-      parent [] e is apart = sym (ap is_some (h.kept key apart ∙ ap (λ (c : Contents). block_in key c.locked) (h.set.record_only (sym e)))) ∙ locked
+      parent : (w : List ℕ) → w ≡ up → key_of v.number v.version (code_at up) ≡ key
+          → same_key (key_of v.number v.version (code_of block)) key ≡ false → IsLocked key p.cache
+      parent [] e is apart = sym (ap is_some (h.kept key apart
+          ∙ ap (λ (c : Contents). block_in key c.locked) (h.set.record_only (sym e)))) ∙ locked
       parent (j ∷ above) e is apart =
-          subst (λ k. IsLocked k p.cache) (parent_key ∙ is) (h.waited (λ none. let bad : j ∷ above ≡ [] = e ∙ none in cc))
+          subst (λ k. IsLocked k p.cache) (parent_key ∙ is)
+          (h.waited (λ none. let bad : j ∷ above ≡ [] = e ∙ none in cc))
 
   -- and all that waited does, but for the block
-  pub frames_kept : (key : Key) → same_key (key_of v.number v.version (code_of block)) key ≡ false → IsLocked key p.cache → IsLocked key q.cache
+  pub frames_kept : (key : Key) → same_key (key_of v.number v.version (code_of block)) key ≡ false
+      → IsLocked key p.cache → IsLocked key q.cache
   frames_kept key apart was =
       elim (same_cases (key_of v.number v.version (code_at up)) key) [
         | inl is ↦ still up refl (same_is (key_of v.number v.version (code_at up)) key is)
@@ -132,26 +145,34 @@ module _ (p s q : Parts) (v : Inode) (block : FileBlock) (i : ℕ) (up : List �
       ]
     where
       still : (w : List ℕ) → w ≡ up → key_of v.number v.version (code_at up) ≡ key → IsLocked key q.cache
-      still [] e is = ap is_some (h.kept key apart ∙ ap (λ (c : Contents). block_in key c.locked) (h.set.record_only (sym e))) ∙ was
+      still [] e is = ap is_some (h.kept key apart
+          ∙ ap (λ (c : Contents). block_in key c.locked) (h.set.record_only (sym e))) ∙ was
       still (j ∷ above) e is =
-          ap is_some (h.kept key apart) ∙ subst (λ k. is_some (block_in k s.cache.locked) ≡ true) (ap (λ w. key_of v.number v.version (code_at w)) e ∙ is)
+          ap is_some (h.kept key apart) ∙ subst (λ k. is_some (block_in k s.cache.locked) ≡ true)
+          (ap (λ w. key_of v.number v.version (code_at w)) e ∙ is)
           (subst (HolderWaits s.cache v.number v.version) (sym e) h.set.still)
 
   -- ---- files
   file_after : (number : ℕ) (f g : Fields) → IsFile p number f → f.attributes ≡ g.attributes
-      → ((b : FileBlock) → IsFileBlock b → block_count f.attributes.size ≤ first_under b → (number ≢ v.number) ⊎ (code_of b ≢ code_of block)) → AreFields g → IsFile q number g
+      → ((b : FileBlock) → IsFileBlock b → block_count f.attributes.size ≤ first_under b → (number ≢ v.number)
+      ⊎ (code_of b ≢ code_of block)) → AreFields g → IsFile q number g
   file_after number f g was same apart formed = record {
     formed = formed;
     own_number = sym (ap (λ (x : Attributes). x.number) same) ∙ was.own_number;
-    own_version = sym (ap (λ (x : Attributes). x.version) same) ∙ was.own_version ∙ sym (version_same p s q v block i up h number);
+    own_version = sym (ap (λ (x : Attributes). x.version) same) ∙ was.own_version
+        ∙ sym (version_same p s q v block i up h number);
     none_past = λ b is past.
-        let from : block_count f.attributes.size ≤ first_under b = subst (λ (x : Attributes). block_count x.size ≤ first_under b) (sym same) past in
-        ap (address (tree_of q number)) (sym (way_of-code_of b is)) ∙ address_same p s q v block i up h number (code_of b) (code_of-below b is) (apart b is from)
+        let from : block_count f.attributes.size ≤ first_under b =
+        subst (λ (x : Attributes). block_count x.size ≤ first_under b) (sym same) past in
+        ap (address (tree_of q number)) (sym (way_of-code_of b is))
+        ∙ address_same p s q v block i up h number (code_of b) (code_of-below b is) (apart b is from)
         ∙ ap (address (tree_of p number)) (way_of-code_of b is) ∙ was.none_past b is from;
     padded = subst (λ (x : Attributes). IsPadded (data_block (tree_of q number)) x.size) same
-        (padded_zeroed (data_block (tree_of p number)) (data_block (tree_of q number)) f.attributes.size (λ n. elim (cases_eq number v.number) [
+        (padded_zeroed (data_block (tree_of p number)) (data_block (tree_of q number)) f.attributes.size
+        (λ n. elim (cases_eq number v.number) [
           | inl e ↦ elim (cases_eq (131 + n) (code_of block)) [
-            | inl is ↦ inr (ap (λ m. data_block (tree_of q m) n) e ∙ zeros_here p s q v block i up h n (data_of_code block n h.can is))
+            | inl is ↦ inr (ap (λ m. data_block (tree_of q m) n) e
+                ∙ zeros_here p s q v block i up h n (data_of_code block n h.can is))
             | inr ne ↦ inl (data_same p s q v block i up h number n (inr ne))
           ]
           | inr ne ↦ inl (data_same p s q v block i up h number n (inl ne))
@@ -164,7 +185,8 @@ module _ (p s q : Parts) (v : Inode) (block : FileBlock) (i : ℕ) (up : List �
         | inl e ↦
             let same : fields_of stays.after ≡ f = same_Some _ f (sym record_here ∙ ap (record_of q) (sym e) ∙ is) in
             subst (IsFile q number) same (file_after number (fields_of v) (fields_of stays.after)
-            (subst (λ n. IsFile p n (fields_of v)) (sym e) (files.files v.number (fields_of v) record_before)) (sym stays.same)
+            (subst (λ n. IsFile p n (fields_of v)) (sym e) (files.files v.number (fields_of v) record_before))
+            (sym stays.same)
             (λ b can past. inr (within_apart block b v.size h.can can within past)) (AreFields-fields_of stays.after))
         | inr ne ↦
             let was = files.files number f (sym (record_other p s q v block i up h number ne) ∙ is) in
@@ -177,8 +199,10 @@ module _ (p s q : Parts) (v : Inode) (block : FileBlock) (i : ℕ) (up : List �
     each = λ key bytes there.
         let k = key_of v.number v.version (code_of block) in
         let was = files.mirrors.each key bytes (h.set.clean.each key bytes (h.clean.each key bytes there)) in
-        let at : address (tree_of q key.ino) (way_of key.lbn) ≡ address (tree_of p key.ino) (way_of key.lbn) = elim (same_cases k key) [
-          | inl is ↦ absurd (none-some bytes (sym h.unclean ∙ subst (λ x. block_in x q.cache.lru ≡ Some bytes) (sym (same_is k key is)) there))
+        let at : address (tree_of q key.ino) (way_of key.lbn)
+        ≡ address (tree_of p key.ino) (way_of key.lbn) = elim (same_cases k key) [
+          | inl is ↦ absurd (none-some bytes (sym h.unclean
+              ∙ subst (λ x. block_in x q.cache.lru ≡ Some bytes) (sym (same_is k key is)) there))
           | inr other ↦ address_same p s q v block i up h key.ino key.lbn (coded_below key.lbn was.coded)
               (apart_present p k key (record { in_use = h.is.in_use; at_version = h.is.at_version }) was.present other)
         ] in
@@ -190,10 +214,12 @@ module _ (p s q : Parts) (v : Inode) (block : FileBlock) (i : ℕ) (up : List �
   whole_after = record {
     parts = parts;
     cache = stays.cache;
-    reserved = λ number low other. ap (λ (rs : List InodeRow). (row_at rs number).used) h.rows ∙ files.reserved number low other;
+    reserved = λ number low other. ap (λ (rs : List InodeRow). (row_at rs number).used) h.rows
+        ∙ files.reserved number low other;
     recorded = λ number used. elim (cases_eq number v.number) [
       | inl e ↦ ap is_some (ap (record_of q) e ∙ record_here)
-      | inr ne ↦ ap is_some (record_other p s q v block i up h number ne) ∙ files.recorded number (sym (ap (λ (rs : List InodeRow). (row_at rs number).used) h.rows) ∙ used)
+      | inr ne ↦ ap is_some (record_other p s q v block i up h number ne)
+          ∙ files.recorded number (sym (ap (λ (rs : List InodeRow). (row_at rs number).used) h.rows) ∙ used)
     ];
     files = files_after;
     records = stays.present;
@@ -217,28 +243,37 @@ module _ (p s q : Parts) (v : Inode) (block : FileBlock) (i : ℕ) (up : List �
     where
       -- the block that went held the address of none that waits
       apart : (key : Key) → IsLocked key p.cache → (k j : ℕ) (above : List ℕ) → way_of key.lbn ≡ k ∷ j ∷ above
-          → same_key (key_of v.number v.version (code_of block)) (key_of key.ino key.version (code_at (j ∷ above))) ≡ false
+          → same_key (key_of v.number v.version (code_of block)) (key_of key.ino key.version (code_at (j ∷ above)))
+          ≡ false
       apart key was k j above way =
-          elim (same_cases (key_of v.number v.version (code_of block)) (key_of key.ino key.version (code_at (j ∷ above)))) [
+          elim (same_cases (key_of v.number v.version (code_of block))
+          (key_of key.ino key.version (code_at (j ∷ above)))) [
             | inr other ↦ other
             | inl same ↦
-                let e = same_is (key_of v.number v.version (code_of block)) (key_of key.ino key.version (code_at (j ∷ above))) same in
+                let e = same_is (key_of v.number v.version (code_of block))
+                (key_of key.ino key.version (code_at (j ∷ above))) same in
                 let number : key.ino ≡ v.number = sym (ap (λ (x : Key). x.ino) e) in
                 let below = coded_below key.lbn (files.coded key was) in
                 let known : IsBlockWay (k ∷ j ∷ above) = subst IsBlockWay way (way_of-known key.lbn below) in
-                let up_is : way_to block ≡ j ∷ above = sym (way_of-code_of block may.can) ∙ ap way_of (ap (λ (x : Key). x.lbn) e) ∙ known_way_of (j ∷ above) (up_known k (j ∷ above) known) in
+                let up_is : way_to block ≡ j ∷ above = sym (way_of-code_of block may.can)
+                ∙ ap way_of (ap (λ (x : Key). x.lbn) e) ∙ known_way_of (j ∷ above) (up_known k (j ∷ above) known) in
                 let gone = may.beneath k (subst (λ w. IsBlockWay (k ∷ w)) (sym up_is) known) in
-                let version : key.version ≡ version_of p v.number = (files.frames key was).at_version ∙ ap (version_of p) number in
-                let code : key.lbn ≡ code_at (k ∷ way_to block) = sym (code_at-way_of key.lbn) ∙ ap code_at way ∙ ap (λ w. code_at (k ∷ w)) (sym up_is) in
-                let there : key ≡ key_of v.number (version_of p v.number) (code_at (k ∷ way_to block)) = λ n. key_of (number n) (version n) (code n) in
+                let version : key.version ≡ version_of p v.number = (files.frames key was).at_version
+                ∙ ap (version_of p) number in
+                let code : key.lbn ≡ code_at (k ∷ way_to block) = sym (code_at-way_of key.lbn) ∙ ap code_at way
+                ∙ ap (λ w. code_at (k ∷ w)) (sym up_is) in
+                let there : key ≡ key_of v.number (version_of p v.number) (code_at (k ∷ way_to block)) =
+                λ n. key_of (number n) (version n) (code n) in
                 absurd (gone.free (subst (λ x. IsLocked x p.cache) there was))
           ]
 
-      holders_after : (key : Key) → IsLocked key q.cache → (k : ℕ) (above : List ℕ) → way_of key.lbn ≡ k ∷ above → HolderWaits q.cache key.ino key.version above
+      holders_after : (key : Key) → IsLocked key q.cache → (k : ℕ) (above : List ℕ) → way_of key.lbn ≡ k ∷ above
+          → HolderWaits q.cache key.ino key.version above
       holders_after key locked k [] way = tt
       holders_after key locked k (j ∷ above) way =
           let was = frames_only key locked in
-          frames_kept (key_of key.ino key.version (code_at (j ∷ above))) (apart key was k j above way) (may.staged.parents.holders key was k (j ∷ above) way)
+          frames_kept (key_of key.ino key.version (code_at (j ∷ above))) (apart key was k j above way)
+          (may.staged.parents.holders key was k (j ∷ above) way)
 
   as_many : length q.waiting ≡ length p.waiting
   as_many =
@@ -253,7 +288,8 @@ module _ (p s q : Parts) (v : Inode) (block : FileBlock) (i : ℕ) (up : List �
   within_after : (number : ℕ) (b : FileBlock) (f : Fields) → record_of q number ≡ Some f → IsFileBlock b
       → IsLocked (key_of number (version_of q number) (code_of b)) q.cache → IsWithin b f.attributes.size
   within_after number b f is can locked =
-      let was = subst (λ n. IsLocked (key_of number n (code_of b)) p.cache) (version_same p s q v block i up h number) (frames_only (key_of number (version_of q number) (code_of b)) locked) in
+      let was = subst (λ n. IsLocked (key_of number n (code_of b)) p.cache) (version_same p s q v block i up h number)
+      (frames_only (key_of number (version_of q number) (code_of b)) locked) in
       elim (cases_eq number v.number) [
         | inl e ↦
             let same : fields_of stays.after ≡ f = same_Some _ f (sym record_here ∙ ap (record_of q) (sym e) ∙ is) in
@@ -292,9 +328,12 @@ module _ (p s q : Parts) (v : Inode) (block : FileBlock) (i : ℕ) (up : List �
     many = let same = as_many in omega arith;
   }
 
-  pub cleared : IsLog (log_state q) 0 → q.log.tables.states ≡ p.log.tables.states → q.log.clean ≡ p.log.clean → ClearsBlock v.number block p q
+  pub cleared : IsLog (log_state q) 0 → q.log.tables.states ≡ p.log.tables.states → q.log.clean ≡ p.log.clean
+      → ClearsBlock v.number block p q
   cleared log states clean =
-      let key : key_of v.number (version_of p v.number) (code_of block) ≡ key_of v.number v.version (code_of block) = ap (λ n. key_of v.number n (code_of block)) (sym h.is.at_version) in
+      let key : key_of v.number (version_of p v.number) (code_of block)
+      ≡ key_of v.number v.version (code_of block) =
+      ap (λ n. key_of v.number n (code_of block)) (sym h.is.at_version) in
       record {
         staged = staged_after log;
         rest = rest_after states clean;

@@ -1,5 +1,6 @@
 -- A file whose record waits with a greater size, and one into which bytes were put.
-use Rattle.std.proofs.Common.{◌≡◌, ◌≢◌, ℕ, ◌+◌, ◌*◌, ◌<◌, ◌≤◌, max, List, length, Some, option_map, is_some, sym, ap, ◌∙◌, subst, inl, inr, arith}
+use Rattle.std.proofs.Common.{◌≡◌, ◌≢◌, ℕ, ◌+◌, ◌*◌, ◌<◌, ◌≤◌, max, List, length, Some, option_map, is_some, sym, ap}
+use Rattle.std.proofs.Common.{◌∙◌, subst, inl, inr, arith}
 use Rattle.std.specs.Cmp.{nat_cmp_total}
 use Rattle.std.specs.FinMap as map
 use Rattle.std.specs.FinMap.{same_map, nat_cmp-IsAntisymmetric}
@@ -34,7 +35,8 @@ use Rattle.lfs_staging.specs.Waiting.{without}
 use Rattle.lfs_staging.proofs.CleanLemmas.{mirrors_log}
 use Rattle.lfs_staging.proofs.HeldLemmas.{GainsNoClean-same}
 use Rattle.lfs_staging.proofs.FileLemmas.{file_at-record, file_at-some, get-content_of}
-use Rattle.lfs_staging.proofs.KeptLemmas.{AllWithin, few_records, log_kept, may_present, record_once, record_parents, record_present, record_room, record_trees}
+use Rattle.lfs_staging.proofs.KeptLemmas.{AllWithin, few_records, log_kept, may_present, record_once, record_parents}
+use Rattle.lfs_staging.proofs.KeptLemmas.{record_present, record_room, record_trees}
 use Rattle.lfs_staging.proofs.StagingLemmas.{version-same}
 use Rattle.lfs_staging.proofs.WaitingLemmas.{length-rest, length-without}
 use Rattle.lfs_staging.proofs.SettingLemmas.{present_kept}
@@ -59,7 +61,8 @@ padded_longer blocks size other h more = record { whole = h.whole; zeros = λ i 
 
 -- The record waits with other attributes, of the same number and version and with a size that is not less, and with the
 -- same addresses.
-module _ (old new : Parts) (v w : Inode) (may : MayStage old v) (h : StagesRecord w old new) (same_number : w.number ≡ v.number) (same_version : w.version ≡ v.version)
+module _ (old new : Parts) (v w : Inode) (may : MayStage old v) (h : StagesRecord w old new) (same_number : w.number
+    ≡ v.number) (same_version : w.version ≡ v.version)
     (roots : addresses w ≡ addresses v) (more : v.size ≤ w.size) where
   grown_here : record_of new v.number ≡ Some (fields_of w)
   grown_here = ap (record_of new) (sym same_number) ∙ h.here
@@ -69,7 +72,8 @@ module _ (old new : Parts) (v w : Inode) (may : MayStage old v) (h : StagesRecor
 
   grown_trees : (n : ℕ) → tree_of new n ≡ tree_of old n
   grown_trees = record_trees old new w h (λ n. elim (cases_eq n v.number) [
-    | inl is ↦ ap (λ m. root_in (record_of new m)) is ∙ ap root_in grown_here ∙ roots ∙ sym (ap (λ m. root_in (record_of old m)) is ∙ ap root_in may.here)
+    | inl is ↦ ap (λ m. root_in (record_of new m)) is ∙ ap root_in grown_here ∙ roots
+        ∙ sym (ap (λ m. root_in (record_of old m)) is ∙ ap root_in may.here)
     | inr other ↦ ap root_in (grown_others n other)
   ])
 
@@ -86,7 +90,8 @@ module _ (old new : Parts) (v w : Inode) (may : MayStage old v) (h : StagesRecor
     formed = AreFields-fields_of w;
     own_number = same_number;
     own_version = same_version ∙ old_file.own_version ∙ sym (version-same old new v.number h.log);
-    none_past = λ block is past. ap (λ t. address t (way_to block)) (grown_trees v.number) ∙ old_file.none_past block is (omega arith);
+    none_past = λ block is past. ap (λ t. address t (way_to block)) (grown_trees v.number)
+        ∙ old_file.none_past block is (omega arith);
     padded = subst (λ t. IsPadded (data_block t) w.size) (sym (grown_trees v.number))
         (padded_longer (data_block (tree_of old v.number)) v.size w.size old_file.padded (omega arith));
   }
@@ -107,20 +112,24 @@ module _ (old new : Parts) (v w : Inode) (may : MayStage old v) (h : StagesRecor
     reserved = λ n low other. ap (λ (l : LogParts). (row_of l.tables n).used) h.log ∙ may.files.reserved n low other;
     recorded = λ n used. elim (cases_eq n v.number) [
       | inl is ↦ ap (λ m. is_some (record_of new m)) is ∙ ap is_some grown_here
-      | inr other ↦ ap is_some (grown_others n other) ∙ may.files.recorded n (sym (ap (λ (l : LogParts). (row_of l.tables n).used) h.log) ∙ used)
+      | inr other ↦ ap is_some (grown_others n other)
+          ∙ may.files.recorded n (sym (ap (λ (l : LogParts). (row_of l.tables n).used) h.log) ∙ used)
     ];
     files = λ n f is. elim (cases_eq n v.number) [
       | inl here ↦
-          let f_is : fields_of w ≡ f = same_Some (fields_of w) f (sym grown_here ∙ ap (record_of new) (sym here) ∙ is) in
+          let f_is : fields_of w ≡ f = same_Some (fields_of w) f (sym grown_here ∙ ap (record_of new) (sym here) ∙ is)
+          in
           subst (λ m. IsFile new m f) (sym here) (subst (IsFile new v.number) f_is grown_file)
       | inr other ↦ other_file n f (may.files.files n f (sym (grown_others n other) ∙ is))
     ];
     records = λ k d low.
         let r = record_present old new w h may.files was_present k d low in
         present_kept old new _ _ h.log r;
-    frames = λ key locked. present_kept old new key.ino key.version h.log (may.files.frames key (subst (IsLocked key) h.cache locked));
+    frames = λ key locked. present_kept old new key.ino key.version h.log
+        (may.files.frames key (subst (IsLocked key) h.cache locked));
     coded = λ key locked. may.files.coded key (subst (IsLocked key) h.cache locked);
-    mirrors = mirrors_log old new may.files.mirrors (GainsNoClean-same old.cache new.cache h.cache) h.log (λ n way known. ap (λ t. address t way) (grown_trees n));
+    mirrors = mirrors_log old new may.files.mirrors (GainsNoClean-same old.cache new.cache h.cache) h.log
+        (λ n way known. ap (λ t. address t way) (grown_trees n));
   }
 
   grown_again : MayStage new w
@@ -129,21 +138,28 @@ module _ (old new : Parts) (v w : Inode) (may : MayStage old v) (h : StagesRecor
     parents = record_parents old new w h may.parents;
     inside = subst (λ n. LiesIn (blocks_of new) (tree_of new n)) (sym same_number)
         (subst (λ t. LiesIn (blocks_of new) t) (sym (grown_trees v.number))
-        (subst (λ m. LiesIn m (tree_of old v.number)) (sym (ap (λ (l : LogParts). l.memory.segments * 64) h.log)) may.inside));
-    in_range = subst (λ n. n < length new.log.tables.rows) (sym same_number) (subst (λ n. v.number < n) (sym (ap (λ (l : LogParts). length l.tables.rows) h.log)) may.in_range);
+        (subst (λ m. LiesIn m (tree_of old v.number))
+        (sym (ap (λ (l : LogParts). l.memory.segments * 64) h.log)) may.inside));
+    in_range = subst (λ n. n < length new.log.tables.rows) (sym same_number)
+        (subst (λ n. v.number < n) (sym (ap (λ (l : LogParts). length l.tables.rows) h.log)) may.in_range);
     in_use = (present_kept old new w.number w.version h.log was_present).in_use;
     here = h.here;
-    records = subst (λ (vs : List Inode). length vs < 64) (sym (record_room old new w h ∙ ap (λ n. without n old.waiting) same_number)) may.records;
+    records = subst (λ (vs : List Inode). length vs < 64)
+        (sym (record_room old new w h ∙ ap (λ n. without n old.waiting) same_number)) may.records;
   }
 
   grown_within : AllWithin old → AllWithin new
   grown_within was n block f is can locked =
       let before : IsLocked (key_of n (version_of old n) (code_of block)) old.cache
-      = subst (λ version. IsLocked (key_of n version (code_of block)) old.cache) (version-same old new n h.log) (subst (IsLocked (key_of n (version_of new n) (code_of block))) h.cache locked) in
+      = subst (λ version. IsLocked (key_of n version (code_of block)) old.cache) (version-same old new n h.log)
+      (subst (IsLocked (key_of n (version_of new n) (code_of block))) h.cache locked) in
       elim (cases_eq n v.number) [
         | inl here ↦
-            let f_is : fields_of w ≡ f = same_Some (fields_of w) f (sym grown_here ∙ ap (record_of new) (sym here) ∙ is) in
-            subst (λ (x : Fields). IsWithin block x.attributes.size) f_is (within_more block v.size w.size more (was n block (fields_of v) (ap (record_of old) here ∙ may.here) can before))
+            let f_is : fields_of w ≡ f = same_Some (fields_of w) f (sym grown_here ∙ ap (record_of new) (sym here) ∙ is)
+            in
+            subst (λ (x : Fields). IsWithin block x.attributes.size) f_is
+            (within_more block v.size w.size more (was n block (fields_of v) (ap (record_of old) here
+            ∙ may.here) can before))
         | inr other ↦ was n block f (sym (grown_others n other) ∙ is) can before
       ]
 
@@ -172,7 +188,8 @@ module _ (old new : Parts) (v w : Inode) (may : MayStage old v) (h : StagesRecor
     room = grown_room;
   }
 
-pub grown_to : (old new : Parts) (v w : Inode) (size least : ℕ) → MayStage old v → StagesRecord w old new → attributes w ≡ record (attributes v) { size = size }
+pub grown_to : (old new : Parts) (v w : Inode) (size least : ℕ) → MayStage old v → StagesRecord w old new → attributes w
+    ≡ record (attributes v) { size = size }
     → addresses w ≡ addresses v → v.size ≤ size → size ≡ max v.size least → GrowsTo v w least old new
 grown_to old new v w size least may h changed roots more is =
     let number : w.number ≡ v.number = ap (λ (a : Attributes). a.number) changed in
@@ -197,22 +214,32 @@ grown_to old new v w size least may h changed roots more is =
 abbrev pub file_from : (ℕ → List ℕ) → Fields → File
 file_from blocks f = file_of (stat_of f.attributes) (file_bytes blocks f.attributes.size)
 
-module _ (old between new : Parts) (v w : Inode) (start : ℕ) (bytes : List ℕ) (has : record_of old v.number ≡ Some (fields_of v)) (file : IsFile old v.number (fields_of v))
-    (some : 0 < length bytes) (g : GrowsTo v w (start + length bytes) old between) (h : PutsBytes w start bytes between new) where
+module _ (old between new : Parts) (v w : Inode) (start : ℕ) (bytes : List ℕ) (has : record_of old v.number
+    ≡ Some (fields_of v)) (file : IsFile old v.number (fields_of v))
+    (some : 0 < length bytes) (g : GrowsTo v w (start + length bytes) old between)
+    (h : PutsBytes w start bytes between new) where
   -- the record, with the greater size
-  put_record : record_of new v.number ≡ Some (record (fields_of v) { attributes = record (attributes v) { size = max v.size (start + length bytes) } })
+  put_record : record_of new v.number ≡ Some
+      (record (fields_of v) { attributes = record (attributes v) { size = max v.size (start + length bytes) } })
   put_record = h.records v.number ∙ g.here
 
   put_each : (n : ℕ) → IsPut n start bytes (data_block (tree_of old v.number) n) (data_block (tree_of new v.number) n)
   put_each n =
       subst (λ t. IsPut n start bytes (data_block t n) (data_block (tree_of new v.number) n)) (g.blocks v.number)
-      (subst (λ k. IsPut n start bytes (data_block (tree_of between k) n) (data_block (tree_of new k) n)) g.number (h.put n))
+      (subst (λ k. IsPut n start bytes (data_block (tree_of between k) n) (data_block (tree_of new k) n)) g.number
+      (h.put n))
 
   -- its bytes
-  put_bytes : file_bytes (data_block (tree_of new v.number)) (max v.size (start + length bytes)) ≡ splice (file_bytes (data_block (tree_of old v.number)) v.size) start bytes
-  put_bytes = put_splice (data_block (tree_of old v.number)) (data_block (tree_of new v.number)) v.size start bytes file.padded put_each some
+  put_bytes : file_bytes (data_block (tree_of new v.number)) (max v.size (start + length bytes))
+      ≡ splice (file_bytes (data_block (tree_of old v.number)) v.size) start bytes
+  put_bytes = put_splice (data_block (tree_of old v.number))
+      (data_block (tree_of new v.number)) v.size start bytes file.padded put_each some
 
-  put_file : file_at new v.number ≡ Some (record (file_with (tree_of old v.number) (fields_of v)) { bytes = splice (file_bytes (data_block (tree_of old v.number)) v.size) start bytes })
+  put_file : file_at new v.number ≡ Some (record
+      (file_with (tree_of old v.number) (fields_of v)) {
+        bytes =
+            splice (file_bytes (data_block (tree_of old v.number)) v.size) start bytes;
+      })
   put_file =
       file_at-some new v.number _ put_record
       ∙ ap (λ bs. Some (record (file_with (tree_of old v.number) (fields_of v)) { bytes = bs })) put_bytes
@@ -232,17 +259,23 @@ module _ (old between new : Parts) (v w : Inode) (start : ℕ) (bytes : List ℕ
       let before : map.get (content_of old) v.number ≡ Some (file_with (tree_of old v.number) (fields_of v))
       = get-content_of old v.number ∙ file_at-some old v.number (fields_of v) has in
       let to : with_put v.number start bytes (content_of old) ≡ map.insert (content_of old) v.number
-      (record (file_with (tree_of old v.number) (fields_of v)) { bytes = splice (file_bytes (data_block (tree_of old v.number)) v.size) start bytes })
-      = ap (λ o. changed_at o v.number (λ (f : File). record f { bytes = splice f.bytes start bytes }) (content_of old)) before in
+      (record (file_with (tree_of old v.number) (fields_of v)) {
+        bytes =
+            splice (file_bytes (data_block (tree_of old v.number)) v.size) start bytes;
+      })
+      = ap (λ o. changed_at o v.number (λ (f : File). record f { bytes = splice f.bytes start bytes }) (content_of old))
+      before in
       same_map nat_cmp_total nat_cmp-IsAntisymmetric (content_of new) _ (λ q. elim (cases_eq q v.number) [
         | inl is ↦ ap (map.get (content_of new)) is ∙ get-content_of new v.number ∙ put_file
-            ∙ sym (ap (map.get (with_put v.number start bytes (content_of old))) is ∙ ap (λ c. map.get c v.number) to ∙ get-insert_same (content_of old) v.number _)
+            ∙ sym (ap (map.get (with_put v.number start bytes (content_of old))) is ∙ ap (λ c. map.get c v.number) to
+            ∙ get-insert_same (content_of old) v.number _)
         | inr other ↦ get-content_of new q ∙ put_other q other ∙ sym (get-content_of old q)
             ∙ sym (ap (λ c. map.get c q) to ∙ get-insert_other (content_of old) v.number _ q other)
       ])
 
 -- where a file may be changed, its blocks may wait
-pub may_from : (p : Parts) (v : Inode) (number : ℕ) → MayChange p number → record_of p number ≡ Some (fields_of v) → MayStage p v
+pub may_from : (p : Parts) (v : Inode) (number : ℕ) → MayChange p number → record_of p number ≡ Some (fields_of v)
+    → MayStage p v
 may_from p v number may has =
     let own : v.number ≡ number = (may.files.files number (fields_of v) has).own_number in
     record {
@@ -256,28 +289,35 @@ may_from p v number may has =
     }
 
 -- at most one record more waits where those of the other numbers are the same
-pub one_record : (old new : Parts) (number : ℕ) → without number new.waiting ≡ without number old.waiting → length new.waiting ≤ length old.waiting + 1
+pub one_record : (old new : Parts) (number : ℕ) → without number new.waiting ≡ without number old.waiting
+    → length new.waiting ≤ length old.waiting + 1
 one_record old new number same =
     let more = length-rest new.waiting number in
     let less = length-without old.waiting number in
-    let is : length (without number new.waiting) ≡ length (without number old.waiting) = ap (λ (vs : List Inode). length vs) same in
+    let is : length (without number new.waiting)
+    ≡ length (without number old.waiting) = ap (λ (vs : List Inode). length vs) same in
     omega arith
 
-pub put_shown : (old between new : Parts) (v w : Inode) (number start : ℕ) (bytes : List ℕ) → MayChange old number → 0 < length bytes → record_of old number ≡ Some (fields_of v)
-    → GrowsTo v w (start + length bytes) old between → PutsBytes w start bytes between new → content_of new ≡ with_put number start bytes (content_of old)
+pub put_shown : (old between new : Parts) (v w : Inode) (number start : ℕ) (bytes : List ℕ) → MayChange old number
+    → 0 < length bytes → record_of old number ≡ Some (fields_of v)
+    → GrowsTo v w (start + length bytes) old between → PutsBytes w start bytes between new → content_of new
+    ≡ with_put number start bytes (content_of old)
 put_shown old between new v w number start bytes may some has g h =
     let own : v.number ≡ number = (may.files.files number (fields_of v) has).own_number in
     let stages = may_from old v number may has in
-    put_content old between new v w start bytes stages.here (stages.files.files v.number (fields_of v) stages.here) some g h
+    put_content old between new v w start bytes stages.here
+    (stages.files.files v.number (fields_of v) stages.here) some g h
     ∙ ap (λ n. with_put n start bytes (content_of old)) own
 
 -- ---- other attributes
-module _ (old new : Parts) (v w : Inode) (a : Attrs) (has : record_of old v.number ≡ Some (fields_of v)) (h : ChangesRecord v w old new)
+module _ (old new : Parts) (v w : Inode) (a : Attrs) (has : record_of old v.number ≡ Some (fields_of v))
+    (h : ChangesRecord v w old new)
     (changed : attributes w ≡ attributes_from v.number v.version a v.size) where
   attrs_file : file_at new v.number ≡ Some (file_of a (file_bytes (data_block (tree_of old v.number)) v.size))
   attrs_file =
       file_at-some new v.number (fields_of w) h.here
-      ∙ ap (λ (x : Attributes). Some (file_of (stat_of x) (file_bytes (data_block (tree_of new v.number)) x.size))) changed
+      ∙ ap (λ (x : Attributes). Some (file_of (stat_of x) (file_bytes (data_block (tree_of new v.number)) x.size)))
+      changed
       ∙ ap (λ t. Some (file_of a (file_bytes (data_block t) v.size))) (h.blocks v.number)
 
   attrs_other : (n : ℕ) → n ≢ v.number → file_at new n ≡ file_at old n
@@ -289,24 +329,31 @@ module _ (old new : Parts) (v w : Inode) (a : Attrs) (has : record_of old v.numb
   attrs_content =
       let before : map.get (content_of old) v.number ≡ Some (file_with (tree_of old v.number) (fields_of v))
       = get-content_of old v.number ∙ file_at-some old v.number (fields_of v) has in
-      let to : with_attrs v.number a (content_of old) ≡ map.insert (content_of old) v.number (file_of a (file_bytes (data_block (tree_of old v.number)) v.size))
+      let to : with_attrs v.number a (content_of old)
+      ≡ map.insert (content_of old) v.number (file_of a (file_bytes (data_block (tree_of old v.number)) v.size))
       = ap (λ o. changed_at o v.number (λ (f : File). file_of a f.bytes) (content_of old)) before in
       same_map nat_cmp_total nat_cmp-IsAntisymmetric (content_of new) _ (λ q. elim (cases_eq q v.number) [
         | inl is ↦ ap (map.get (content_of new)) is ∙ get-content_of new v.number ∙ attrs_file
-            ∙ sym (ap (map.get (with_attrs v.number a (content_of old))) is ∙ ap (λ c. map.get c v.number) to ∙ get-insert_same (content_of old) v.number _)
+            ∙ sym (ap (map.get (with_attrs v.number a (content_of old))) is ∙ ap (λ c. map.get c v.number) to
+            ∙ get-insert_same (content_of old) v.number _)
         | inr other ↦ get-content_of new q ∙ attrs_other q other ∙ sym (get-content_of old q)
             ∙ sym (ap (λ c. map.get c q) to ∙ get-insert_other (content_of old) v.number _ q other)
       ])
 
-pub attrs_changed : (old new : Parts) (v w : Inode) (number : ℕ) (a : Attrs) → MayChange old number → record_of old number ≡ Some (fields_of v) → StagesRecord w old new
+pub attrs_changed : (old new : Parts) (v w : Inode) (number : ℕ) (a : Attrs) → MayChange old number
+    → record_of old number ≡ Some (fields_of v) → StagesRecord w old new
     → attributes w ≡ attributes_from v.number v.version a v.size → addresses w ≡ addresses v → ChangesRecord v w old new
 attrs_changed old new v w number a may has h changed roots =
     let size : w.size ≡ v.size = ap (λ (x : Attributes). x.size) changed in
-    record_changed old new v w (may_from old v number may has) h (ap (λ (x : Attributes). x.number) changed) (ap (λ (x : Attributes). x.version) changed) roots (omega arith)
+    record_changed old new v w (may_from old v number may has) h (ap (λ (x : Attributes). x.number) changed)
+    (ap (λ (x : Attributes). x.version) changed) roots (omega arith)
 
-pub attrs_shown : (old new : Parts) (v w : Inode) (number : ℕ) (a : Attrs) → MayChange old number → record_of old number ≡ Some (fields_of v) → StagesRecord w old new
-    → attributes w ≡ attributes_from v.number v.version a v.size → addresses w ≡ addresses v → content_of new ≡ with_attrs number a (content_of old)
+pub attrs_shown : (old new : Parts) (v w : Inode) (number : ℕ) (a : Attrs) → MayChange old number → record_of old number
+    ≡ Some (fields_of v) → StagesRecord w old new
+    → attributes w ≡ attributes_from v.number v.version a v.size → addresses w ≡ addresses v → content_of new
+    ≡ with_attrs number a (content_of old)
 attrs_shown old new v w number a may has h changed roots =
     let own : v.number ≡ number = (may.files.files number (fields_of v) has).own_number in
-    attrs_content old new v w a (ap (record_of old) own ∙ has) (attrs_changed old new v w number a may has h changed roots) changed
+    attrs_content old new v w a (ap (record_of old) own ∙ has)
+    (attrs_changed old new v w number a may has h changed roots) changed
     ∙ ap (λ n. with_attrs n a (content_of old)) own

@@ -1,11 +1,13 @@
 -- What a cache holds: no key is dirty and clean at once, and which blocks are clean after another one came to wait.
-use Rattle.std.proofs.Common.{◌≡◌, ◌⊎◌, ℕ, List, [], ◌∷◌, ◌++◌, Option, None, Some, IsSome, is_some, false, cond, refl, sym, ap, ◌∙◌, subst, inl, inr}
+use Rattle.std.proofs.Common.{◌≡◌, ◌⊎◌, ℕ, List, [], ◌∷◌, ◌++◌, Option, None, Some, IsSome, is_some, false, cond, refl}
+use Rattle.std.proofs.Common.{sym, ap, ◌∙◌, subst, inl, inr}
 use Rattle.std.proofs.lemmas.Bool.{false≢true}
 use Rattle.std.proofs.lemmas.Option.{same_Some}
 use Rattle.lfs_cache.specs.declared.key.Key.{Key}
 use Rattle.lfs_cache.specs.Keys.{same_key}
 use Rattle.lfs_cache.specs.Changes.{GainsOnly, IsContents, KeepsBlocks, KeepsOthers}
-use Rattle.lfs_cache.specs.Contents.{AreApart, Contents, IsLocked, Lacks, block_in, block_of, keys_of, or_else, used, used_by}
+use Rattle.lfs_cache.specs.Contents.{AreApart, Contents, IsLocked, Lacks, block_in, block_of, keys_of, or_else, used}
+use Rattle.lfs_cache.specs.Contents.{used_by}
 use Rattle.lfs_cache.proofs.ChangeLemmas.{apart_left, lacks_missing, without_missing}
 use Rattle.lfs_cache.proofs.Entries.{same_cases, same_is}
 use Rattle.lfs_staging.specs.Clean.{GainsNoClean}
@@ -15,7 +17,8 @@ lacks_right : (k : Key) (ds es : List (Key × List ℕ)) → Lacks k (keys_of (d
 lacks_right k [] es lacks = lacks
 lacks_right k (d ∷ ds) es lacks = lacks_right k ds es lacks.1
 
-none_left : (ds es : List (Key × List ℕ)) (key : Key) → AreApart (keys_of (ds ++ es)) → IsSome (block_in key es) → block_in key ds ≡ None
+none_left : (ds es : List (Key × List ℕ)) (key : Key) → AreApart (keys_of (ds ++ es)) → IsSome (block_in key es)
+    → block_in key ds ≡ None
 none_left [] es key apart some = refl
 none_left (d ∷ ds) es key apart some = elim (same_cases d.0 key) [
   | inl same ↦
@@ -30,11 +33,13 @@ pub locked_apart : (c : Contents) → IsContents c → AreApart (keys_of c.locke
 locked_apart c formed = apart_left c.locked c.lru formed.apart
 
 -- what is clean doesn't wait
-pub clean_waits : (c : Contents) (key : Key) (bytes : List ℕ) → IsContents c → block_in key c.lru ≡ Some bytes → block_in key c.locked ≡ None
+pub clean_waits : (c : Contents) (key : Key) (bytes : List ℕ) → IsContents c → block_in key c.lru ≡ Some bytes
+    → block_in key c.locked ≡ None
 clean_waits c key bytes formed there = none_left c.locked c.lru key formed.apart (ap is_some there)
 
 -- a block that is clean where another key gained one was clean
-pub clean_was : (old new : Contents) (k other : Key) (bytes : List ℕ) → IsContents new → GainsOnly k old new → same_key k other ≡ false
+pub clean_was : (old new : Contents) (k other : Key) (bytes : List ℕ) → IsContents new → GainsOnly k old new
+    → same_key k other ≡ false
     → block_in other new.lru ≡ Some bytes → block_in other old.lru ≡ Some bytes
 clean_was old new k other bytes formed gains apart there =
     let none = clean_waits new other bytes formed there in
@@ -44,7 +49,8 @@ clean_was old new k other bytes formed gains apart there =
     sym (ap (λ o. or_else o (block_in other old.lru)) free) ∙ was
 
 -- no block is clean that wasn't, where one came to wait
-pub gains_none : (old new : Contents) (k : Key) → IsContents new → GainsOnly k old new → IsLocked k new → GainsNoClean old new
+pub gains_none : (old new : Contents) (k : Key) → IsContents new → GainsOnly k old new → IsLocked k new
+    → GainsNoClean old new
 gains_none old new k formed gains locked = record {
   each = λ key bytes there. elim (same_cases k key) [
     | inl same ↦
@@ -62,7 +68,8 @@ keeps_gains old new k keeps = record {
 }
 
 -- and where one was forgotten
-pub forgets_none : (old new : Contents) (k : Key) → IsContents new → KeepsOthers k old new → block_of k new ≡ None → GainsNoClean old new
+pub forgets_none : (old new : Contents) (k : Key) → IsContents new → KeepsOthers k old new → block_of k new ≡ None
+    → GainsNoClean old new
 forgets_none old new k formed keeps gone = record {
   each = λ key bytes there. elim (same_cases k key) [
     | inl same ↦
@@ -75,7 +82,8 @@ forgets_none old new k formed keeps gone = record {
 }
 
 -- a block that waited and is clean now has its bytes
-pub settled_own : (old new : Contents) (k : Key) (block bytes : List ℕ) → IsContents new → block_of k new ≡ block_of k old → block_in k old.locked ≡ Some block
+pub settled_own : (old new : Contents) (k : Key) (block bytes : List ℕ) → IsContents new → block_of k new
+    ≡ block_of k old → block_in k old.locked ≡ Some block
     → block_in k new.lru ≡ Some bytes → bytes ≡ block
 settled_own old new k block bytes formed kept waited there =
     let none = clean_waits new k bytes formed there in
@@ -88,12 +96,14 @@ pub keeps_clean : (old new : Contents) → KeepsBlocks old new → IsContents ne
 keeps_clean old new keeps formed = record {
   each = λ key bytes there.
       let none = clean_waits new key bytes formed there in
-      let held : block_of key old ≡ Some bytes = sym (keeps.blocks key) ∙ ap (λ o. or_else o (block_in key new.lru)) none ∙ there in
+      let held : block_of key old ≡ Some bytes = sym (keeps.blocks key)
+      ∙ ap (λ o. or_else o (block_in key new.lru)) none ∙ there in
       let free : block_in key old.locked ≡ None = sym (keeps.dirty key) ∙ none in
       sym (ap (λ o. or_else o (block_in key old.lru)) free) ∙ held;
 }
 
-used_locked-by : (o : Option (List ℕ)) (k : Key) (c : Contents) → block_in k c.locked ≡ None → (used_by None o k c).locked ≡ c.locked
+used_locked-by : (o : Option (List ℕ)) (k : Key) (c : Contents) → block_in k c.locked ≡ None
+    → (used_by None o k c).locked ≡ c.locked
 used_locked-by None k c free = refl
 used_locked-by (Some b) k c free = without_missing k c.locked free
 
@@ -103,8 +113,10 @@ used_locked k c free =
     ap (λ o. (used_by o (block_in k c.lru) k c).locked) free ∙ used_locked-by (block_in k c.lru) k c free
 
 -- a block took a frame: it is clean, and no other one is that wasn't
-pub filled_clean : (old new : Contents) (k : Key) (block : List ℕ) → IsContents new → GainsOnly k old new → block_of k new ≡ Some block
-    → (other : Key) (bytes : List ℕ) → block_in other new.lru ≡ Some bytes → ((other ≡ k) × (bytes ≡ block)) ⊎ (block_in other old.lru ≡ Some bytes)
+pub filled_clean : (old new : Contents) (k : Key) (block : List ℕ) → IsContents new → GainsOnly k old new
+    → block_of k new ≡ Some block
+    → (other : Key) (bytes : List ℕ) → block_in other new.lru ≡ Some bytes → ((other ≡ k) × (bytes ≡ block))
+    ⊎ (block_in other old.lru ≡ Some bytes)
 filled_clean old new k block formed gains here other bytes there = elim (same_cases k other) [
   | inl same ↦
       let is : other ≡ k = sym (same_is k other same) in
@@ -121,4 +133,7 @@ pub GainsNoClean-same : (c d : Contents) → d ≡ c → GainsNoClean c d
 GainsNoClean-same c d same = subst (GainsNoClean c) (sym same) (GainsNoClean-refl c)
 
 pub GainsNoClean-trans : (a b c : Contents) → GainsNoClean a b → GainsNoClean b c → GainsNoClean a c
-GainsNoClean-trans a b c first second = record { each = λ key bytes there. first.each key bytes (second.each key bytes there) }
+GainsNoClean-trans a b c first second = record {
+  each =
+      λ key bytes there. first.each key bytes (second.each key bytes there);
+}

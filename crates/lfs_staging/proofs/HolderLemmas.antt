@@ -15,13 +15,15 @@ use Rattle.lfs_staging.specs.Cutting.{IsGone}
 use Rattle.lfs_bmap.specs.Reading.{address}
 
 -- where more waits, it does
-pub holder_kept : (c d : Contents) (number version : ℕ) (up : List ℕ) → ((code : ℕ) → IsLocked (key_of number version code) c → IsLocked (key_of number version code) d)
+pub holder_kept : (c d : Contents) (number version : ℕ) (up : List ℕ)
+    → ((code : ℕ) → IsLocked (key_of number version code) c → IsLocked (key_of number version code) d)
     → HolderWaits c number version up → HolderWaits d number version up
 holder_kept c d number version [] more h = tt
 holder_kept c d number version (i ∷ up) more h = more (code_at (i ∷ up)) h
 
 -- what holds the address of a block, where it isn't the record, has a code of its own
-pub holder_coded : (block : FileBlock) → IsFileBlock block → (i : ℕ) (up : List ℕ) → way_to block ≡ i ∷ up → up ≢ [] → IsBlockCode (code_at up)
+pub holder_coded : (block : FileBlock) → IsFileBlock block → (i : ℕ) (up : List ℕ) → way_to block ≡ i ∷ up → up ≢ []
+    → IsBlockCode (code_at up)
 holder_coded block can i up way some =
     let t = table_of block in
     let to : way_to t ≡ up = table_of-way block can i up way in
@@ -29,26 +31,35 @@ holder_coded block can i up way some =
       block = t;
       is = table_of-is block can;
       coded = sym (code_at-way_to t) ∙ ap code_at to;
-      other = λ e. some (sym to ∙ sym (way_of-code_of t (table_of-is block can)) ∙ ap way_of (sym (code_at-way_to t) ∙ ap code_at to ∙ e) ∙ way_of-zero);
+      other = λ e. some (sym to ∙ sym (way_of-code_of t (table_of-is block can))
+          ∙ ap way_of (sym (code_at-way_to t) ∙ ap code_at to ∙ e) ∙ way_of-zero);
     }
 
 -- what holds the address of a block, by its code
-pub holder_at : (c : Contents) (number version : ℕ) (t : FileBlock) → IsFileBlock t → (code_of t ≢ 0 → IsLocked (key_of number version (code_of t)) c) → HolderWaits c number version (way_to t)
+pub holder_at : (c : Contents) (number version : ℕ) (t : FileBlock) → IsFileBlock t
+    → (code_of t ≢ 0 → IsLocked (key_of number version (code_of t)) c) → HolderWaits c number version (way_to t)
 holder_at c number version t can locked =
-    holder_waits c number version (way_to t) (λ some. subst (λ code. IsLocked (key_of number version code) c) (sym (code_at-way_to t))
+    holder_waits c number version (way_to t)
+    (λ some. subst (λ code. IsLocked (key_of number version code) c) (sym (code_at-way_to t))
     (locked (λ e. some (sym (way_of-code_of t can) ∙ ap way_of e ∙ way_of-zero))))
 
-pub holder_code : (c : Contents) (number version : ℕ) (t : FileBlock) → code_of t ≢ 0 → HolderWaits c number version (way_to t) → IsLocked (key_of number version (code_of t)) c
+pub holder_code : (c : Contents) (number version : ℕ) (t : FileBlock) → code_of t ≢ 0
+    → HolderWaits c number version (way_to t) → IsLocked (key_of number version (code_of t)) c
 holder_code c number version t other waits =
-    subst (λ code. IsLocked (key_of number version code) c) (code_at-way_to t) (holder_locked c number version (way_to t) (way_to-some t other) waits)
+    subst (λ code. IsLocked (key_of number version code) c) (code_at-way_to t)
+    (holder_locked c number version (way_to t) (way_to-some t other) waits)
 
 -- ---- what is gone
-pub block_gone : (p : Parts) (number : ℕ) (b : FileBlock) → address (tree_of p number) (way_to b) ≡ 0 → (IsLocked (key_of number (version_of p number) (code_of b)) p.cache → ⊥)
+pub block_gone : (p : Parts) (number : ℕ) (b : FileBlock) → address (tree_of p number) (way_to b) ≡ 0
+    → (IsLocked (key_of number (version_of p number) (code_of b)) p.cache → ⊥)
     → IsGone p number (way_to b)
 block_gone p number b nowhere free = record {
   nowhere = nowhere;
-  free = λ locked. free (subst (λ code. IsLocked (key_of number (version_of p number) code) p.cache) (code_at-way_to b) locked);
+  free = λ locked. free (subst (λ code. IsLocked (key_of number (version_of p number) code) p.cache)
+      (code_at-way_to b) locked);
 }
 
-pub gone_free : (p : Parts) (number : ℕ) (b : FileBlock) → IsGone p number (way_to b) → IsLocked (key_of number (version_of p number) (code_of b)) p.cache → ⊥
-gone_free p number b gone locked = gone.free (subst (λ code. IsLocked (key_of number (version_of p number) code) p.cache) (sym (code_at-way_to b)) locked)
+pub gone_free : (p : Parts) (number : ℕ) (b : FileBlock) → IsGone p number (way_to b)
+    → IsLocked (key_of number (version_of p number) (code_of b)) p.cache → ⊥
+gone_free p number b gone locked = gone.free
+    (subst (λ code. IsLocked (key_of number (version_of p number) code) p.cache) (sym (code_at-way_to b)) locked)

@@ -1,5 +1,6 @@
 -- What stays of the files and of the log where something is staged.
-use Rattle.std.proofs.Common.{◌≡◌, ◌≢◌, ◌⊎◌, ℕ, ◌+◌, ◌*◌, ◌/◌, ◌%◌, ◌<◌, ◌≤◌, List, [], ◌∷◌, All, length, Some, IsSome, is_some, true, refl, sym, ap, ◌∙◌, subst, inl, inr, arith}
+use Rattle.std.proofs.Common.{◌≡◌, ◌≢◌, ◌⊎◌, ℕ, ◌+◌, ◌*◌, ◌/◌, ◌%◌, ◌<◌, ◌≤◌, List, [], ◌∷◌, All, length, Some, IsSome}
+use Rattle.std.proofs.Common.{is_some, true, refl, sym, ap, ◌∙◌, subst, inl, inr, arith}
 use Rattle.std.specs.Prelude.{slice_index}
 use Rattle.std.proofs.lemmas.Option.{same_Some}
 use Rattle.std.proofs.lemmas.Bool.{cases_eq, cases_lt}
@@ -26,12 +27,16 @@ use Rattle.lfs_bmap.specs.Blocks.{IsFileBlock}
 use Rattle.lfs_bmap.proofs.BlockLemmas.{code_of-below}
 use Rattle.lfs_bmap.proofs.LogLemmas.{written_log}
 use Rattle.lfs_bmap.proofs.PlaceLemmas.{data_block-past, data_block-read, data_block-same}
-use Rattle.lfs_bmap.proofs.ReadingLemmas.{SameReadings-refl, SameReadings-trans, data_leaf, read-waits, staged_addresses, staged_bytes, staged_others, staged_same}
+use Rattle.lfs_bmap.proofs.ReadingLemmas.{SameReadings-refl, SameReadings-trans, data_leaf, read-waits}
+use Rattle.lfs_bmap.proofs.ReadingLemmas.{staged_addresses, staged_bytes, staged_others, staged_same}
 use Rattle.lfs_bmap.proofs.WayLemmas.{same_code, way_of-code_of, way_of-data, way_of-known}
 use Rattle.lfs_staging.specs.declared.parts.Parts.{Parts}
 use Rattle.lfs_staging.specs.Keys.{log_state}
-use Rattle.lfs_staging.specs.Staging.{HasFrames, HasParents, IsStaged, IsZeroPast, MayStage, SameFiles, StagesBlock, StagesData, StagesOwnRecord, StagesParents, StagesRecord, StagesTable, TakesFrames, TakesOnly}
-use Rattle.lfs_staging.specs.Store.{AreFiles, HolderWaits, IsBlockCode, IsPresent, IsStore, IsWithin, Mirrors, ParentsWait}
+use Rattle.lfs_staging.specs.Staging.{HasFrames, HasParents, IsStaged, IsZeroPast, MayStage, SameFiles, StagesBlock}
+use Rattle.lfs_staging.specs.Staging.{StagesData, StagesOwnRecord, StagesParents, StagesRecord, StagesTable}
+use Rattle.lfs_staging.specs.Staging.{TakesFrames, TakesOnly}
+use Rattle.lfs_staging.specs.Store.{AreFiles, HolderWaits, IsBlockCode, IsPresent, IsStore, IsWithin, Mirrors}
+use Rattle.lfs_staging.specs.Store.{ParentsWait}
 use Rattle.lfs_staging.specs.View.{key_of, record_of, root_in, tree_of, version_of, waiting_in}
 use Rattle.lfs_staging.specs.Waiting.{AreOnce, without}
 use Rattle.lfs_staging.proofs.KeyLemmas.{place-block, place-record}
@@ -41,7 +46,8 @@ use Rattle.lfs_staging.proofs.StagingLemmas.{version-same}
 use Rattle.lfs_staging.proofs.CleanLemmas.{coded_block, mirrors_log}
 use Rattle.lfs_staging.proofs.HeldLemmas.{GainsNoClean-refl, GainsNoClean-same}
 use Rattle.lfs_staging.proofs.ViewLemmas.{code_at-way_to}
-use Rattle.lfs_staging.proofs.WaitingLemmas.{all_without, length-rest, once_staged, without-staged, waiting-head, waiting-staged}
+use Rattle.lfs_staging.proofs.WaitingLemmas.{all_without, length-rest, once_staged, without-staged, waiting-head}
+use Rattle.lfs_staging.proofs.WaitingLemmas.{waiting-staged}
 use Rattle.lfs_staging.proofs.TakenLemmas.{block_room, block_takes, takes_none}
 use Rattle.lfs_bmap.proofs.HolderLemmas.{codes_on-below, table_of-under, table_of-way}
 use Rattle.std.specs.List.{Contains}
@@ -55,11 +61,13 @@ AllWithin p = (number : ℕ) (block : FileBlock) (f : Fields) → record_of p nu
 
 -- the way of a block
 pub block_known : (block : FileBlock) → IsFileBlock block → IsBlockWay (way_to block)
-block_known block is = subst IsBlockWay (way_of-code_of block is) (way_of-known (code_of block) (code_of-below block is))
+block_known block is = subst IsBlockWay (way_of-code_of block is)
+    (way_of-known (code_of block) (code_of-below block is))
 
 -- ---- the log, where it and the addresses stay
 -- each key has the place that it had
-pub keys_kept : (old new : Parts) → new.log ≡ old.log → ((n : ℕ) (way : List ℕ) → IsBlockWay way → address (tree_of new n) way ≡ address (tree_of old n) way)
+pub keys_kept : (old new : Parts) → new.log ≡ old.log
+    → ((n : ℕ) (way : List ℕ) → IsBlockWay way → address (tree_of new n) way ≡ address (tree_of old n) way)
     → SameKeys (log_state old) (log_state new)
 keys_kept old new log addresses = record {
   numbers = ap (λ (l : LogParts). length l.tables.rows) log;
@@ -69,19 +77,25 @@ keys_kept old new log addresses = record {
         ap ((log_state new).at n) record_ ∙ place-record new n ∙ ap (λ (l : LogParts). record_place l.tables n) log
         ∙ sym (ap ((log_state old).at n) record_ ∙ place-record old n)
     | inr block ↦
-        place-block new n code block ∙ ap (λ a. 4 * a) (addresses n (way_of code) (way_of-known code below)) ∙ sym (place-block old n code block)
+        place-block new n code block ∙ ap (λ a. 4 * a) (addresses n (way_of code) (way_of-known code below))
+        ∙ sym (place-block old n code block)
   ];
   versions = λ n low. version-same old new n log;
 }
 
-pub log_kept : (old new : Parts) (spare : ℕ) → new.log ≡ old.log → ((n : ℕ) (way : List ℕ) → IsBlockWay way → address (tree_of new n) way ≡ address (tree_of old n) way)
+pub log_kept : (old new : Parts) (spare : ℕ) → new.log ≡ old.log
+    → ((n : ℕ) (way : List ℕ) → IsBlockWay way → address (tree_of new n) way ≡ address (tree_of old n) way)
     → IsLog (log_state old) spare → IsLog (log_state new) spare
 log_kept old new spare log addresses h =
     let to = h.segments.to in
-    let next : next_address new.log.memory ≡ next_address old.log.memory = ap (λ (l : LogParts). next_address l.memory) log in
+    let next : next_address new.log.memory ≡ next_address old.log.memory =
+    ap (λ (l : LogParts). next_address l.memory) log in
     let written = written_log (log_state old) (log_state new) spare 0 h (record {
       keys = keys_kept old new log addresses;
-      used = record { states = λ s low. ap (λ (l : LogParts). state_of l.tables s) log; clean = ap (λ (l : LogParts). l.clean) log };
+      used = record {
+        states = λ s low. ap (λ (l : LogParts). state_of l.tables s) log;
+        clean = ap (λ (l : LogParts). l.clean) log;
+      };
       live = λ s low. ap (λ (l : LogParts). live_of l.tables s) log;
       active = ap (λ (l : LogParts). l.memory.active) log;
       next = omega arith;
@@ -98,7 +112,8 @@ padded_same old new size h same = record {
   zeros = λ i past. ap (λ b. slice_index b (i % 512)) (same (i / 512)) ∙ h.zeros i past;
 }
 
-pub padded_put : (old new : ℕ → List ℕ) (index size : ℕ) (bytes : List ℕ) → IsPadded old size → ((n : ℕ) → n ≢ index → new n ≡ old n) → new index ≡ bytes
+pub padded_put : (old new : ℕ → List ℕ) (index size : ℕ) (bytes : List ℕ) → IsPadded old size
+    → ((n : ℕ) → n ≢ index → new n ≡ old n) → new index ≡ bytes
     → length bytes ≡ 512 → IsZeroPast size index bytes → IsPadded new size
 padded_put old new index size bytes h others here whole zeros = record {
   whole = λ n. elim (cases_eq n index) [
@@ -106,14 +121,16 @@ padded_put old new index size bytes h others here whole zeros = record {
     | inr other ↦ ap (λ (b : List ℕ). length b) (others n other) ∙ h.whole n
   ];
   zeros = λ i past. elim (cases_eq (i / 512) index) [
-    | inl is ↦ ap (λ m. slice_index (new m) (i % 512)) is ∙ ap (λ b. slice_index b (i % 512)) here ∙ zeros (i % 512) (omega arith) (omega arith)
+    | inl is ↦ ap (λ m. slice_index (new m) (i % 512)) is ∙ ap (λ b. slice_index b (i % 512)) here
+        ∙ zeros (i % 512) (omega arith) (omega arith)
     | inr other ↦ ap (λ b. slice_index b (i % 512)) (others (i / 512) other) ∙ h.zeros i past
   ];
 }
 
 pub files_kept : (old new : Parts) → AreFiles old → new.log ≡ old.log → ((n : ℕ) → record_of new n ≡ record_of old n)
     → ((n : ℕ) (way : List ℕ) → IsBlockWay way → address (tree_of new n) way ≡ address (tree_of old n) way)
-    → ((n : ℕ) (f : Fields) → record_of old n ≡ Some f → IsPadded (data_block (tree_of old n)) f.attributes.size → IsPadded (data_block (tree_of new n)) f.attributes.size)
+    → ((n : ℕ) (f : Fields) → record_of old n ≡ Some f → IsPadded (data_block (tree_of old n)) f.attributes.size
+    → IsPadded (data_block (tree_of new n)) f.attributes.size)
     → IsContents new.cache → Mirrors new
     → All (λ (v : Inode). IsPresent old v.number v.version) new.waiting
     → ((key : Key) → IsLocked key new.cache → IsPresent old key.ino key.version)
@@ -122,7 +139,8 @@ files_kept old new h log records addresses padded formed mirrors waiting frames 
   parts = subst IsParts (sym log) h.parts;
   cache = formed;
   reserved = λ n low other. ap (λ (l : LogParts). (row_of l.tables n).used) log ∙ h.reserved n low other;
-  recorded = λ n used. ap is_some (records n) ∙ h.recorded n (sym (ap (λ (l : LogParts). (row_of l.tables n).used) log) ∙ used);
+  recorded = λ n used. ap is_some (records n)
+      ∙ h.recorded n (sym (ap (λ (l : LogParts). (row_of l.tables n).used) log) ∙ used);
   files = λ n f is.
       let is_old = sym (records n) ∙ is in
       let was = h.files n f is_old in
@@ -133,7 +151,8 @@ files_kept old new h log records addresses padded formed mirrors waiting frames 
         none_past = λ block is past. addresses n (way_to block) (block_known block is) ∙ was.none_past block is past;
         padded = padded n f is_old was.padded;
       };
-  records = All-weaker (λ (v : Inode). IsPresent old v.number v.version) (λ (v : Inode). IsPresent new v.number v.version)
+  records = All-weaker (λ (v : Inode). IsPresent old v.number v.version)
+      (λ (v : Inode). IsPresent new v.number v.version)
       (λ v present. present_kept old new v.number v.version log present) new.waiting waiting;
   frames = λ key locked. present_kept old new key.ino key.version log (frames key locked);
   coded = coded;
@@ -141,7 +160,8 @@ files_kept old new h log records addresses padded formed mirrors waiting frames 
 }
 
 -- the same files are well formed still
-pub same_padded : (old new : Parts) → SameFiles old new → (n : ℕ) (f : Fields) → record_of old n ≡ Some f → IsPadded (data_block (tree_of old n)) f.attributes.size
+pub same_padded : (old new : Parts) → SameFiles old new → (n : ℕ) (f : Fields) → record_of old n ≡ Some f
+    → IsPadded (data_block (tree_of old n)) f.attributes.size
     → IsPadded (data_block (tree_of new n)) f.attributes.size
 same_padded old new same n f is h =
     padded_same (data_block (tree_of old n)) (data_block (tree_of new n)) f.attributes.size h
@@ -157,7 +177,8 @@ SameFiles-trans a b c p q = record {
 -- ---- a record waits
 module _ (old new : Parts) (v : Inode) (h : StagesRecord v old new) where
   pub record_waits : IsSome (waiting_in new.waiting v.number)
-  record_waits = ap (λ vs. is_some (waiting_in vs v.number)) h.waiting ∙ ap is_some (waiting-head v (without v.number old.waiting) v.number refl)
+  record_waits = ap (λ vs. is_some (waiting_in vs v.number)) h.waiting
+      ∙ ap is_some (waiting-head v (without v.number old.waiting) v.number refl)
 
   pub record_parents : ParentsWait old → ParentsWait new
   record_parents parents = record {
@@ -168,7 +189,8 @@ module _ (old new : Parts) (v : Inode) (h : StagesRecord v old new) where
           ∙ parents.records key (subst (IsLocked key) h.cache locked)
     ];
     holders = λ key locked i up way.
-        subst (λ (c : Contents). HolderWaits c key.ino key.version up) (sym h.cache) (parents.holders key (subst (IsLocked key) h.cache locked) i up way);
+        subst (λ (c : Contents). HolderWaits c key.ino key.version up) (sym h.cache)
+        (parents.holders key (subst (IsLocked key) h.cache locked) i up way);
   }
 
   pub record_room : without v.number new.waiting ≡ without v.number old.waiting
@@ -178,23 +200,27 @@ module _ (old new : Parts) (v : Inode) (h : StagesRecord v old new) where
   record_once once = subst AreOnce (sym h.waiting) (once_staged v old.waiting once)
 
   -- each record that waits is of a number in use
-  pub record_present : AreFiles old → IsPresent old v.number v.version → All (λ (w : Inode). IsPresent old w.number w.version) new.waiting
+  pub record_present : AreFiles old → IsPresent old v.number v.version
+      → All (λ (w : Inode). IsPresent old w.number w.version) new.waiting
   record_present files present =
       subst (λ ws. All (λ (w : Inode). IsPresent old w.number w.version) ws) (sym h.waiting)
       (All-cons (λ (w : Inode). IsPresent old w.number w.version) v (without v.number old.waiting) present
       (all_without (λ (w : Inode). IsPresent old w.number w.version) old.waiting v.number files.records))
 
   -- the files have the addresses and the blocks that they had, where the record has the addresses
-  pub record_trees : ((n : ℕ) → root_in (record_of new n) ≡ root_in (record_of old n)) → (n : ℕ) → tree_of new n ≡ tree_of old n
+  pub record_trees : ((n : ℕ) → root_in (record_of new n) ≡ root_in (record_of old n)) → (n : ℕ) → tree_of new n
+      ≡ tree_of old n
   record_trees roots n =
       let waits : (way : List ℕ) → (tree_of new n).waits way ≡ (tree_of old n).waits way
       = λ way. ap (λ (s : Contents). block_in (key_of n (version_of new n) (code_at way)) s.locked) h.cache
       ∙ ap (λ version. block_in (key_of n version (code_at way)) old.cache.locked) (version-same old new n h.log) in
-      let blocks : (a : ℕ) → block_at new.log.memory a ≡ block_at old.log.memory a = λ a. ap (λ (l : LogParts). block_at l.memory a) h.log in
+      let blocks : (a : ℕ) → block_at new.log.memory a
+      ≡ block_at old.log.memory a = λ a. ap (λ (l : LogParts). block_at l.memory a) h.log in
       λ i. record { root = roots n i; waits = λ way. waits way i; block = λ a. blocks a i }
 
 -- ---- the record of a file waits with what it has
-module _ (old new : Parts) (v : Inode) (h : StagesRecord v old new) (has : record_of old v.number ≡ Some (fields_of v)) where
+module _ (old new : Parts) (v : Inode) (h : StagesRecord v old new) (has : record_of old v.number
+    ≡ Some (fields_of v)) where
   records_same : (n : ℕ) → record_of new n ≡ record_of old n
   records_same n = elim (cases_eq n v.number) [
     | inl is ↦ ap (record_of new) is ∙ h.here ∙ sym (ap (record_of old) is ∙ has)
@@ -205,7 +231,8 @@ module _ (old new : Parts) (v : Inode) (h : StagesRecord v old new) (has : recor
   files_same = record {
     log = h.log;
     records = records_same;
-    readings = λ n. subst (λ t. SameReadings (tree_of old n) t) (sym (record_trees old new v h (λ m. ap root_in (records_same m)) n)) (SameReadings-refl (tree_of old n));
+    readings = λ n. subst (λ t. SameReadings (tree_of old n) t)
+        (sym (record_trees old new v h (λ m. ap root_in (records_same m)) n)) (SameReadings-refl (tree_of old n));
   }
 
   pub record_files : AreFiles old → (row_of old.log.tables v.number).used ≡ true → AreFiles new
@@ -213,22 +240,26 @@ module _ (old new : Parts) (v : Inode) (h : StagesRecord v old new) (has : recor
       let file = files.files v.number (fields_of v) has in
       let present : IsPresent old v.number v.version = record { in_use = used; at_version = file.own_version } in
       let same = files_same in
-      files_kept old new files h.log records_same (λ n way known. (same.readings n).addresses way known) (same_padded old new same)
+      files_kept old new files h.log records_same (λ n way known. (same.readings n).addresses way known)
+      (same_padded old new same)
       (subst IsContents (sym h.cache) files.cache)
-      (mirrors_log old new files.mirrors (GainsNoClean-same old.cache new.cache h.cache) h.log (λ n way known. (same.readings n).addresses way known))
+      (mirrors_log old new files.mirrors (GainsNoClean-same old.cache new.cache h.cache) h.log
+      (λ n way known. (same.readings n).addresses way known))
       (record_present old new v h files present)
       (λ key locked. files.frames key (subst (IsLocked key) h.cache locked))
       (λ key locked. files.coded key (subst (IsLocked key) h.cache locked))
 
 -- ---- a block waits
-module _ (old new : Parts) (number : ℕ) (block : FileBlock) (bytes : List ℕ) (h : StagesBlock number block bytes old new) where
+module _ (old new : Parts) (number : ℕ) (block : FileBlock) (bytes : List ℕ)
+    (h : StagesBlock number block bytes old new) where
   pub block_records : (n : ℕ) → record_of new n ≡ record_of old n
   block_records n = record_same old new n h.log (ap (λ vs. waiting_in vs n) h.waiting)
 
   -- where the files are well formed still, so is the rest
   pub block_files : AreFiles old → IsPresent old number (version_of old number) → IsBlockCode (code_of block)
       → ((n : ℕ) (way : List ℕ) → IsBlockWay way → address (tree_of new n) way ≡ address (tree_of old n) way)
-      → ((n : ℕ) (f : Fields) → record_of old n ≡ Some f → IsPadded (data_block (tree_of old n)) f.attributes.size → IsPadded (data_block (tree_of new n)) f.attributes.size)
+      → ((n : ℕ) (f : Fields) → record_of old n ≡ Some f → IsPadded (data_block (tree_of old n)) f.attributes.size
+      → IsPadded (data_block (tree_of new n)) f.attributes.size)
       → AreFiles new
   block_files files present coded addresses padded =
       files_kept old new files h.log block_records addresses padded h.frames.formed
@@ -245,22 +276,26 @@ module _ (old new : Parts) (number : ℕ) (block : FileBlock) (bytes : List ℕ)
 
   -- and the parents of all that waits do
   pub block_parents : ParentsWait old → IsSome (waiting_in old.waiting number)
-      → ((i : ℕ) (up : List ℕ) → way_of (code_of block) ≡ i ∷ up → HolderWaits old.cache number (version_of old number) up) → ParentsWait new
+      → ((i : ℕ) (up : List ℕ) → way_of (code_of block) ≡ i ∷ up
+      → HolderWaits old.cache number (version_of old number) up) → ParentsWait new
   block_parents parents record_there holder = record {
     records = λ key locked. ap (λ vs. is_some (waiting_in vs key.ino)) h.waiting ∙ (elim (h.frames.only key locked) [
       | inl is ↦ subst (λ (k : Key). IsSome (waiting_in old.waiting k.ino)) (sym is) record_there
       | inr was ↦ parents.records key was
     ]);
     holders = λ key locked i up way.
-        holder_kept old.cache new.cache key.ino key.version up (λ code. h.frames.kept (key_of key.ino key.version code)) (elim (h.frames.only key locked) [
+        holder_kept old.cache new.cache key.ino key.version up (λ code. h.frames.kept (key_of key.ino key.version code))
+        (elim (h.frames.only key locked) [
           | inl is ↦
-              subst (λ (k : Key). (i : ℕ) (up : List ℕ) → way_of k.lbn ≡ i ∷ up → HolderWaits old.cache k.ino k.version up) (sym is) holder i up way
+              subst (λ (k : Key). (i : ℕ) (up : List ℕ) → way_of k.lbn ≡ i ∷ up
+              → HolderWaits old.cache k.ino k.version up) (sym is) holder i up way
           | inr was ↦ parents.holders key was i up way
         ]);
   }
 
 -- ---- a block waits with what it has
-module _ (old new : Parts) (number : ℕ) (t : FileBlock) (can : IsFileBlock t) (h : StagesBlock number t (read (tree_of old number) (way_to t)) old new) where
+module _ (old new : Parts) (number : ℕ) (t : FileBlock) (can : IsFileBlock t)
+    (h : StagesBlock number t (read (tree_of old number) (way_to t)) old new) where
   pub table_same : SameFiles old new
   table_same = record {
     log = h.log;
@@ -268,12 +303,14 @@ module _ (old new : Parts) (number : ℕ) (t : FileBlock) (can : IsFileBlock t) 
     readings = λ n. elim (cases_eq n number) [
       | inl is ↦ subst (λ m. SameReadings (tree_of old m) (tree_of new m)) (sym is)
           (staged_same (tree_of old number) (tree_of new number) (way_to t) (block_known t can) h.staged)
-      | inr other ↦ subst (λ t. SameReadings (tree_of old n) t) (sym (h.others n other)) (SameReadings-refl (tree_of old n))
+      | inr other ↦ subst (λ t. SameReadings (tree_of old n) t) (sym (h.others n other))
+          (SameReadings-refl (tree_of old n))
     ];
   }
 
 -- where it waits already, nothing changes
-pub table_staged : (p : Parts) (number : ℕ) (t : FileBlock) → IsContents p.cache → IsLocked (key_of number (version_of p number) (code_of t)) p.cache
+pub table_staged : (p : Parts) (number : ℕ) (t : FileBlock) → IsContents p.cache
+    → IsLocked (key_of number (version_of p number) (code_of t)) p.cache
     → StagesBlock number t (read (tree_of p number) (way_to t)) p p
 table_staged p number t formed locked =
     let there = some_there (block_in (key_of number (version_of p number) (code_of t)) p.cache.locked) locked in
@@ -301,21 +338,25 @@ table_staged p number t formed locked =
     }
 
 -- ---- a data block waits
-module _ (old new : Parts) (number index : ℕ) (bytes : List ℕ) (low : index < FILE_BLOCKS) (h : StagesBlock number (Data index) bytes old new) where
+module _ (old new : Parts) (number index : ℕ) (bytes : List ℕ) (low : index < FILE_BLOCKS)
+    (h : StagesBlock number (Data index) bytes old new) where
   staged_way : Stages (tree_of old number) (tree_of new number) (way_of (131 + index)) bytes
   staged_way = subst (λ w. Stages (tree_of old number) (tree_of new number) w bytes) (sym (way_of-data index)) h.staged
 
   pub data_here : data_block (tree_of new number) index ≡ bytes
   data_here =
       data_block-read (tree_of new number) index low
-      ∙ staged_bytes (tree_of old number) (tree_of new number) (way_of (131 + index)) bytes (way_of-known (131 + index) (omega arith)) (data_leaf (131 + index) (omega arith)) staged_way
+      ∙ staged_bytes (tree_of old number) (tree_of new number) (way_of (131 + index)) bytes
+      (way_of-known (131 + index) (omega arith)) (data_leaf (131 + index) (omega arith)) staged_way
 
   data_other : (m : ℕ) → m ≢ index → data_block (tree_of new number) m ≡ data_block (tree_of old number) m
   data_other m other = elim (cases_lt m FILE_BLOCKS) [
     | inl inside ↦
         data_block-read (tree_of new number) m inside
-        ∙ staged_others (tree_of old number) (tree_of new number) (way_of (131 + index)) bytes (way_of-known (131 + index) (omega arith)) (data_leaf (131 + index) (omega arith)) staged_way
-        (way_of (131 + m)) (way_of-known (131 + m) (omega arith)) (λ e. other (let same = same_code (131 + m) (131 + index) e in omega arith))
+        ∙ staged_others (tree_of old number) (tree_of new number) (way_of (131 + index)) bytes
+        (way_of-known (131 + index) (omega arith)) (data_leaf (131 + index) (omega arith)) staged_way
+        (way_of (131 + m)) (way_of-known (131 + m) (omega arith))
+        (λ e. other (let same = same_code (131 + m) (131 + index) e in omega arith))
         ∙ sym (data_block-read (tree_of old number) m inside)
     | inr past ↦ data_block-past (tree_of new number) m past ∙ sym (data_block-past (tree_of old number) m past)
   ]
@@ -324,20 +365,25 @@ module _ (old new : Parts) (number index : ℕ) (bytes : List ℕ) (low : index 
   data_others n m apart = elim (cases_eq n number) [
     | inl is ↦ elim apart [
       | inl other ↦ absurd (other is)
-      | inr other ↦ subst (λ k. data_block (tree_of new k) m ≡ data_block (tree_of old k) m) (sym is) (data_other m other)
+      | inr other ↦ subst (λ k. data_block (tree_of new k) m ≡ data_block (tree_of old k) m) (sym is)
+          (data_other m other)
     ]
     | inr other ↦ ap (λ t. data_block t m) (h.others n other)
   ]
 
-  pub data_addresses : (n : ℕ) (way : List ℕ) → IsBlockWay way → address (tree_of new n) way ≡ address (tree_of old n) way
+  pub data_addresses : (n : ℕ) (way : List ℕ) → IsBlockWay way → address (tree_of new n) way
+      ≡ address (tree_of old n) way
   data_addresses n way known = elim (cases_eq n number) [
     | inl is ↦ subst (λ k. address (tree_of new k) way ≡ address (tree_of old k) way) (sym is)
-        (staged_addresses (tree_of old number) (tree_of new number) (way_of (131 + index)) bytes (way_of-known (131 + index) (omega arith)) (data_leaf (131 + index) (omega arith)) staged_way way known)
+        (staged_addresses (tree_of old number) (tree_of new number) (way_of (131 + index)) bytes
+        (way_of-known (131 + index) (omega arith)) (data_leaf (131 + index) (omega arith)) staged_way way known)
     | inr other ↦ ap (λ t. address t way) (h.others n other)
   ]
 
-  pub data_padded : length bytes ≡ 512 → (f : Fields) → record_of old number ≡ Some f → IsZeroPast f.attributes.size index bytes
-      → (n : ℕ) (g : Fields) → record_of old n ≡ Some g → IsPadded (data_block (tree_of old n)) g.attributes.size → IsPadded (data_block (tree_of new n)) g.attributes.size
+  pub data_padded : length bytes ≡ 512 → (f : Fields) → record_of old number ≡ Some f
+      → IsZeroPast f.attributes.size index bytes
+      → (n : ℕ) (g : Fields) → record_of old n ≡ Some g → IsPadded (data_block (tree_of old n)) g.attributes.size
+      → IsPadded (data_block (tree_of new n)) g.attributes.size
   data_padded whole f is zeros n g at padded = elim (cases_eq n number) [
     | inl same ↦
         let file : f ≡ g = same_Some f g (sym is ∙ ap (record_of old) (sym same) ∙ at) in
@@ -345,16 +391,21 @@ module _ (old new : Parts) (number index : ℕ) (bytes : List ℕ) (low : index 
         (λ m other. data_others n m (inr other)) (ap (λ k. data_block (tree_of new k) index) same ∙ data_here) whole
         (subst (λ (x : Fields). IsZeroPast x.attributes.size index bytes) file zeros)
     | inr other ↦
-        padded_same (data_block (tree_of old n)) (data_block (tree_of new n)) g.attributes.size padded (λ m. data_others n m (inl other))
+        padded_same (data_block (tree_of old n)) (data_block (tree_of new n)) g.attributes.size padded
+        (λ m. data_others n m (inl other))
   ]
 
 -- ---- a data block's parents wait
 -- the record's address and version, as the number has them
 pub may_present : (p : Parts) (v : Inode) → MayStage p v → IsPresent p v.number v.version
-may_present p v may = record { in_use = may.in_use; at_version = (may.files.files v.number (fields_of v) may.here).own_version }
+may_present p v may = record {
+  in_use = may.in_use;
+  at_version = (may.files.files v.number (fields_of v) may.here).own_version;
+}
 
 -- the record of a file waits, with what it has
-pub own_staged : (old new : Parts) (v : Inode) → MayStage old v → StagesRecord v old new → StagesOwnRecord v.number old new
+pub own_staged : (old new : Parts) (v : Inode) → MayStage old v → StagesRecord v old new
+    → StagesOwnRecord v.number old new
 own_staged old new v may h = record {
   same = files_same old new v h may.here;
   cache = h.cache;
@@ -366,7 +417,8 @@ own_staged old new v may h = record {
 }
 
 -- where it waits already, nothing changes
-pub own_waits : (p : Parts) (v : Inode) → MayStage p v → IsSome (waiting_in p.waiting v.number) → StagesOwnRecord v.number p p
+pub own_waits : (p : Parts) (v : Inode) → MayStage p v → IsSome (waiting_in p.waiting v.number)
+    → StagesOwnRecord v.number p p
 own_waits p v may waits = record {
   same = record { log = refl; records = λ n. refl; readings = λ n. SameReadings-refl (tree_of p n) };
   cache = refl;
@@ -378,12 +430,16 @@ own_waits p v may waits = record {
 }
 
 -- a block whose address stands in the record has no other parent
-pub parents_own : (old new : Parts) (number : ℕ) (block : FileBlock) → StagesOwnRecord number old new → table_of block ≡ Record → StagesParents number block old new
+pub parents_own : (old new : Parts) (number : ℕ) (block : FileBlock) → StagesOwnRecord number old new → table_of block
+    ≡ Record → StagesParents number block old new
 parents_own old new number block h top = record {
   same = h.same;
   files = h.files;
   parents = h.parents;
-  waits = record { record_waits = h.waits; holder_waits = subst (λ t. HolderWaits new.cache number (version_of new number) (way_to t)) (sym top) tt };
+  waits = record {
+    record_waits = h.waits;
+    holder_waits = subst (λ t. HolderWaits new.cache number (version_of new number) (way_to t)) (sym top) tt;
+  };
   room = h.room;
   once = h.once;
   stays = λ key locked. subst (IsLocked key) (sym h.cache) locked;
@@ -391,12 +447,15 @@ parents_own old new number block h top = record {
 }
 
 -- where a block waits, so does what a way that goes on from it asks for
-holder_of : (c : Contents) (number version : ℕ) (t : FileBlock) → IsLocked (key_of number version (code_of t)) c → HolderWaits c number version (way_to t)
+holder_of : (c : Contents) (number version : ℕ) (t : FileBlock) → IsLocked (key_of number version (code_of t)) c
+    → HolderWaits c number version (way_to t)
 holder_of c number version t locked =
-    holder_waits c number version (way_to t) (λ _. subst (λ code. IsLocked (key_of number version code) c) (sym (code_at-way_to t)) locked)
+    holder_waits c number version (way_to t)
+    (λ _. subst (λ code. IsLocked (key_of number version code) c) (sym (code_at-way_to t)) locked)
 
 -- a block and its parents wait
-taken_block : (old between new : Parts) (number : ℕ) (block : FileBlock) (bytes : List ℕ) → IsFileBlock block → code_of block ≢ 0 → StagesParents number block old between
+taken_block : (old between new : Parts) (number : ℕ) (block : FileBlock) (bytes : List ℕ) → IsFileBlock block
+    → code_of block ≢ 0 → StagesParents number block old between
     → StagesBlock number block bytes between new → TakesFrames number block old new
 taken_block old between new number block bytes can other h b = record {
   waits = record {
@@ -404,22 +463,28 @@ taken_block old between new number block bytes can other h b = record {
     holder_waits =
         let up = way_to (table_of block) in
         subst (λ n. HolderWaits new.cache number n up) (sym (version-same between new number b.log))
-        (holder_kept between.cache new.cache number (version_of between number) up (λ code. b.frames.kept (key_of number (version_of between number) code)) h.waits.holder_waits);
+        (holder_kept between.cache new.cache number (version_of between number) up
+        (λ code. b.frames.kept (key_of number (version_of between number) code)) h.waits.holder_waits);
   };
   stays = λ key locked. b.frames.kept key (h.stays key locked);
-  takes = block_takes old between number block can other (version-same old between number h.same.log) h.takes new b.frames;
+  takes = block_takes old between number block can other
+      (version-same old between number h.same.log) h.takes new b.frames;
   records = ap (without number) b.waiting ∙ h.room;
-  block_waits = subst (λ version. IsLocked (key_of number version (code_of block)) new.cache) (sym (version-same between new number b.log)) b.frames.here;
+  block_waits = subst (λ version. IsLocked (key_of number version (code_of block)) new.cache)
+      (sym (version-same between new number b.log)) b.frames.here;
 }
 
 -- what a way to a block asks for, where its parents wait
-pub parents_hold : (p : Parts) (number : ℕ) (block : FileBlock) → IsFileBlock block → HasParents p number block → (i : ℕ) (up : List ℕ) → way_of (code_of block) ≡ i ∷ up
+pub parents_hold : (p : Parts) (number : ℕ) (block : FileBlock) → IsFileBlock block → HasParents p number block
+    → (i : ℕ) (up : List ℕ) → way_of (code_of block) ≡ i ∷ up
     → HolderWaits p.cache number (version_of p number) up
 parents_hold p number block can h i up way =
-    subst (HolderWaits p.cache number (version_of p number)) (table_of-way block can i up (sym (way_of-code_of block can) ∙ way)) h.holder_waits
+    subst (HolderWaits p.cache number (version_of p number))
+    (table_of-way block can i up (sym (way_of-code_of block can) ∙ way)) h.holder_waits
 
 -- ---- a block that holds addresses waits after its parents
-module _ (old between new : Parts) (v : Inode) (t : FileBlock) (may : MayStage old v) (can : IsFileBlock t) (other : code_of t ≢ 0) (h : StagesParents v.number t old between)
+module _ (old between new : Parts) (v : Inode) (t : FileBlock) (may : MayStage old v) (can : IsFileBlock t)
+    (other : code_of t ≢ 0) (h : StagesParents v.number t old between)
     (b : StagesBlock v.number t (read (tree_of between v.number) (way_to t)) between new) where
   second : SameFiles between new
   second = table_same between new v.number t can b
@@ -436,26 +501,36 @@ module _ (old between new : Parts) (v : Inode) (t : FileBlock) (may : MayStage o
         same = SameFiles-trans old between new h.same second;
         files = block_files between new v.number t bytes b h.files again_present (coded_block t can other)
             (λ n way known. (second.readings n).addresses way known) (same_padded between new second);
-        parents = block_parents between new v.number t bytes b h.parents h.waits.record_waits (parents_hold between v.number t can h.waits);
+        parents = block_parents between new v.number t bytes b h.parents h.waits.record_waits
+            (parents_hold between v.number t can h.waits);
         once = λ once. subst AreOnce (sym b.waiting) (h.once once);
         takes = taken_block old between new v.number t bytes can other h b;
       }
 
 -- there is a frame for it where its record waits, and the record holds its address
-pub table_room : (old between : Parts) (number : ℕ) (t table : FileBlock) → t ≡ table → IsFileBlock t → code_of t ≢ 0 → StagesOwnRecord number old between
-    → HasFrames old number (codes_on (way_to t)) → IsLocked (key_of number (version_of between number) (code_of table)) between.cache ⊎ (length between.cache.locked < LOCKED_LIMIT)
+pub table_room : (old between : Parts) (number : ℕ) (t table : FileBlock) → t ≡ table → IsFileBlock t → code_of t ≢ 0
+    → StagesOwnRecord number old between
+    → HasFrames old number (codes_on (way_to t))
+    → IsLocked (key_of number (version_of between number) (code_of table)) between.cache
+    ⊎ (length between.cache.locked < LOCKED_LIMIT)
 table_room old between number t table same can other h frames =
-    subst (λ x. IsLocked (key_of number (version_of between number) (code_of x)) between.cache ⊎ (length between.cache.locked < LOCKED_LIMIT)) same
+    subst (λ x. IsLocked (key_of number (version_of between number) (code_of x)) between.cache
+    ⊎ (length between.cache.locked < LOCKED_LIMIT)) same
     (block_room old between number t can other (version-same old between number h.same.log)
-    (takes_none number (version_of old number) (codes_on (way_to (table_of t))) old.cache between.cache h.cache) h.files.cache frames)
+    (takes_none number (version_of old number) (codes_on (way_to (table_of t))) old.cache between.cache h.cache)
+    h.files.cache frames)
 
 -- then the parents wait of each block whose address it holds
-pub table_parents : (old new : Parts) (number : ℕ) (block : FileBlock) → StagesTable number (table_of block) old new → StagesParents number block old new
+pub table_parents : (old new : Parts) (number : ℕ) (block : FileBlock) → StagesTable number (table_of block) old new
+    → StagesParents number block old new
 table_parents old new number block h = record {
   same = h.same;
   files = h.files;
   parents = h.parents;
-  waits = record { record_waits = h.takes.waits.record_waits; holder_waits = holder_of new.cache number (version_of new number) (table_of block) h.takes.block_waits };
+  waits = record {
+    record_waits = h.takes.waits.record_waits;
+    holder_waits = holder_of new.cache number (version_of new number) (table_of block) h.takes.block_waits;
+  };
   room = h.takes.records;
   once = h.once;
   stays = h.takes.stays;
@@ -463,53 +538,67 @@ table_parents old new number block h = record {
 }
 
 -- ---- and the data block
-pub staged_data : (old between new : Parts) (number index : ℕ) (bytes : List ℕ) → index < FILE_BLOCKS → StagesParents number (Data index) old between
+pub staged_data : (old between new : Parts) (number index : ℕ) (bytes : List ℕ) → index < FILE_BLOCKS
+    → StagesParents number (Data index) old between
     → StagesBlock number (Data index) bytes between new → StagesData number index bytes old new
 staged_data old between new number index bytes low h b = record {
   log = b.log ∙ h.same.log;
   records = λ n. block_records between new number (Data index) bytes b n ∙ h.same.records n;
   here = data_here between new number index bytes low b;
   others = λ n m apart.
-      data_others between new number index bytes low b n m apart ∙ data_block-same (tree_of old n) (tree_of between n) (h.same.readings n) m;
+      data_others between new number index bytes low b n m apart
+      ∙ data_block-same (tree_of old n) (tree_of between n) (h.same.readings n) m;
   addresses = λ n way known.
       data_addresses between new number index bytes low b n way known ∙ (h.same.readings n).addresses way known;
   takes = taken_block old between new number (Data index) bytes low (λ e. omega arith) h b;
 }
 
 -- another block of the file may wait
-pub data_again : (old between new : Parts) (v : Inode) (index : ℕ) (bytes : List ℕ) → index < FILE_BLOCKS → MayStage old v → StagesParents v.number (Data index) old between
-    → StagesBlock v.number (Data index) bytes between new → length bytes ≡ 512 → IsZeroPast v.size index bytes → MayStage new v
+pub data_again : (old between new : Parts) (v : Inode) (index : ℕ) (bytes : List ℕ) → index < FILE_BLOCKS
+    → MayStage old v → StagesParents v.number (Data index) old between
+    → StagesBlock v.number (Data index) bytes between new → length bytes ≡ 512 → IsZeroPast v.size index bytes
+    → MayStage new v
 data_again old between new v index bytes low may h b whole zeros =
     let present = present_kept old between v.number v.version h.same.log (may_present old v may) in
-    let at : IsPresent between v.number (version_of between v.number) = record { in_use = present.in_use; at_version = refl } in
+    let at : IsPresent between v.number (version_of between v.number) =
+    record { in_use = present.in_use; at_version = refl } in
     let log = b.log ∙ h.same.log in
     let moved = staged_data old between new v.number index bytes low h b in
     record {
-      files = block_files between new v.number (Data index) bytes b h.files at (coded_block (Data index) low (λ e. omega arith))
+      files = block_files between new v.number (Data index) bytes b h.files at
+          (coded_block (Data index) low (λ e. omega arith))
           (data_addresses between new v.number index bytes low b)
-          (data_padded between new v.number index bytes low b whole (fields_of v) (h.same.records v.number ∙ may.here) zeros);
-      parents = block_parents between new v.number (Data index) bytes b h.parents h.waits.record_waits (parents_hold between v.number (Data index) low h.waits);
+          (data_padded between new v.number index bytes low b whole (fields_of v) (h.same.records v.number
+          ∙ may.here) zeros);
+      parents = block_parents between new v.number (Data index) bytes b h.parents h.waits.record_waits
+          (parents_hold between v.number (Data index) low h.waits);
       inside = record {
         each = λ block is.
-            subst (λ n. address (tree_of new v.number) (way_to block) < n) (sym (ap (λ (l : LogParts). l.memory.segments * 64) log))
-            (subst (λ a. a < old.log.memory.segments * 64) (sym (moved.addresses v.number (way_to block) (block_known block is))) (may.inside.each block is));
+            subst (λ n. address (tree_of new v.number) (way_to block) < n)
+            (sym (ap (λ (l : LogParts). l.memory.segments * 64) log))
+            (subst (λ a. a < old.log.memory.segments * 64)
+            (sym (moved.addresses v.number (way_to block) (block_known block is))) (may.inside.each block is));
       };
       in_range = subst (λ n. v.number < n) (sym (ap (λ (l : LogParts). length l.tables.rows) log)) may.in_range;
       in_use = ap (λ (l : LogParts). (row_of l.tables v.number).used) log ∙ may.in_use;
       here = moved.records v.number ∙ may.here;
-      records = subst (λ (vs : List Inode). length vs < 64) (sym (ap (without v.number) b.waiting ∙ h.room)) may.records;
+      records = subst (λ (vs : List Inode). length vs < 64)
+          (sym (ap (without v.number) b.waiting ∙ h.room)) may.records;
     }
 
 -- a block on the way of one that lies within the size does so too
 pub table_within : (block : FileBlock) (size : ℕ) → IsWithin block size → IsWithin (table_of block) size
 table_within block size within = let least = table_of-under block in omega arith
 
-pub way_within : (block : FileBlock) (size : ℕ) → IsFileBlock block → IsWithin block size → (b : FileBlock) → IsFileBlock b → Contains (codes_on (way_to block)) (code_of b) → IsWithin b size
+pub way_within : (block : FileBlock) (size : ℕ) → IsFileBlock block → IsWithin block size → (b : FileBlock)
+    → IsFileBlock b → Contains (codes_on (way_to block)) (code_of b) → IsWithin b size
 way_within block size can within b is has = let least = codes_on-below block can b is has in omega arith
 
 -- what a change of one number takes on the way of a block lies within its size
-pub taken_within : (old new : Parts) (v : Inode) (codes : List ℕ) → ((n : ℕ) → record_of new n ≡ record_of old n) → ((n : ℕ) → version_of new n ≡ version_of old n)
-    → record_of old v.number ≡ Some (fields_of v) → ((b : FileBlock) → IsFileBlock b → Contains codes (code_of b) → IsWithin b v.size)
+pub taken_within : (old new : Parts) (v : Inode) (codes : List ℕ) → ((n : ℕ) → record_of new n ≡ record_of old n)
+    → ((n : ℕ) → version_of new n ≡ version_of old n)
+    → record_of old v.number ≡ Some (fields_of v)
+    → ((b : FileBlock) → IsFileBlock b → Contains codes (code_of b) → IsWithin b v.size)
     → TakesOnly v.number (version_of old v.number) codes old.cache new.cache → AllWithin old → AllWithin new
 taken_within old new v codes records version has inside takes was n block f is can locked =
     let is_old : record_of old n ≡ Some f = sym (records n) ∙ is in
@@ -518,26 +607,33 @@ taken_within old new v codes records version has inside takes was n block f is c
           let same : n ≡ v.number = ap (λ (k : Key). k.ino) one.2 in
           let code : code_of block ≡ one.0 = ap (λ (k : Key). k.lbn) one.2 in
           let file : fields_of v ≡ f = same_Some (fields_of v) f (sym has ∙ ap (record_of old) (sym same) ∙ is_old) in
-          subst (λ (x : Fields). IsWithin block x.attributes.size) file (inside block can (subst (Contains codes) (sym code) one.1))
-      | inr before ↦ was n block f is_old can (subst (λ m. IsLocked (key_of n m (code_of block)) old.cache) (version n) before)
+          subst (λ (x : Fields). IsWithin block x.attributes.size) file
+          (inside block can (subst (Contains codes) (sym code) one.1))
+      | inr before ↦ was n block f is_old can (subst (λ m. IsLocked (key_of n m (code_of block)) old.cache)
+          (version n) before)
     ]
 
-pub data_within : (old between new : Parts) (v : Inode) (index : ℕ) (bytes : List ℕ) → index < FILE_BLOCKS → record_of old v.number ≡ Some (fields_of v) → index < block_count v.size
-    → StagesParents v.number (Data index) old between → StagesBlock v.number (Data index) bytes between new → AllWithin old → AllWithin new
+pub data_within : (old between new : Parts) (v : Inode) (index : ℕ) (bytes : List ℕ) → index < FILE_BLOCKS
+    → record_of old v.number ≡ Some (fields_of v) → index < block_count v.size
+    → StagesParents v.number (Data index) old between → StagesBlock v.number (Data index) bytes between new
+    → AllWithin old → AllWithin new
 data_within old between new v index bytes low has within h b =
     let moved = staged_data old between new v.number index bytes low h b in
     taken_within old new v (codes_on (way_to (Data index))) moved.records (λ n. version-same old new n moved.log) has
     (way_within (Data index) v.size low within) moved.takes.takes
 
 -- at most one record more waits than those of other numbers
-pub few_records : (new : Parts) (number : ℕ) (others : List Inode) → without number new.waiting ≡ others → length others < 64 → length new.waiting ≤ 64
+pub few_records : (new : Parts) (number : ℕ) (others : List Inode) → without number new.waiting ≡ others
+    → length others < 64 → length new.waiting ≤ 64
 few_records new number others is few =
     let more = length-rest new.waiting number in
     let same : length (without number new.waiting) ≡ length others = ap (λ (vs : List Inode). length vs) is in
     omega arith
 
-pub data_kept : (old between new : Parts) (v : Inode) (index : ℕ) (bytes : List ℕ) → index < FILE_BLOCKS → index < block_count v.size → MayStage old v
-    → StagesParents v.number (Data index) old between → StagesBlock v.number (Data index) bytes between new → MayStage new v
+pub data_kept : (old between new : Parts) (v : Inode) (index : ℕ) (bytes : List ℕ) → index < FILE_BLOCKS
+    → index < block_count v.size → MayStage old v
+    → StagesParents v.number (Data index) old between → StagesBlock v.number (Data index) bytes between new
+    → MayStage new v
     → (spare : ℕ) → IsStaged old spare → IsStaged new spare
 data_kept old between new v index bytes low within may h b again spare staged =
     let moved = staged_data old between new v.number index bytes low h b in

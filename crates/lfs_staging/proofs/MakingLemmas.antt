@@ -1,5 +1,6 @@
 -- What stays where one number is given out or taken back.
-use Rattle.std.proofs.Common.{false, ◌≡◌, ◌≢◌, ℕ, ◌+◌, ◌*◌, ◌<◌, ◌≤◌, List, All, length, None, Some, IsSome, is_some, option_and_then, option_map, true, refl, sym, ap, ◌∙◌, subst, inl, inr, arith}
+use Rattle.std.proofs.Common.{false, ◌≡◌, ◌≢◌, ℕ, ◌+◌, ◌*◌, ◌<◌, ◌≤◌, List, All, length, None, Some, IsSome, is_some}
+use Rattle.std.proofs.Common.{option_and_then, option_map, true, refl, sym, ap, ◌∙◌, subst, inl, inr, arith}
 use Rattle.std.specs.Prelude.{if◌then◌else◌, ◌==◌, slice_index}
 use Rattle.std.proofs.lemmas.Bool.{cases_eq}
 use Rattle.lfs_ifile.specs.declared.inode.InodePlace.{InodePlace}
@@ -43,7 +44,8 @@ pub record HasNoBlock (p : Parts) (number : ℕ) : Type 0 where
   pub no_address : (i : ℕ) → slice_index (root_in (record_of p number)) i ≡ 0
 
 -- ---- the log, where only the way in which places are said changes
-pub log_at : (p : LogParts) (spare : ℕ) (was now : ℕ → ℕ → ℕ) → ((n c : ℕ) → n < length p.tables.rows → c < BLOCK_CODES → now n c ≡ was n c)
+pub log_at : (p : LogParts) (spare : ℕ) (was now : ℕ → ℕ → ℕ)
+    → ((n c : ℕ) → n < length p.tables.rows → c < BLOCK_CODES → now n c ≡ was n c)
     → IsLog (log.log_state p was) spare → IsLog (log.log_state p now) spare
 log_at p spare was now same h =
     let to = h.segments.to in
@@ -93,16 +95,21 @@ module _ (number : ℕ) (old new : Parts) (h : KeepsOthers number old new) where
   pub other_record : (n : ℕ) → n ≢ number → record_of new n ≡ record_of old n
   unfolding record_of
   other_record n other =
-      ap (option_and_then (λ (place : InodePlace). waiting_or (waiting_in new.waiting n) (fields_at new.log.memory place))) (ap place_in (h.rows n other))
-      ∙ ap (λ w. option_and_then (λ (place : InodePlace). waiting_or w (fields_at new.log.memory place)) (place_of old.log.tables n)) (h.waiting n other)
-      ∙ ap (λ (m : SegmentMemory). option_and_then (λ (place : InodePlace). waiting_or (waiting_in old.waiting n) (fields_at m place)) (place_of old.log.tables n)) h.memory
+      ap (option_and_then (λ (place : InodePlace). waiting_or (waiting_in new.waiting n)
+      (fields_at new.log.memory place))) (ap place_in (h.rows n other))
+      ∙ ap (λ w. option_and_then (λ (place : InodePlace). waiting_or w (fields_at new.log.memory place))
+      (place_of old.log.tables n)) (h.waiting n other)
+      ∙ ap (λ (m : SegmentMemory). option_and_then
+      (λ (place : InodePlace). waiting_or (waiting_in old.waiting n) (fields_at m place))
+      (place_of old.log.tables n)) h.memory
 
   pub other_tree : (n : ℕ) → n ≢ number → tree_of new n ≡ tree_of old n
   other_tree n other =
       let waits : (way : List ℕ) → (tree_of new n).waits way ≡ (tree_of old n).waits way
       = λ way. ap (λ (s : Contents). block_in (key_of n (version_of new n) (code_at way)) s.locked) h.cache
       ∙ ap (λ version. block_in (key_of n version (code_at way)) old.cache.locked) (other_version n other) in
-      let blocks : (a : ℕ) → block_at new.log.memory a ≡ block_at old.log.memory a = λ a. ap (λ (m : SegmentMemory). block_at m a) h.memory in
+      let blocks : (a : ℕ) → block_at new.log.memory a
+      ≡ block_at old.log.memory a = λ a. ap (λ (m : SegmentMemory). block_at m a) h.memory in
       λ i. record { root = root_in (other_record n other i); waits = λ way. waits way i; block = λ a. blocks a i }
 
   pub other_file : (n : ℕ) → n ≢ number → file_at new n ≡ file_at old n
@@ -136,7 +143,8 @@ module _ (number : ℕ) (old new : Parts) (h : KeepsOthers number old new) where
           let was = still_locked key locked in
           ap is_some (h.waiting key.ino (none key was)) ∙ parents.records key was;
       holders = λ key locked i up way.
-          subst (λ (c : Contents). HolderWaits c key.ino key.version up) (sym h.cache) (parents.holders key (still_locked key locked) i up way);
+          subst (λ (c : Contents). HolderWaits c key.ino key.version up) (sym h.cache)
+          (parents.holders key (still_locked key locked) i up way);
     }
 
     pub files_still : AreFiles old → IsParts new.log
@@ -149,11 +157,13 @@ module _ (number : ℕ) (old new : Parts) (h : KeepsOthers number old new) where
       parts = parts;
       cache = subst IsContents (sym h.cache) files.cache;
       reserved = λ n low root. elim (cases_eq n number) [
-        | inl is ↦ ap (λ m. (row_of new.log.tables m).used) is ∙ kept_free (subst (λ m. m < FIRST_INODE) is low) (λ e. root (is ∙ e))
+        | inl is ↦ ap (λ m. (row_of new.log.tables m).used) is
+            ∙ kept_free (subst (λ m. m < FIRST_INODE) is low) (λ e. root (is ∙ e))
         | inr other ↦ other_used n other ∙ files.reserved n low root
       ];
       recorded = λ n used. elim (cases_eq n number) [
-        | inl is ↦ subst (λ m. IsSome (record_of new m)) (sym is) (recorded (ap (λ m. (row_of new.log.tables m).used) (sym is) ∙ used))
+        | inl is ↦ subst (λ m. IsSome (record_of new m)) (sym is)
+            (recorded (ap (λ m. (row_of new.log.tables m).used) (sym is) ∙ used))
         | inr other ↦ ap is_some (other_record n other) ∙ files.recorded n (sym (other_used n other) ∙ used)
       ];
       files = λ n f at. elim (cases_eq n number) [
@@ -161,11 +171,13 @@ module _ (number : ℕ) (old new : Parts) (h : KeepsOthers number old new) where
         | inr other ↦ other_is_file n f other (files.files n f (sym (other_record n other) ∙ at))
       ];
       records = present;
-      frames = λ key locked. let was = still_locked key locked in other_present key.ino key.version (none key was) (files.frames key was);
+      frames = λ key locked. let was = still_locked key locked in
+          other_present key.ino key.version (none key was) (files.frames key was);
       coded = λ key locked. files.coded key (still_locked key locked);
       mirrors = record {
         each = λ key bytes there.
-            let was = files.mirrors.each key bytes (subst (λ (c : Contents). block_in key c.lru ≡ Some bytes) h.cache there) in
+            let was = files.mirrors.each key bytes (subst (λ (c : Contents). block_in key c.lru
+            ≡ Some bytes) h.cache there) in
             let other = apart key bytes was in
             logged_kept old new key bytes was (other_present key.ino key.version other was.present)
             (ap (λ t. address t (way_of key.lbn)) (other_tree key.ino other))
@@ -173,7 +185,8 @@ module _ (number : ℕ) (old new : Parts) (h : KeepsOthers number old new) where
       };
     }
 
-    pub staged_still : IsStaged old 0 → AreFiles new → IsLog (log_state new) 0 → AreOnce new.waiting → length new.waiting ≤ WAITING_LIMIT → IsStaged new 0
+    pub staged_still : IsStaged old 0 → AreFiles new → IsLog (log_state new) 0 → AreOnce new.waiting
+        → length new.waiting ≤ WAITING_LIMIT → IsStaged new 0
     staged_still staged files log_ once few = record {
       whole = files;
       log = log_;
@@ -195,9 +208,11 @@ module _ (number : ℕ) (old new : Parts) (h : KeepsOthers number old new) where
   pub other_at : (n c : ℕ) → n ≢ number → (log_state new).at n c ≡ (log_state old).at n c
   other_at n c other = elim (cases_eq c 0) [
     | inl is ↦
-        ap ((log_state new).at n) is ∙ place-record new n ∙ other_place n other ∙ sym (place-record old n) ∙ sym (ap ((log_state old).at n) is)
+        ap ((log_state new).at n) is ∙ place-record new n ∙ other_place n other ∙ sym (place-record old n)
+        ∙ sym (ap ((log_state old).at n) is)
     | inr block ↦
-        place-block new n c block ∙ ap (λ t. 4 * address t (way_of c)) (other_tree n other) ∙ sym (place-block old n c block)
+        place-block new n c block ∙ ap (λ t. 4 * address t (way_of c)) (other_tree n other)
+        ∙ sym (place-block old n c block)
   ]
 
   -- those of the number have no place: so the log has others' where they were
@@ -210,12 +225,15 @@ module _ (number : ℕ) (old new : Parts) (h : KeepsOthers number old new) where
       numbers = h.numbers;
       moves = record {
         numbers = h.numbers;
-        places = λ n c there within. sym (other_at n c (λ is. there.somewhere (ap (λ m. (log_state new).at m c) is ∙ nothing c)));
-        versions = λ n c there within. sym (other_version n (λ is. there.somewhere (ap (λ m. (log_state new).at m c) is ∙ nothing c)));
+        places = λ n c there within. sym (other_at n c
+            (λ is. there.somewhere (ap (λ m. (log_state new).at m c) is ∙ nothing c)));
+        versions = λ n c there within. sym (other_version n
+            (λ is. there.somewhere (ap (λ m. (log_state new).at m c) is ∙ nothing c)));
       };
     }
 
-    pub log_still : (at : ℕ → ℕ → ℕ) → ((c : ℕ) → at number c ≡ 0) → ((n c : ℕ) → n ≢ number → at n c ≡ (log_state old).at n c)
+    pub log_still : (at : ℕ → ℕ → ℕ) → ((c : ℕ) → at number c ≡ 0)
+        → ((n c : ℕ) → n ≢ number → at n c ≡ (log_state old).at n c)
         → IsLog (log.log_state new.log at) 0 → IsLog (log_state new) 0
     log_still at none others =
         log_at new.log 0 at (log_state new).at (λ n c low below. elim (cases_eq n number) [

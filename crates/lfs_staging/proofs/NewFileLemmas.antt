@@ -1,5 +1,6 @@
 -- A number that is given out to an empty file.
-use Rattle.std.proofs.Common.{◌≡◌, ◌≢◌, ℕ, ◌+◌, ◌/◌, ◌%◌, ◌<◌, ◌≤◌, List, [], ◌∷◌, All, length, Some, is_some, false, refl, sym, ap, ◌∙◌, subst, inl, inr, arith}
+use Rattle.std.proofs.Common.{◌≡◌, ◌≢◌, ℕ, ◌+◌, ◌/◌, ◌%◌, ◌<◌, ◌≤◌, List, [], ◌∷◌, All, length, Some, is_some, false}
+use Rattle.std.proofs.Common.{refl, sym, ap, ◌∙◌, subst, inl, inr, arith}
 use Rattle.std.specs.Prelude.{slice_index, if◌then◌else◌, ◌==◌, replicate}
 use Rattle.std.specs.Cmp.{nat_cmp_total}
 use Rattle.std.specs.FinMap as map
@@ -46,7 +47,8 @@ use Rattle.lfs_staging.specs.View.{record_of, root_in, tree_of, version_of, wait
 use Rattle.lfs_staging.specs.Waiting.{AreOnce, without}
 use Rattle.lfs_staging.proofs.FileLemmas.{file_at-some, free_place, get-content_of}
 use Rattle.lfs_staging.proofs.KeyLemmas.{unused_nowhere}
-use Rattle.lfs_staging.proofs.MakingLemmas.{all_nowhere, files_still, log_still, none_addressed, none_waits, other_file, other_present, other_version, staged_still, stays_in_log, HasNoBlock}
+use Rattle.lfs_staging.proofs.MakingLemmas.{all_nowhere, files_still, log_still, none_addressed, none_waits, other_file}
+use Rattle.lfs_staging.proofs.MakingLemmas.{other_present, other_version, staged_still, stays_in_log, HasNoBlock}
 use Rattle.lfs_staging.proofs.ReadLemmas.{data_block-read, no_bytes}
 use Rattle.lfs_staging.proofs.ViewLemmas.{all_zeros}
 use Rattle.lfs_staging.proofs.WaitingLemmas.{all_without, length-without, once_staged, waiting-staged}
@@ -65,13 +67,16 @@ pub record GivesOutFile (number version : ℕ) (attrs : Attrs) (v : Inode) (old 
   pub attributes : attributes v ≡ attributes_from number version attrs 0
   pub addresses : addresses v ≡ replicate ROOT_COUNT 0
 
-module _ (number version : ℕ) (attrs : Attrs) (v : Inode) (old new : Parts) (h : GivesOutFile number version attrs v old new)
-    (least : FIRST_INODE ≤ number) (low : number < length old.log.tables.rows) (free : (row_of old.log.tables number).used ≡ false) (files : AreFiles old) where
+module _ (number version : ℕ) (attrs : Attrs) (v : Inode) (old new : Parts)
+    (h : GivesOutFile number version attrs v old new)
+    (least : FIRST_INODE ≤ number) (low : number < length old.log.tables.rows)
+    (free : (row_of old.log.tables number).used ≡ false) (files : AreFiles old) where
   own : v.number ≡ number
   own = ap (λ (a : Attributes). a.number) h.attributes
 
   given : row_of new.log.tables number ≡ given_row version
-  given = ap (λ (t : Tables). row_of t number) h.tables ∙ get_or-set_same old.log.tables.rows number (given_row version) fresh_row low
+  given = ap (λ (t : Tables). row_of t number) h.tables
+      ∙ get_or-set_same old.log.tables.rows number (given_row version) fresh_row low
 
   new_version : version_of new number ≡ version
   new_version = ap (λ (r : InodeRow). r.version) given
@@ -85,24 +90,28 @@ module _ (number version : ℕ) (attrs : Attrs) (v : Inode) (old new : Parts) (h
     states = ap (λ (t : Tables). t.states) h.tables;
     clean = h.clean;
     numbers = ap (λ (t : Tables). length t.rows) h.tables ∙ length-set old.log.tables.rows number (given_row version);
-    rows = λ n other. ap (λ (t : Tables). row_of t n) h.tables ∙ get_or-set_other old.log.tables.rows number n (given_row version) fresh_row other;
+    rows = λ n other. ap (λ (t : Tables). row_of t n) h.tables
+        ∙ get_or-set_other old.log.tables.rows number n (given_row version) fresh_row other;
     cache = h.cache;
     waiting = λ n other. ap (λ vs. waiting_in vs n) h.waiting ∙ waiting-staged v old.waiting n (λ e. other (e ∙ own));
   }
 
   -- ---- the number has no block
   no_frame : (key : Key) → IsLocked key old.cache → key.ino ≢ number
-  no_frame key locked is = false≢true (sym free ∙ ap (λ n. (row_of old.log.tables n).used) (sym is) ∙ (files.frames key locked).in_use)
+  no_frame key locked is = false≢true (sym free ∙ ap (λ n. (row_of old.log.tables n).used) (sym is)
+      ∙ (files.frames key locked).in_use)
 
   no_block : HasNoBlock new number
   no_block = record {
     no_frame = λ key locked. no_frame key (subst (IsLocked key) h.cache locked);
-    no_address = λ i. ap (λ r. slice_index (root_in r) i) record_here ∙ ap (λ xs. slice_index xs i) h.addresses ∙ slice_index-zeros 14 i;
+    no_address = λ i. ap (λ r. slice_index (root_in r) i) record_here ∙ ap (λ xs. slice_index xs i) h.addresses
+        ∙ slice_index-zeros 14 i;
   }
 
   zeros_at : (n : ℕ) → data_block (tree_of new number) n ≡ zero_block
   zeros_at n = elim (cases_lt n FILE_BLOCKS) [
-    | inl inside ↦ data_block-read (tree_of new number) n inside ∙ all_zeros (tree_of new number) no_block.no_address (none_waits new number no_block) (data_way n)
+    | inl inside ↦ data_block-read (tree_of new number) n inside
+        ∙ all_zeros (tree_of new number) no_block.no_address (none_waits new number no_block) (data_way n)
     | inr past ↦ data_block-past (tree_of new number) n past
   ]
 
@@ -138,21 +147,25 @@ module _ (number version : ℕ) (attrs : Attrs) (v : Inode) (old new : Parts) (h
       subst (λ ws. All (λ (w : Inode). IsPresent new w.number w.version) ws) (sym h.waiting)
       (All-cons (λ (w : Inode). IsPresent new w.number w.version) v (without v.number old.waiting) present_here
       (all_without (λ (w : Inode). IsPresent new w.number w.version) old.waiting v.number
-      (All-weaker (λ (w : Inode). IsPresent old w.number w.version) (λ (w : Inode). IsPresent new w.number w.version) present_before old.waiting files.records)))
+      (All-weaker (λ (w : Inode). IsPresent old w.number w.version)
+      (λ (w : Inode). IsPresent new w.number w.version) present_before old.waiting files.records)))
 
   pub waiting_more : length new.waiting ≤ length old.waiting + 1
   waiting_more =
-      let e : length new.waiting ≡ length (v ∷ without v.number old.waiting) = ap (λ (ws : List Inode). length ws) h.waiting in
+      let e : length new.waiting ≡ length (v ∷ without v.number old.waiting) =
+      ap (λ (ws : List Inode). length ws) h.waiting in
       let fewer = length-without old.waiting v.number in
       omega arith
 
   files_new : AreFiles new
   files_new =
-      files_still number old new keeps_others no_frame files h.parts (λ under other. absurd (omega (arith, least, under)))
+      files_still number old new keeps_others no_frame files h.parts
+      (λ under other. absurd (omega (arith, least, under)))
       (λ used. ap is_some record_here)
       (λ f is. subst (IsFile new number) (same_Some (fields_of v) f (sym record_here ∙ is)) file_here)
       present
-      (λ key bytes was is. false≢true (sym free ∙ ap (λ n. (row_of old.log.tables n).used) (sym is) ∙ was.present.in_use))
+      (λ key bytes was is. false≢true (sym free ∙ ap (λ n. (row_of old.log.tables n).used) (sym is)
+      ∙ was.present.in_use))
 
   -- ---- its version, and those of the others
   pub made_versions : version ≡ raised_version (version_of old number) → (n : ℕ)
@@ -174,7 +187,8 @@ module _ (number version : ℕ) (attrs : Attrs) (v : Inode) (old new : Parts) (h
   pub made_log : StaysInLog old new
   made_log = stays_in_log number old new keeps_others nothing_after
 
-  pub made_staged : IsStaged old 0 → Renews (log.log_state old.log (log_state old).at) (log.log_state new.log (log_state old).at) number
+  pub made_staged : IsStaged old 0 → Renews (log.log_state old.log (log_state old).at)
+      (log.log_state new.log (log_state old).at) number
       → length old.waiting < WAITING_LIMIT → IsStaged new 0
   made_staged staged step few =
       let kept = renewed_log (log_state old) (log.log_state new.log (log_state old).at) 0 number staged.log step in
@@ -190,13 +204,17 @@ module _ (number version : ℕ) (attrs : Attrs) (v : Inode) (old new : Parts) (h
   file_new : file_at new number ≡ Some (file_of attrs [])
   file_new =
       file_at-some new number (fields_of v) record_here
-      ∙ ap (λ (a : Attributes). Some (file_of (stat_of a) (file_bytes (data_block (tree_of new number)) a.size))) h.attributes
-      ∙ ap (λ bytes. Some (file_of (stat_of (attributes_from number version attrs 0)) bytes)) (no_data (data_block (tree_of new number)))
+      ∙ ap (λ (a : Attributes). Some (file_of (stat_of a) (file_bytes (data_block (tree_of new number)) a.size)))
+      h.attributes
+      ∙ ap (λ bytes. Some (file_of (stat_of (attributes_from number version attrs 0)) bytes))
+      (no_data (data_block (tree_of new number)))
 
   pub made_content : content_of new ≡ map.insert (content_of old) number (file_of attrs [])
-  made_content = same_map nat_cmp_total nat_cmp-IsAntisymmetric (content_of new) (map.insert (content_of old) number (file_of attrs [])) (λ q. elim (cases_eq q number) [
-    | inl is ↦ rw is (get-content_of new number ∙ file_new ∙ sym (get-insert_same (content_of old) number (file_of attrs [])))
-    | inr other ↦
-        get-content_of new q ∙ other_file number old new keeps_others q other ∙ sym (get-content_of old q)
-        ∙ sym (get-insert_other (content_of old) number (file_of attrs []) q other)
-  ])
+  made_content = same_map nat_cmp_total nat_cmp-IsAntisymmetric (content_of new)
+      (map.insert (content_of old) number (file_of attrs [])) (λ q. elim (cases_eq q number) [
+        | inl is ↦ rw is (get-content_of new number ∙ file_new
+            ∙ sym (get-insert_same (content_of old) number (file_of attrs [])))
+        | inr other ↦
+            get-content_of new q ∙ other_file number old new keeps_others q other ∙ sym (get-content_of old q)
+            ∙ sym (get-insert_other (content_of old) number (file_of attrs []) q other)
+      ])

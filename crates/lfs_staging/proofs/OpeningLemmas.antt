@@ -1,12 +1,14 @@
 -- A volume that was just laid out is a store, and has the root directory alone.
-use Rattle.std.proofs.Common.{◌≡◌, ◌≢◌, ℕ, ◌+◌, ◌*◌, ◌/◌, ◌%◌, ◌<◌, ◌≤◌, List, All, length, None, Some, option_map, is_some, refl, sym, ap, ◌∙◌, subst, inl, inr, arith}
+use Rattle.std.proofs.Common.{◌≡◌, ◌≢◌, ℕ, ◌+◌, ◌*◌, ◌/◌, ◌%◌, ◌<◌, ◌≤◌, List, All, length, None, Some, option_map}
+use Rattle.std.proofs.Common.{is_some, refl, sym, ap, ◌∙◌, subst, inl, inr, arith}
 use Rattle.std.specs.Prelude.{replicate, slice_index, slice_index_or}
 use Rattle.std.specs.Cmp.{nat_cmp_total}
 use Rattle.std.specs.Ordering.{nat_cmp}
 use Rattle.std.specs.FinMap as map
 use Rattle.std.specs.FinMap.{get-empty, same_map, nat_cmp-IsAntisymmetric}
 use Rattle.std.proofs.lemmas.Bool.{cases_eq, cases_lt, cond-true, cond-false, eq-eqb, ne_eqb, false≢true}
-use Rattle.std.proofs.lemmas.List.{get_or-replicate, get_or-set_other, get_or-set_same, get_or_past, length-replicate, length-set}
+use Rattle.std.proofs.lemmas.List.{get_or-replicate, get_or-set_other, get_or-set_same, get_or_past, length-replicate}
+use Rattle.std.proofs.lemmas.List.{length-set}
 use Rattle.lfs_ifile.specs.declared.segment.SegState.TheVariants.{Clean, Active}
 use Rattle.std.proofs.lemmas.Option.{none-some, same_Some}
 use Rattle.lfs_types.specs.Blocks.{zero_block}
@@ -70,12 +72,14 @@ all_fresh n k = elim (cases_lt k n) [
 pub fresh_version : (n : ℕ) → raised_version (slice_index_or (replicate n fresh_row) 2 fresh_row).version ≡ 1
 fresh_version n = ap (λ (r : InodeRow). raised_version r.version) (all_fresh n 2)
 
-pub record_place-row : (tables : Tables) (number : ℕ) (row : InodeRow) → row_of tables number ≡ row → record_place tables number ≡ place_in_row row
+pub record_place-row : (tables : Tables) (number : ℕ) (row : InodeRow) → row_of tables number ≡ row
+    → record_place tables number ≡ place_in_row row
 unfolding record_place
 record_place-row tables number row is = ap place_in_row is
 
 -- the root's record where it was written
-root_in_slot : (m : SegmentMemory) → fields_in (slot_of (block_at m 2) 0) ≡ Some (root_fields 1) → record_in (block_at m 2) 0 ≡ Some (2, 1)
+root_in_slot : (m : SegmentMemory) → fields_in (slot_of (block_at m 2) 0) ≡ Some (root_fields 1)
+    → record_in (block_at m 2) 0 ≡ Some (2, 1)
 unfolding record_in
 root_in_slot m root = ap (option_map record_key) root
 
@@ -104,7 +108,8 @@ module _ (segments inodes frames : ℕ) (p : Parts) (h : IsOpening segments inod
 
   -- ---- addresses
   none_waits : (number : ℕ) (way : List ℕ) → (tree_of p number).waits way ≡ None
-  none_waits number way = ap (λ (c : Contents). block_in (key_of number (version_of p number) (code_at way)) c.locked) h.cache
+  none_waits number way = ap (λ (c : Contents). block_in (key_of number (version_of p number) (code_at way)) c.locked)
+      h.cache
 
   no_root : (number i : ℕ) → slice_index (tree_of p number).root i ≡ 0
   no_root number i =
@@ -119,7 +124,8 @@ module _ (segments inodes frames : ℕ) (p : Parts) (h : IsOpening segments inod
   zeros_at : (number n : ℕ) → data_block (tree_of p number) n ≡ zero_block
   zeros_at number n =
       elim (cases_lt n FILE_BLOCKS) [
-        | inl low ↦ data_block-read (tree_of p number) n low ∙ all_zeros (tree_of p number) (no_root number) (none_waits number) (data_way n)
+        | inl low ↦ data_block-read (tree_of p number) n low
+            ∙ all_zeros (tree_of p number) (no_root number) (none_waits number) (data_way n)
         | inr past ↦ data_block-past (tree_of p number) n past
       ]
 
@@ -143,14 +149,16 @@ module _ (segments inodes frames : ℕ) (p : Parts) (h : IsOpening segments inod
               | inr other ↦ absurd (other record_)
             ]
             | inr other ↦
-                ap ((log_state p).at number) record_ ∙ place-record p number ∙ record_place-row p.log.tables number fresh_row (h.tables.others number other) ∙ sym e.1
+                ap ((log_state p).at number) record_ ∙ place-record p number
+                ∙ record_place-row p.log.tables number fresh_row (h.tables.others number other) ∙ sym e.1
           ]
           | inr block ↦ place-block p number code block ∙ ap (λ a. 4 * a) (no_address number (way_of code)) ∙ sym e.1
         ]
       ]
 
   root_owner : (log_state p).owner 8 ≡ Some (record { number = 2; version = 1; code = 0 })
-  root_owner = named_at-record p.log.memory 2 0 2 1 inodes_entry (omega arith) h.memory.entry refl (root_in_slot p.log.memory h.memory.root)
+  root_owner = named_at-record p.log.memory 2 0 2 1 inodes_entry (omega arith) h.memory.entry refl
+      (root_in_slot p.log.memory h.memory.root)
 
   root_version : version_of p 2 ≡ 1
   root_version = ap (λ (r : InodeRow). r.version) h.tables.root
@@ -184,7 +192,8 @@ module _ (segments inodes frames : ℕ) (p : Parts) (h : IsOpening segments inod
       let none = weight-none s 0 in
       elim (cases_eq s 0) [
         | inl first ↦
-            let full : weight_of 8 s 0 ≡ 128 = ap (λ n. weight_of 8 n 0) first ∙ weight-here 8 0 0 (λ e. omega arith) refl in
+            let full : weight_of 8 s 0 ≡ 128 = ap (λ n. weight_of 8 n 0) first
+            ∙ weight-here 8 0 0 (λ e. omega arith) refl in
             let live : slice_index p.log.tables.live s ≡ 128 = h.tables.live s ∙ cond-true _ _ _ (eq-eqb s 0 first) in
             omega arith
         | inr other ↦
@@ -256,7 +265,8 @@ module _ (segments inodes frames : ℕ) (p : Parts) (h : IsOpening segments inod
     files = λ number f is.
         let one = one_record number f is in
         subst (λ n. IsFile p n f) (sym one.0) (subst (IsFile p 2) (sym one.1) root_file);
-    records = subst (λ vs. All (λ (v : Inode). IsPresent p v.number v.version) vs) (sym h.no_record) (λ k d low. absurd (omega arith));
+    records = subst (λ vs. All (λ (v : Inode). IsPresent p v.number v.version) vs) (sym h.no_record)
+        (λ k d low. absurd (omega arith));
     frames = λ key locked. absurd (none_locked key locked);
     coded = λ key locked. absurd (none_locked key locked);
     mirrors = mirrors_none p (ap (λ (c : Contents). c.lru) h.cache);
@@ -267,7 +277,10 @@ module _ (segments inodes frames : ℕ) (p : Parts) (h : IsOpening segments inod
     whole = opening_files formed;
     log = opening_log;
     ready = h.memory.ready;
-    parents = record { records = λ key locked. absurd (none_locked key locked); holders = λ key locked i up way. absurd (none_locked key locked) };
+    parents = record {
+      records = λ key locked. absurd (none_locked key locked);
+      holders = λ key locked i up way. absurd (none_locked key locked);
+    };
     once = none_once p.waiting h.no_record;
     few = let none : length p.waiting ≡ 0 = ap (λ (vs : List Inode). length vs) h.no_record in omega arith;
     within = λ number block f is can locked. absurd (none_locked _ locked);
@@ -280,12 +293,13 @@ module _ (segments inodes frames : ℕ) (p : Parts) (h : IsOpening segments inod
       ∙ ap Some (λ i. record fresh_root { bytes = no_bytes (file_bytes (data_block (tree_of p 2)) 0) refl i })
 
   pub opening_shown : content_of p ≡ opening_content
-  opening_shown = same_map nat_cmp_total nat_cmp-IsAntisymmetric (content_of p) opening_content (λ q. elim (cases_eq q 2) [
-    | inl root ↦ rw root (get-content_of p 2 ∙ root_content ∙ sym (get-insert_same map.empty 2 fresh_root))
-    | inr other ↦
-        get-content_of p q ∙ file_at-none p q (no_record_at q other)
-        ∙ sym (get-insert_other map.empty 2 fresh_root q other ∙ get-empty nat_cmp q)
-  ])
+  opening_shown = same_map nat_cmp_total nat_cmp-IsAntisymmetric (content_of p) opening_content
+      (λ q. elim (cases_eq q 2) [
+        | inl root ↦ rw root (get-content_of p 2 ∙ root_content ∙ sym (get-insert_same map.empty 2 fresh_root))
+        | inr other ↦
+            get-content_of p q ∙ file_at-none p q (no_record_at q other)
+            ∙ sym (get-insert_other map.empty 2 fresh_root q other ∙ get-empty nat_cmp q)
+      ])
 
 -- ---- the inode map, once the root was entered
 pub root_entered : (segments inodes : ℕ) (between new : LogParts) → 2 < inodes → 6 ≤ segments
@@ -294,30 +308,38 @@ pub root_entered : (segments inodes : ℕ) (between new : LogParts) → 2 < inod
     → row_of new.tables 2 ≡ placed_row 2 0 (row_of between.tables 2)
     → ((other : ℕ) → other ≢ 2 → row_of new.tables other ≡ row_of between.tables other)
     → length new.tables.rows ≡ length between.tables.rows
-    → ((s : ℕ) → live_of new.tables s + weight_of (record_place between.tables 2) s 0 ≡ live_of between.tables s + weight_of (record_place new.tables 2) s 0)
+    → ((s : ℕ) → live_of new.tables s + weight_of (record_place between.tables 2) s 0 ≡ live_of between.tables s
+    + weight_of (record_place new.tables 2) s 0)
     → new.tables.states ≡ between.tables.states
     → HasRootRow segments inodes new.tables
 root_entered segments inodes between new low many given parts kept memory row rows count live states =
     let fresh_rows = replicate inodes fresh_row in
     let given_at : row_of between.tables 2 ≡ given_row 1
-    = ap (λ (t : Tables). row_of t 2) given ∙ get_or-set_same fresh_rows 2 (given_row 1) fresh_row (omega (arith, length-replicate inodes fresh_row)) in
+    = ap (λ (t : Tables). row_of t 2) given ∙ get_or-set_same fresh_rows 2 (given_row 1) fresh_row
+    (omega (arith, length-replicate inodes fresh_row)) in
     let root : row_of new.tables 2 ≡ root_row = row ∙ ap (placed_row 2 0) given_at in
     let before : record_place between.tables 2 ≡ 0 = record_place-row between.tables 2 (given_row 1) given_at in
     let after : record_place new.tables 2 ≡ 8 = record_place-row new.tables 2 root_row root in
-    let none : (s : ℕ) → live_of between.tables s ≡ 0 = λ s. ap (λ (t : Tables). live_of t s) given ∙ slice_index-zeros segments s in
-    let long : length between.tables.live ≡ segments = ap (λ (t : Tables). length t.live) given ∙ length-replicate segments 0 in
+    let none : (s : ℕ) → live_of between.tables s ≡ 0 = λ s. ap (λ (t : Tables). live_of t s) given
+    ∙ slice_index-zeros segments s in
+    let long : length between.tables.live ≡ segments = ap (λ (t : Tables). length t.live) given
+    ∙ length-replicate segments 0 in
     let states_given = states ∙ ap (λ (t : Tables). t.states) given in
     let clean_states = replicate segments Clean in
     record {
       segments = kept.agree ∙ ap (λ (m : SegmentMemory). m.segments) memory ∙ sym parts.agree ∙ long;
-      inodes = count ∙ ap (λ (t : Tables). length t.rows) given ∙ length-set fresh_rows 2 (given_row 1) ∙ length-replicate inodes fresh_row;
+      inodes = count ∙ ap (λ (t : Tables). length t.rows) given ∙ length-set fresh_rows 2 (given_row 1)
+          ∙ length-replicate inodes fresh_row;
       live = λ s.
           let bytes : live_of new.tables s + weight_of 0 s 0 ≡ 0 + weight_of 8 s 0
-          = ap (λ n. live_of new.tables s + weight_of n s 0) (sym before) ∙ live s ∙ ap (λ n. n + weight_of (record_place new.tables 2) s 0) (none s) ∙ ap (λ n. 0 + weight_of n s 0) after in
+          = ap (λ n. live_of new.tables s + weight_of n s 0) (sym before) ∙ live s
+          ∙ ap (λ n. n + weight_of (record_place new.tables 2) s 0) (none s)
+          ∙ ap (λ n. 0 + weight_of n s 0) after in
           let nothing = weight-none s 0 in
           elim (cases_eq s 0) [
             | inl first ↦
-                let full : weight_of 8 s 0 ≡ 128 = ap (λ n. weight_of 8 n 0) first ∙ weight-here 8 0 0 (λ e. omega arith) refl in
+                let full : weight_of 8 s 0 ≡ 128 = ap (λ n. weight_of 8 n 0) first
+                ∙ weight-here 8 0 0 (λ e. omega arith) refl in
                 let is : live_of new.tables s ≡ 128 = omega arith in
                 is ∙ sym (cond-true _ _ _ (eq-eqb s 0 first))
             | inr other ↦
@@ -325,8 +347,10 @@ root_entered segments inodes between new low many given parts kept memory row ro
                 let is : live_of new.tables s ≡ 0 = omega arith in
                 is ∙ sym (cond-false _ _ _ (ne_eqb s 0 other))
           ];
-      active = ap (λ ss. slice_index_or ss 0 Clean) states_given ∙ get_or-set_same clean_states 0 Active Clean (omega (arith, length-replicate segments Clean));
-      clean = λ s other. ap (λ ss. slice_index_or ss s Clean) states_given ∙ get_or-set_other clean_states 0 s Active Clean other
+      active = ap (λ ss. slice_index_or ss 0 Clean) states_given
+          ∙ get_or-set_same clean_states 0 Active Clean (omega (arith, length-replicate segments Clean));
+      clean = λ s other. ap (λ ss. slice_index_or ss s Clean) states_given
+          ∙ get_or-set_other clean_states 0 s Active Clean other
           ∙ all_clean segments s;
       root = root;
       others = λ number other. rows number other ∙ ap (λ (t : Tables). row_of t number) given

@@ -20,8 +20,10 @@ use Rattle.lfs_staging.proofs.ReadLemmas.{data_block-read}
 use Rattle.lfs_staging.proofs.ViewLemmas.{tree_dirty}
 use Rattle.lfs_staging.proofs.CleanLemmas.{coded_block}
 
-module _ (p : Parts) (v : Inode) (index a : ℕ) (key : Key) (files : AreFiles p) (here : record_of p v.number ≡ Some (fields_of v)) (low : index < FILE_BLOCKS)
-    (at : a ≡ address (tree_from p v) (way_to (Data index))) (is : key ≡ key_of v.number v.version (code_of (Data index))) where
+module _ (p : Parts) (v : Inode) (index a : ℕ) (key : Key) (files : AreFiles p) (here : record_of p v.number
+    ≡ Some (fields_of v)) (low : index < FILE_BLOCKS)
+    (at : a ≡ address (tree_from p v) (way_to (Data index))) (is : key
+    ≡ key_of v.number v.version (code_of (Data index))) where
   same_tree : tree_from p v ≡ tree_of p v.number
   same_tree = tree_from-of p v.number v here (files.files v.number (fields_of v) here)
 
@@ -34,13 +36,16 @@ module _ (p : Parts) (v : Inode) (index a : ℕ) (key : Key) (files : AreFiles p
   -- a clean block that is held for it is what the log has
   pub mirrored : (bytes : List ℕ) → block_in key p.cache.lru ≡ Some bytes → bytes ≡ block_at p.log.memory a
   mirrored bytes there =
-      let was = files.mirrors.each (key_of v.number v.version (code_of (Data index))) bytes (subst (λ k. block_in k p.cache.lru ≡ Some bytes) is there) in
-      was.same ∙ ap (block_at p.log.memory) (ap (address (tree_of p v.number)) (way_of-code_of (Data index) low) ∙ sym at_tree)
+      let was = files.mirrors.each (key_of v.number v.version (code_of (Data index))) bytes
+      (subst (λ k. block_in k p.cache.lru ≡ Some bytes) is there) in
+      was.same ∙ ap (block_at p.log.memory) (ap (address (tree_of p v.number)) (way_of-code_of (Data index) low)
+      ∙ sym at_tree)
 
   -- the block in the log may be held
   pub logged : IsPresent p v.number v.version → a ≢ 0 → IsLogged p key (block_at p.log.memory a)
   logged present some =
-      let same : address (tree_of p v.number) (way_of (code_of (Data index))) ≡ a = ap (address (tree_of p v.number)) (way_of-code_of (Data index) low) ∙ sym at_tree in
+      let same : address (tree_of p v.number) (way_of (code_of (Data index)))
+      ≡ a = ap (address (tree_of p v.number)) (way_of-code_of (Data index) low) ∙ sym at_tree in
       subst (λ k. IsLogged p k (block_at p.log.memory a)) (sym is) (record {
         present = present;
         coded = coded_block (Data index) low (λ e. omega arith);
@@ -56,7 +61,9 @@ module _ (p : Parts) (v : Inode) (index a : ℕ) (key : Key) (files : AreFiles p
       ∙ sym (read-via t (way_to (Data index))) ∙ sym (data_block-read t index low)
 
   -- and in the log
-  pub data_logged : a ≢ 0 → block_in key p.cache.locked ≡ None → block_at p.log.memory a ≡ data_block (tree_of p v.number) index
+  pub data_logged : a ≢ 0 → block_in key p.cache.locked ≡ None → block_at p.log.memory a
+      ≡ data_block (tree_of p v.number) index
   data_logged some free =
       let none = subst (λ k. block_in k p.cache.locked ≡ None) is free in
-      sym (via-log (tree_from p v) (way_to (Data index)) a (tree_dirty p v (Data index) (131 + index) None refl (sym none)) some) ∙ data_via
+      sym (via-log (tree_from p v) (way_to (Data index)) a
+      (tree_dirty p v (Data index) (131 + index) None refl (sym none)) some) ∙ data_via

@@ -1,5 +1,6 @@
 -- Records told apart by number: what each change of them keeps.
-use Rattle.std.proofs.Common.{◌≡◌, ◌≢◌, ℕ, ◌<◌, ◌≤◌, List, [], ◌∷◌, ◌++◌, All, Bool, length, None, Some, IsSome, is_some, true, false, refl, sym, ap, ◌∙◌, subst, inl, inr, arith}
+use Rattle.std.proofs.Common.{◌≡◌, ◌≢◌, ℕ, ◌<◌, ◌≤◌, List, [], ◌∷◌, ◌++◌, All, Bool, length, None, Some, IsSome}
+use Rattle.std.proofs.Common.{is_some, true, false, refl, sym, ap, ◌∙◌, subst, inl, inr, arith}
 use Rattle.std.specs.Prelude.{replicate, slice_index_or, slice_set}
 use Rattle.std.proofs.lemmas.Bool.{cases_eq, cases_lt, cond-false, false≢true, ne_eqb}
 use Rattle.std.proofs.lemmas.List.{get_or-replicate, get_or-set_other, get_or-set_same, length-replicate, length-set}
@@ -10,11 +11,13 @@ use Rattle.lfs_staging.specs.Addressing.{Replaces, replaced}
 use Rattle.lfs_staging.specs.Waiting.{AreOnce, IsNumbered, IsRecords, waiting_in, without}
 use Rattle.lfs_staging.proofs.FrameLemmas.{once_numbers}
 use Rattle.lfs_staging.proofs.ReplacingLemmas.{each_replaced}
-use Rattle.lfs_staging.proofs.WaitingLemmas.{all_without, once_gone, once_staged, once_without, waiting-head, waiting-staged, waiting-tail, waiting-without}
+use Rattle.lfs_staging.proofs.WaitingLemmas.{all_without, once_gone, once_staged, once_without, waiting-head}
+use Rattle.lfs_staging.proofs.WaitingLemmas.{waiting-staged, waiting-tail, waiting-without}
 use Rattle.lfs_types.proofs.Somewhere.{not_some}
 
 -- ---- the last of them
-pub waiting-front : (front : List Inode) (v : Inode) (n : ℕ) → v.number ≢ n → waiting_in (front ++ v ∷ []) n ≡ waiting_in front n
+pub waiting-front : (front : List Inode) (v : Inode) (n : ℕ) → v.number ≢ n → waiting_in (front ++ v ∷ []) n
+    ≡ waiting_in front n
 waiting-front [] v n other = waiting-tail v [] n other
 waiting-front (w ∷ front) v n other = elim (cases_eq w.number n) [
   | inl is ↦ waiting-head w (front ++ v ∷ []) n is ∙ sym (waiting-head w front n is)
@@ -30,13 +33,17 @@ last_some (w ∷ front) v = elim (cases_eq w.number v.number) [
 ]
 
 -- where no number waits twice, no other has the last one's
-pub once_front : (front : List Inode) (v : Inode) → AreOnce (front ++ v ∷ []) → (waiting_in front v.number ≡ None) × AreOnce front
+pub once_front : (front : List Inode) (v : Inode) → AreOnce (front ++ v ∷ []) → (waiting_in front v.number ≡ None)
+    × AreOnce front
 unfolding AreOnce
 once_front [] v once = (refl, tt)
 once_front (w ∷ front) v once =
-    let other : v.number ≢ w.number = λ e. false≢true (sym (ap is_some once.0) ∙ subst (λ n. IsSome (waiting_in (front ++ v ∷ []) n)) e (last_some front v)) in
-    let rest = once_front front v once.1 in
-    (waiting-tail w front v.number (λ e. other (sym e)) ∙ rest.0, (sym (waiting-front front v w.number other) ∙ once.0, rest.1))
+    let other : v.number ≢ w.number = λ e. false≢true (sym (ap is_some once.0)
+    ∙ subst (λ n. IsSome (waiting_in (front ++ v ∷ []) n)) e (last_some front v)) in
+    let rest = once_front front v once.1 in (
+      waiting-tail w front v.number (λ e. other (sym e)) ∙ rest.0,
+      (sym (waiting-front front v w.number other) ∙ once.0, rest.1),
+    )
 
 -- ---- which numbers have one
 -- no number past the greatest count has one
@@ -52,7 +59,8 @@ unfolding without
 without-free [] number none = refl
 without-free (v ∷ vs) number none = elim (cases_eq v.number number) [
   | inl is ↦ absurd (none-some v (sym none ∙ waiting-head v vs number is))
-  | inr ne ↦ cond-false _ _ _ (ne_eqb v.number number ne) ∙ ap (λ ws. v ∷ ws) (without-free vs number (sym (waiting-tail v vs number ne) ∙ none))
+  | inr ne ↦ cond-false _ _ _ (ne_eqb v.number number ne)
+      ∙ ap (λ ws. v ∷ ws) (without-free vs number (sym (waiting-tail v vs number ne) ∙ none))
 ]
 
 pub without-untold : (vs : List Inode) (number : ℕ) → is_some (waiting_in vs number) ≡ false → without number vs ≡ vs
@@ -62,7 +70,8 @@ pub untold_none : (vs : List Inode) (number : ℕ) → is_some (waiting_in vs nu
 untold_none vs number h = not_some (waiting_in vs number) h
 
 -- ---- what each change keeps
-pub no_records : (vs : List Inode) (waits : List Bool) (capacity : ℕ) → vs ≡ [] → waits ≡ replicate 4096 false → capacity ≡ 64 → IsRecords vs waits capacity
+pub no_records : (vs : List Inode) (waits : List Bool) (capacity : ℕ) → vs ≡ [] → waits ≡ replicate 4096 false
+    → capacity ≡ 64 → IsRecords vs waits capacity
 unfolding AreOnce
 no_records vs waits capacity none fresh many = record {
   room = omega arith;
@@ -82,7 +91,8 @@ module _ (vs : List Inode) (waits : List Bool) (capacity : ℕ) (h : IsRecords v
     | inr past ↦ absurd (false≢true (sym (ap is_some (none_past vs number h.numbered past)) ∙ some))
   ]
 
-  pub put_kept : (v : Inode) (us : List Inode) (after : ℕ) → v.number < 4096 → us ≡ v ∷ without v.number vs → after ≡ capacity
+  pub put_kept : (v : Inode) (us : List Inode) (after : ℕ) → v.number < 4096 → us ≡ v ∷ without v.number vs → after
+      ≡ capacity
       → IsRecords us (slice_set waits v.number true) after
   put_kept v us after low is same = subst (λ ws. IsRecords ws (slice_set waits v.number true) after) (sym is) (record {
     room = let room = h.room in omega arith;
@@ -94,27 +104,33 @@ module _ (vs : List Inode) (waits : List Bool) (capacity : ℕ) (h : IsRecords v
           ap (λ n. slice_index_or (slice_set waits v.number true) n false) e
           ∙ get_or-set_same waits v.number true false (let sized = h.sized in omega arith)
           ∙ sym (ap is_some (waiting-head v (without v.number vs) number (sym e)))
-      | inr ne ↦ get_or-set_other waits v.number number true false ne ∙ h.told number below ∙ sym (ap is_some (waiting-staged v vs number ne))
+      | inr ne ↦ get_or-set_other waits v.number number true false ne ∙ h.told number below
+          ∙ sym (ap is_some (waiting-staged v vs number ne))
     ];
   })
 
-  pub removed_kept : (number : ℕ) (us : List Inode) (after : ℕ) → IsSome (waiting_in vs number) → us ≡ without number vs → after ≡ capacity
+  pub removed_kept : (number : ℕ) (us : List Inode) (after : ℕ) → IsSome (waiting_in vs number) → us ≡ without number vs
+      → after ≡ capacity
       → IsRecords us (slice_set waits number false) after
-  removed_kept number us after some is same = subst (λ ws. IsRecords ws (slice_set waits number false) after) (sym is) (record {
-    room = let room = h.room in omega arith;
-    once = once_without vs number h.once;
-    numbered = all_without IsNumbered vs number h.numbered;
-    sized = length-set waits number false ∙ h.sized;
-    told = λ other below. elim (cases_eq other number) [
-      | inl e ↦
-          ap (λ n. slice_index_or (slice_set waits number false) n false) e
-          ∙ get_or-set_same waits number false false (let sized = h.sized in let low = low_told number some in omega arith)
-          ∙ sym (ap (λ n. is_some (waiting_in (without number vs) n)) e ∙ ap is_some (once_gone vs number h.once))
-      | inr ne ↦ get_or-set_other waits number other false false ne ∙ h.told other below ∙ sym (ap is_some (waiting-without vs number other ne))
-    ];
-  })
+  removed_kept number us after some is same =
+      subst (λ ws. IsRecords ws (slice_set waits number false) after) (sym is) (record {
+        room = let room = h.room in omega arith;
+        once = once_without vs number h.once;
+        numbered = all_without IsNumbered vs number h.numbered;
+        sized = length-set waits number false ∙ h.sized;
+        told = λ other below. elim (cases_eq other number) [
+          | inl e ↦
+              ap (λ n. slice_index_or (slice_set waits number false) n false) e
+              ∙ get_or-set_same waits number false false
+              (let sized = h.sized in let low = low_told number some in omega arith)
+              ∙ sym (ap (λ n. is_some (waiting_in (without number vs) n)) e ∙ ap is_some (once_gone vs number h.once))
+          | inr ne ↦ get_or-set_other waits number other false false ne ∙ h.told other below
+              ∙ sym (ap is_some (waiting-without vs number other ne))
+        ];
+      })
 
-  pub replaced_kept : (v : Inode) (us : List Inode) (after : ℕ) → IsSome (waiting_in vs v.number) → us ≡ replaced vs v → Replaces vs us v → after ≡ capacity
+  pub replaced_kept : (v : Inode) (us : List Inode) (after : ℕ) → IsSome (waiting_in vs v.number) → us ≡ replaced vs v
+      → Replaces vs us v → after ≡ capacity
       → IsRecords us waits after
   replaced_kept v us after some is swap same = record {
     room = let room = h.room in omega arith;
@@ -122,7 +138,8 @@ module _ (vs : List Inode) (waits : List Bool) (capacity : ℕ) (h : IsRecords v
     numbered = subst (All IsNumbered) (sym is) (each_replaced IsNumbered vs v (low_told v.number some) h.numbered);
     sized = h.sized;
     told = λ number below. h.told number below ∙ (elim (cases_eq number v.number) [
-      | inl e ↦ ap (λ n. is_some (waiting_in vs n)) e ∙ some ∙ sym (ap is_some swap.here) ∙ sym (ap (λ n. is_some (waiting_in us n)) e)
+      | inl e ↦ ap (λ n. is_some (waiting_in vs n)) e ∙ some ∙ sym (ap is_some swap.here)
+          ∙ sym (ap (λ n. is_some (waiting_in us n)) e)
       | inr ne ↦ sym (ap is_some (swap.others number ne))
     ]);
   }
@@ -145,7 +162,8 @@ module _ (vs : List Inode) (waits : List Bool) (capacity : ℕ) (h : IsRecords v
               ∙ sym (ap (λ n. is_some (waiting_in front n)) e ∙ ap is_some once.0)
           | inr ne ↦
               get_or-set_other waits v.number number false false ne ∙ h.told number below
-              ∙ ap (λ us. is_some (waiting_in us number)) is ∙ ap is_some (waiting-front front v number (λ e. ne (sym e)))
+              ∙ ap (λ us. is_some (waiting_in us number)) is
+              ∙ ap is_some (waiting-front front v number (λ e. ne (sym e)))
         ];
       }
 

@@ -1,5 +1,6 @@
 -- The record of a file waits with a smaller size.
-use Rattle.std.proofs.Common.{◌≡◌, ◌≢◌, ℕ, ◌+◌, ◌≤◌, List, [], ◌∷◌, length, Some, is_some, sym, ap, ◌∙◌, subst, inl, inr, arith}
+use Rattle.std.proofs.Common.{◌≡◌, ◌≢◌, ℕ, ◌+◌, ◌≤◌, List, [], ◌∷◌, length, Some, is_some, sym, ap, ◌∙◌, subst, inl}
+use Rattle.std.proofs.Common.{inr, arith}
 use Rattle.std.specs.Prelude.{slice_index}
 use Rattle.std.proofs.lemmas.Bool.{cases_eq, cases_lt}
 use Rattle.std.proofs.lemmas.Option.{same_Some}
@@ -30,7 +31,8 @@ use Rattle.lfs_staging.specs.View.{key_of, record_of, root_in, tree_of, version_
 use Rattle.lfs_staging.specs.Waiting.{without}
 use Rattle.lfs_staging.proofs.CleanLemmas.{mirrors_log}
 use Rattle.lfs_staging.proofs.HeldLemmas.{GainsNoClean-same}
-use Rattle.lfs_staging.proofs.KeptLemmas.{log_kept, record_once, record_parents, record_present, record_room, record_trees}
+use Rattle.lfs_staging.proofs.KeptLemmas.{log_kept, record_once, record_parents, record_present, record_room}
+use Rattle.lfs_staging.proofs.KeptLemmas.{record_trees}
 use Rattle.lfs_staging.proofs.StagingLemmas.{version-same}
 use Rattle.lfs_staging.proofs.WaitingLemmas.{length-less, waiting-head}
 use Rattle.lfs_staging.proofs.HolderLemmas.{gone_free}
@@ -38,17 +40,21 @@ use Rattle.lfs_bmap.proofs.HolderLemmas.{root_block}
 use Rattle.lfs_staging.proofs.SettingLemmas.{present_kept}
 
 -- the addresses of a record from whose place on there are none stay where they are cut
-root_cell : (p : Parts) (v : Inode) (i : ℕ) → record_of p v.number ≡ Some (fields_of v) → address (tree_of p v.number) (i ∷ []) ≡ slice_index (addresses v) i
-root_cell p v i has = address-cell (tree_of p v.number) i [] ∙ ap (λ ys. slice_index ys i) (table-root (tree_of p v.number) ∙ ap root_in has)
+root_cell : (p : Parts) (v : Inode) (i : ℕ) → record_of p v.number ≡ Some (fields_of v)
+    → address (tree_of p v.number) (i ∷ []) ≡ slice_index (addresses v) i
+root_cell p v i has = address-cell (tree_of p v.number) i []
+    ∙ ap (λ ys. slice_index ys i) (table-root (tree_of p v.number) ∙ ap root_in has)
 
-pub cut_addresses : (p : Parts) (v : Inode) (left : ℕ) → record_of p v.number ≡ Some (fields_of v) → GoneFrom p v.number left → kept_roots left (addresses v) ≡ addresses v
+pub cut_addresses : (p : Parts) (v : Inode) (left : ℕ) → record_of p v.number ≡ Some (fields_of v)
+    → GoneFrom p v.number left → kept_roots left (addresses v) ≡ addresses v
 cut_addresses p v left has gone =
     kept_roots-all left (addresses v) (length-addresses v) (λ k inside from.
     let block = root_block k inside in
     sym (root_cell p v k has) ∙ ap (address (tree_of p v.number)) (sym block.way)
     ∙ (gone block.block block.is block.other (let least = block.from in omega arith)).nowhere)
 
-module _ (old new : Parts) (v w : Inode) (len : ℕ) (may : MayShorten old v.number len) (has : record_of old v.number ≡ Some (fields_of v)) (h : StagesRecord w old new)
+module _ (old new : Parts) (v w : Inode) (len : ℕ) (may : MayShorten old v.number len) (has : record_of old v.number
+    ≡ Some (fields_of v)) (h : StagesRecord w old new)
     (changed : attributes w ≡ record (attributes v) { size = len }) (roots : addresses w ≡ addresses v) where
   files : AreFiles old
   files = may.staged.whole
@@ -70,7 +76,8 @@ module _ (old new : Parts) (v w : Inode) (len : ℕ) (may : MayShorten old v.num
 
   trees : (n : ℕ) → tree_of new n ≡ tree_of old n
   trees = record_trees old new w h (λ n. elim (cases_eq n v.number) [
-    | inl is ↦ ap (λ m. root_in (record_of new m)) is ∙ ap root_in here ∙ roots ∙ sym (ap (λ m. root_in (record_of old m)) is ∙ ap root_in has)
+    | inl is ↦ ap (λ m. root_in (record_of new m)) is ∙ ap root_in here ∙ roots
+        ∙ sym (ap (λ m. root_in (record_of old m)) is ∙ ap root_in has)
     | inr other ↦ ap root_in (others n other)
   ])
 
@@ -83,9 +90,11 @@ module _ (old new : Parts) (v w : Inode) (len : ℕ) (may : MayShorten old v.num
     at_version = same_version ∙ old_file.own_version ∙ ap (version_of old) (sym same_number);
   }
 
-  gone_nowhere : (block : FileBlock) → IsFileBlock block → block_count len ≤ first_under block → address (tree_of old v.number) (way_to block) ≡ 0
+  gone_nowhere : (block : FileBlock) → IsFileBlock block → block_count len ≤ first_under block
+      → address (tree_of old v.number) (way_to block) ≡ 0
   gone_nowhere block is past = elim (cases_eq (code_of block) 0) [
-    | inl e ↦ ap (address (tree_of old v.number)) (sym (way_of-code_of block is) ∙ ap way_of e ∙ way_of-zero) ∙ address-root (tree_of old v.number)
+    | inl e ↦ ap (address (tree_of old v.number)) (sym (way_of-code_of block is) ∙ ap way_of e ∙ way_of-zero)
+        ∙ address-root (tree_of old v.number)
     | inr other ↦ (may.gone block is other past).nowhere
   ]
 
@@ -94,8 +103,10 @@ module _ (old new : Parts) (v w : Inode) (len : ℕ) (may : MayShorten old v.num
     formed = AreFields-fields_of w;
     own_number = same_number;
     own_version = same_version ∙ old_file.own_version ∙ sym (version-same old new v.number h.log);
-    none_past = λ block is past. ap (λ t. address t (way_to block)) (trees v.number) ∙ gone_nowhere block is (subst (λ k. block_count k ≤ first_under block) same_size past);
-    padded = subst (λ t. IsPadded (data_block t) w.size) (sym (trees v.number)) (subst (IsPadded (data_block (tree_of old v.number))) (sym same_size) may.padded);
+    none_past = λ block is past. ap (λ t. address t (way_to block)) (trees v.number)
+        ∙ gone_nowhere block is (subst (λ k. block_count k ≤ first_under block) same_size past);
+    padded = subst (λ t. IsPadded (data_block t) w.size) (sym (trees v.number))
+        (subst (IsPadded (data_block (tree_of old v.number))) (sym same_size) may.padded);
   }
 
   other_file : (n : ℕ) (f : Fields) → IsFile old n f → IsFile new n f
@@ -114,7 +125,8 @@ module _ (old new : Parts) (v w : Inode) (len : ℕ) (may : MayShorten old v.num
     reserved = λ n low other. ap (λ (l : LogParts). (row_of l.tables n).used) h.log ∙ files.reserved n low other;
     recorded = λ n used. elim (cases_eq n v.number) [
       | inl is ↦ ap (λ m. is_some (record_of new m)) is ∙ ap is_some here
-      | inr other ↦ ap is_some (others n other) ∙ files.recorded n (sym (ap (λ (l : LogParts). (row_of l.tables n).used) h.log) ∙ used)
+      | inr other ↦ ap is_some (others n other)
+          ∙ files.recorded n (sym (ap (λ (l : LogParts). (row_of l.tables n).used) h.log) ∙ used)
     ];
     files = λ n f is. elim (cases_eq n v.number) [
       | inl same ↦
@@ -125,13 +137,16 @@ module _ (old new : Parts) (v w : Inode) (len : ℕ) (may : MayShorten old v.num
     records = λ k d low.
         let r = record_present old new w h files was_present k d low in
         present_kept old new _ _ h.log r;
-    frames = λ key locked. present_kept old new key.ino key.version h.log (files.frames key (subst (IsLocked key) h.cache locked));
+    frames = λ key locked. present_kept old new key.ino key.version h.log
+        (files.frames key (subst (IsLocked key) h.cache locked));
     coded = λ key locked. files.coded key (subst (IsLocked key) h.cache locked);
-    mirrors = mirrors_log old new files.mirrors (GainsNoClean-same old.cache new.cache h.cache) h.log (λ n way known. ap (λ t. address t way) (trees n));
+    mirrors = mirrors_log old new files.mirrors (GainsNoClean-same old.cache new.cache h.cache) h.log
+        (λ n way known. ap (λ t. address t way) (trees n));
   }
 
   -- what waits of the file lies within its length
-  left_within : (block : FileBlock) → IsFileBlock block → IsLocked (key_of v.number (version_of old v.number) (code_of block)) old.cache → IsWithin block len
+  left_within : (block : FileBlock) → IsFileBlock block
+      → IsLocked (key_of v.number (version_of old v.number) (code_of block)) old.cache → IsWithin block len
   left_within block can locked = elim (cases_lt (first_under block) (block_count len)) [
     | inl inside ↦ inside
     | inr past ↦
@@ -139,16 +154,19 @@ module _ (old new : Parts) (v w : Inode) (len : ℕ) (may : MayShorten old v.num
         absurd (gone_free old v.number block (may.gone block can code.other past) locked)
   ]
 
-  within_after : (n : ℕ) (block : FileBlock) (f : Fields) → record_of new n ≡ Some f → IsFileBlock block → IsLocked (key_of n (version_of new n) (code_of block)) new.cache
+  within_after : (n : ℕ) (block : FileBlock) (f : Fields) → record_of new n ≡ Some f → IsFileBlock block
+      → IsLocked (key_of n (version_of new n) (code_of block)) new.cache
       → IsWithin block f.attributes.size
   within_after n block f is can locked =
       let before : IsLocked (key_of n (version_of old n) (code_of block)) old.cache
-      = subst (λ version. IsLocked (key_of n version (code_of block)) old.cache) (version-same old new n h.log) (subst (IsLocked (key_of n (version_of new n) (code_of block))) h.cache locked) in
+      = subst (λ version. IsLocked (key_of n version (code_of block)) old.cache) (version-same old new n h.log)
+      (subst (IsLocked (key_of n (version_of new n) (code_of block))) h.cache locked) in
       elim (cases_eq n v.number) [
         | inl same ↦
             let f_is : fields_of w ≡ f = same_Some (fields_of w) f (sym here ∙ ap (record_of new) (sym same) ∙ is) in
             subst (λ (x : Fields). IsWithin block x.attributes.size) f_is (subst (IsWithin block) (sym same_size)
-            (left_within block can (subst (λ m. IsLocked (key_of m (version_of old m) (code_of block)) old.cache) same before)))
+            (left_within block can (subst (λ m. IsLocked (key_of m (version_of old m) (code_of block)) old.cache) same
+            before)))
         | inr other ↦ may.staged.within n block f (sym (others n other) ∙ is) can before
       ]
 
@@ -180,10 +198,14 @@ module _ (old new : Parts) (v w : Inode) (len : ℕ) (may : MayShorten old v.num
     here = λ f is. record {
       addresses = addresses w;
       there = here ∙ ap (λ (a : Attributes). Some (record { attributes = a; addresses = addresses w })) changed
-          ∙ ap (λ (x : Fields). Some (record { attributes = record (x.attributes) { size = len }; addresses = addresses w })) (same_Some (fields_of v) f (sym has ∙ is));
+          ∙ ap (λ (x : Fields). Some (record {
+            attributes = record (x.attributes) { size = len };
+            addresses = addresses w;
+          })) (same_Some (fields_of v) f (sym has ∙ is));
     };
     others = others;
     blocks = trees;
     waiting = no_more;
-    waits = ap is_some (ap (λ (vs : List Inode). waiting_in vs v.number) h.waiting ∙ waiting-head w (without w.number old.waiting) v.number same_number);
+    waits = ap is_some (ap (λ (vs : List Inode). waiting_in vs v.number) h.waiting
+        ∙ waiting-head w (without w.number old.waiting) v.number same_number);
   }

@@ -29,7 +29,8 @@ use Rattle.std.specs.List.{Contains}
 use Rattle.lfs_bmap.specs.declared.blocks.FileBlock.{FileBlock}
 
 -- a file in use may be changed where there is room for a record
-pub staged_change : (p : Parts) (number spare : ℕ) → IsStaged p spare → number < length p.log.tables.rows → (row_of p.log.tables number).used ≡ true
+pub staged_change : (p : Parts) (number spare : ℕ) → IsStaged p spare → number < length p.log.tables.rows
+    → (row_of p.log.tables number).used ≡ true
     → length p.waiting < WAITING_LIMIT → MayChange p number
 staged_change p number spare staged low used few = record {
   files = staged.whole;
@@ -45,7 +46,8 @@ staged_change p number spare staged low used few = record {
 pub content_same : (old new : Parts) → SameFiles old new → content_of new ≡ content_of old
 content_same old new same =
     content_of-same old new (ap (λ (l : LogParts). length l.tables.rows) same.log)
-    (λ number low. file_at-kept old new number (same.records number) (λ n. data_block-same (tree_of old number) (tree_of new number) (same.readings number) n))
+    (λ number low. file_at-kept old new number (same.records number)
+    (λ n. data_block-same (tree_of old number) (tree_of new number) (same.readings number) n))
 
 -- the blocks of the file may wait still
 pub may_again : (old new : Parts) (v : Inode) → MayStage old v → SameFiles old new → AreFiles new → ParentsWait new
@@ -55,8 +57,11 @@ may_again old new v may same files parents room = record {
   parents = parents;
   inside = record {
     each = λ block is.
-        subst (λ n. address (tree_of new v.number) (way_to block) < n) (sym (ap (λ (l : LogParts). l.memory.segments * 64) same.log))
-        (subst (λ a. a < old.log.memory.segments * 64) (sym ((same.readings v.number).addresses (way_to block) (block_known block is))) (may.inside.each block is));
+        subst (λ n. address (tree_of new v.number) (way_to block) < n)
+        (sym (ap (λ (l : LogParts). l.memory.segments * 64) same.log))
+        (subst (λ a. a < old.log.memory.segments * 64)
+        (sym ((same.readings v.number).addresses (way_to block) (block_known block is)))
+        (may.inside.each block is));
   };
   in_range = subst (λ n. v.number < n) (sym (ap (λ (l : LogParts). length l.tables.rows) same.log)) may.in_range;
   in_use = ap (λ (l : LogParts). (row_of l.tables v.number).used) same.log ∙ may.in_use;
@@ -65,12 +70,15 @@ may_again old new v may same files parents room = record {
 }
 
 -- ---- the parents of a block wait
-module _ (old new : Parts) (v : Inode) (block : FileBlock) (may : MayStage old v) (h : StagesParents v.number block old new) where
+module _ (old new : Parts) (v : Inode) (block : FileBlock) (may : MayStage old v)
+    (h : StagesParents v.number block old new) where
   pub parents_again : MayStage new v
   parents_again = may_again old new v may h.same h.files h.parents h.room
 
   -- what holds in the middle of a call is kept, where what holds the block's address lies within the size
-  pub parents_staged : (spare : ℕ) → IsStaged old spare → ((b : FileBlock) → IsFileBlock b → Contains (codes_on (way_to (table_of block))) (code_of b) → IsWithin b v.size)
+  pub parents_staged : (spare : ℕ) → IsStaged old spare
+      → ((b : FileBlock) → IsFileBlock b → Contains (codes_on (way_to (table_of block))) (code_of b)
+      → IsWithin b v.size)
       → IsStaged new spare
   parents_staged spare staged inside = record {
     whole = h.files;
@@ -78,11 +86,13 @@ module _ (old new : Parts) (v : Inode) (block : FileBlock) (may : MayStage old v
     parents = h.parents;
     once = h.once staged.once;
     few = few_records new v.number (without v.number old.waiting) h.room may.records;
-    within = taken_within old new v (codes_on (way_to (table_of block))) h.same.records (λ n. version-same old new n h.same.log) may.here inside h.takes staged.within;
+    within = taken_within old new v (codes_on (way_to (table_of block))) h.same.records
+        (λ n. version-same old new n h.same.log) may.here inside h.takes staged.within;
   }
 
 -- so it is with a block that waits with what it has, and its parents
-pub table_staged_still : (old new : Parts) (v : Inode) (t : FileBlock) → MayStage old v → IsFileBlock t → IsWithin t v.size → StagesTable v.number t old new
+pub table_staged_still : (old new : Parts) (v : Inode) (t : FileBlock) → MayStage old v → IsFileBlock t
+    → IsWithin t v.size → StagesTable v.number t old new
     → (spare : ℕ) → IsStaged old spare → IsStaged new spare
 table_staged_still old new v t may can within h spare staged = record {
   whole = h.files;
@@ -90,12 +100,14 @@ table_staged_still old new v t may can within h spare staged = record {
   parents = h.parents;
   once = h.once staged.once;
   few = few_records new v.number (without v.number old.waiting) h.takes.records may.records;
-  within = taken_within old new v (codes_on (way_to t)) h.same.records (λ n. version-same old new n h.same.log) may.here (way_within t v.size can within) h.takes.takes staged.within;
+  within = taken_within old new v (codes_on (way_to t)) h.same.records (λ n. version-same old new n h.same.log) may.here
+      (way_within t v.size can within) h.takes.takes staged.within;
 }
 
 -- ---- what a staged change leaves of the log
 -- nothing was written where the log and all addresses stay
-pub stays_same : (old new : Parts) → new.log ≡ old.log → ((n : ℕ) (way : List ℕ) → IsBlockWay way → address (tree_of new n) way ≡ address (tree_of old n) way)
+pub stays_same : (old new : Parts) → new.log ≡ old.log
+    → ((n : ℕ) (way : List ℕ) → IsBlockWay way → address (tree_of new n) way ≡ address (tree_of old n) way)
     → StaysInLog old new
 stays_same old new log addresses = record {
   memory = ap (λ (l : LogParts). l.memory) log;
@@ -110,7 +122,8 @@ pub stays_files : (old new : Parts) → new.log ≡ old.log → ((n : ℕ) → t
 stays_files old new log files = stays_same old new log (λ n way known. ap (λ t. address t way) (files n))
 
 -- a key lost its place
-pub stays_dropped : (old new : Parts) (number code : ℕ) → new.log.memory ≡ old.log.memory → new.log.tables.states ≡ old.log.tables.states → new.log.clean ≡ old.log.clean
+pub stays_dropped : (old new : Parts) (number code : ℕ) → new.log.memory ≡ old.log.memory → new.log.tables.states
+    ≡ old.log.tables.states → new.log.clean ≡ old.log.clean
     → Assigns (log_state old) (log_state new) number code 0 → StaysInLog old new
 stays_dropped old new number code memory states clean step = record {
   memory = memory;
@@ -121,7 +134,8 @@ stays_dropped old new number code memory states clean step = record {
 }
 
 -- a number none of whose keys has a place was given out or released
-pub stays_renewed : (old new : Parts) (number : ℕ) → new.log.memory ≡ old.log.memory → new.log.tables.states ≡ old.log.tables.states → new.log.clean ≡ old.log.clean
+pub stays_renewed : (old new : Parts) (number : ℕ) → new.log.memory ≡ old.log.memory → new.log.tables.states
+    ≡ old.log.tables.states → new.log.clean ≡ old.log.clean
     → Renews (log_state old) (log_state new) number → StaysInLog old new
 stays_renewed old new number memory states clean step = record {
   memory = memory;
@@ -132,7 +146,13 @@ stays_renewed old new number memory states clean step = record {
 }
 
 pub stays-refl : (p : Parts) → StaysInLog p p
-stays-refl p = record { memory = refl; states = refl; clean = refl; numbers = refl; moves = moves-refl (λ segment. ⊤) (log_state p) }
+stays-refl p = record {
+  memory = refl;
+  states = refl;
+  clean = refl;
+  numbers = refl;
+  moves = moves-refl (λ segment. ⊤) (log_state p);
+}
 
 pub stays-trans : (a b c : Parts) → StaysInLog a b → StaysInLog b c → StaysInLog a c
 stays-trans a b c p q = record {

@@ -1,5 +1,6 @@
 -- Keys that differ, and the tables of a file in which the addresses of its blocks stand.
-use Rattle.std.proofs.Common.{◌≡◌, ◌≢◌, ℕ, ◌+◌, ◌-◌, ◌*◌, ◌/◌, ◌%◌, ◌<◌, List, [], ◌∷◌, length, IsSome, false, refl, sym, ap, ◌∙◌, inl, inr, arith}
+use Rattle.std.proofs.Common.{◌≡◌, ◌≢◌, ℕ, ◌+◌, ◌-◌, ◌*◌, ◌/◌, ◌%◌, ◌<◌, List, [], ◌∷◌, length, IsSome, false, refl}
+use Rattle.std.proofs.Common.{sym, ap, ◌∙◌, inl, inr, arith}
 use Rattle.std.specs.Prelude.{if◌then◌else◌, ◌==◌}
 use Rattle.std.proofs.lemmas.Bool.{cases_lt}
 use Rattle.lfs_ifile.specs.declared.inode.InodeRow.{InodeRow}
@@ -36,15 +37,18 @@ pub longer : (i : ℕ) (up : List ℕ) → up ≡ i ∷ up → ⊥
 longer i up e = let same : length up ≡ length up + 1 = ap length e ∙ omega arith in omega arith
 
 -- two trees have the same table where they have the same record, or the same bytes wait for the block
-pub table_same : (t u : Tree) (up : List ℕ) → u.root ≡ t.root → (up ≢ [] → (u.waits up ≡ t.waits up) × IsSome (t.waits up)) → table u up ≡ table t up
+pub table_same : (t u : Tree) (up : List ℕ) → u.root ≡ t.root
+    → (up ≢ [] → (u.waits up ≡ t.waits up) × IsSome (t.waits up)) → table u up ≡ table t up
 table_same t u [] root h = table-root u ∙ root ∙ sym (table-root t)
 table_same t u (j ∷ above) root h =
     let waits = h (λ e. cc) in
     let b = some_there (t.waits (j ∷ above)) waits.1 in
-    table-read u j above ∙ ap cells (read-waits u (j ∷ above) b.0 (waits.0 ∙ b.1)) ∙ sym (ap cells (read-waits t (j ∷ above) b.0 b.1)) ∙ sym (table-read t j above)
+    table-read u j above ∙ ap cells (read-waits u (j ∷ above) b.0 (waits.0 ∙ b.1))
+    ∙ sym (ap cells (read-waits t (j ∷ above) b.0 b.1)) ∙ sym (table-read t j above)
 
 -- there is room for the address of each block
-pub room_at : (p : Parts) (v : Inode) (block : FileBlock) → IsWaiting p v → IsFileBlock block → code_of block ≢ 0 → (i : ℕ) (up : List ℕ) → way_to block ≡ i ∷ up
+pub room_at : (p : Parts) (v : Inode) (block : FileBlock) → IsWaiting p v → IsFileBlock block → code_of block ≢ 0
+    → (i : ℕ) (up : List ℕ) → way_to block ≡ i ∷ up
     → i < length (table (tree_of p v.number) up)
 room_at p v Record is can other = absurd (other refl)
 room_at p v Single is can other =
@@ -55,20 +59,28 @@ room_at p v Double is can other =
     (let long = ap length (record_table p v is) ∙ length-addresses v in omega arith)
 room_at p v (Child index) is can other =
     at_way (λ i up. i < length (table (tree_of p v.number) up)) (index ∷ 13 ∷ []) index (13 ∷ []) refl
-    (let long = ap length (table-read (tree_of p v.number) 13 []) ∙ length-numbers (read (tree_of p v.number) (13 ∷ [])) 0 128 in omega arith)
+    (let long = ap length (table-read (tree_of p v.number) 13 [])
+    ∙ length-numbers (read (tree_of p v.number) (13 ∷ [])) 0 128 in omega arith)
 room_at p v (Data index) is can other =
     elim (cases_lt index 12) [
-      | inl direct ↦ at_way (λ i up. i < length (table (tree_of p v.number) up)) (data_way index) index [] (data_way-direct index direct)
+      | inl direct ↦ at_way (λ i up. i < length (table (tree_of p v.number) up)) (data_way index) index []
+          (data_way-direct index direct)
           (let long = ap length (record_table p v is) ∙ length-addresses v in omega arith)
       | inr past ↦ elim (cases_lt index 140) [
-        | inl near ↦ at_way (λ i up. i < length (table (tree_of p v.number) up)) (data_way index) (index - 12) (12 ∷ []) (data_way-single index past near)
-            (let long = ap length (table-read (tree_of p v.number) 12 []) ∙ length-numbers (read (tree_of p v.number) (12 ∷ [])) 0 128 in omega arith)
-        | inr far ↦ at_way (λ i up. i < length (table (tree_of p v.number) up)) (data_way index) ((index - 140) % 128) (((index - 140) / 128) ∷ 13 ∷ []) (data_way-double index far)
-            (let long = ap length (table-read (tree_of p v.number) ((index - 140) / 128) (13 ∷ [])) ∙ length-numbers (read (tree_of p v.number) (((index - 140) / 128) ∷ 13 ∷ [])) 0 128 in omega arith)
+        | inl near ↦ at_way (λ i up. i < length (table (tree_of p v.number) up)) (data_way index) (index - 12) (12 ∷ [])
+            (data_way-single index past near)
+            (let long = ap length (table-read (tree_of p v.number) 12 [])
+            ∙ length-numbers (read (tree_of p v.number) (12 ∷ [])) 0 128 in omega arith)
+        | inr far ↦ at_way (λ i up. i < length (table (tree_of p v.number) up)) (data_way index) ((index - 140) % 128)
+            (((index - 140) / 128) ∷ 13 ∷ []) (data_way-double index far)
+            (let long = ap length (table-read (tree_of p v.number) ((index - 140) / 128) (13 ∷ []))
+            ∙ length-numbers (read (tree_of p v.number) (((index - 140) / 128) ∷ 13 ∷ [])) 0 128 in omega arith)
       ]
     ]
 
 -- a record has the place that it had, where the inode map has the same rows
-pub same_place : (old new : Tables) (number : ℕ) → new.rows ≡ old.rows → record_place new number ≡ record_place old number
+pub same_place : (old new : Tables) (number : ℕ) → new.rows ≡ old.rows → record_place new number
+    ≡ record_place old number
 unfolding record_place
-same_place old new number rows = ap (λ (rs : List InodeRow). let row = row_at rs number in if row.address == 0 then 0 else 4 * row.address + row.slot) rows
+same_place old new number rows = ap (λ (rs : List InodeRow). let row = row_at rs number in if row.address == 0 then 0
+    else 4 * row.address + row.slot) rows

@@ -1,5 +1,6 @@
 -- A number that is taken back.
-use Rattle.std.proofs.Common.{◌≡◌, ◌≢◌, ℕ, ◌+◌, ◌*◌, ◌/◌, ◌<◌, ◌≤◌, List, [], ◌∷◌, All, length, Option, None, Some, true, refl, sym, ap, ◌∙◌, subst, inl, inr, arith}
+use Rattle.std.proofs.Common.{◌≡◌, ◌≢◌, ℕ, ◌+◌, ◌*◌, ◌/◌, ◌<◌, ◌≤◌, List, [], ◌∷◌, All, length, Option, None, Some}
+use Rattle.std.proofs.Common.{true, refl, sym, ap, ◌∙◌, subst, inl, inr, arith}
 use Rattle.std.specs.Prelude.{slice_index}
 use Rattle.std.specs.Cmp.{nat_cmp_total}
 use Rattle.std.specs.FinMap as map
@@ -39,9 +40,11 @@ use Rattle.lfs_staging.specs.View.{key_of, record_of, root_in, tree_of, version_
 use Rattle.lfs_staging.specs.Waiting.{AreOnce, without}
 use Rattle.lfs_staging.proofs.FileLemmas.{file_at-none, free_place, get-content_of}
 use Rattle.lfs_staging.proofs.KeyLemmas.{place-record, placed_at}
-use Rattle.lfs_staging.proofs.MakingLemmas.{all_nowhere, block_nowhere, files_still, log_still, none_addressed, other_file, other_present, staged_still, stays_in_log, HasNoBlock}
+use Rattle.lfs_staging.proofs.MakingLemmas.{all_nowhere, block_nowhere, files_still, log_still, none_addressed}
+use Rattle.lfs_staging.proofs.MakingLemmas.{other_file, other_present, staged_still, stays_in_log, HasNoBlock}
 use Rattle.lfs_staging.proofs.ViewLemmas.{record_of-unused}
-use Rattle.lfs_staging.proofs.WaitingLemmas.{all_without, length-without, once_without, waiting-tail, waiting-head, waiting-without}
+use Rattle.lfs_staging.proofs.WaitingLemmas.{all_without, length-without, once_without, waiting-tail, waiting-head}
+use Rattle.lfs_staging.proofs.WaitingLemmas.{waiting-without}
 use Rattle.lfs_bmap.specs.Blocks.{code_of}
 use Rattle.lfs_staging.proofs.ClearingLemmas.{some_fields}
 
@@ -50,10 +53,12 @@ apart_none : (vs : List Inode) (number : ℕ) → waiting_in vs number ≡ None 
 apart_none [] number none = λ k d low. absurd (omega arith)
 apart_none (v ∷ vs) number none = elim (cases_eq v.number number) [
   | inl is ↦ absurd (none-some v (sym none ∙ waiting-head v vs number is))
-  | inr ne ↦ All-cons (λ (w : Inode). w.number ≢ number) v vs ne (apart_none vs number (sym (waiting-tail v vs number ne) ∙ none))
+  | inr ne ↦ All-cons (λ (w : Inode). w.number ≢ number) v vs ne
+      (apart_none vs number (sym (waiting-tail v vs number ne) ∙ none))
 ]
 
-pub apart_without : (vs : List Inode) (number : ℕ) → AreOnce vs → All (λ (w : Inode). w.number ≢ number) (without number vs)
+pub apart_without : (vs : List Inode) (number : ℕ) → AreOnce vs
+    → All (λ (w : Inode). w.number ≢ number) (without number vs)
 unfolding without AreOnce
 apart_without [] number once = λ k d low. absurd (omega arith)
 apart_without (v ∷ vs) number once = elim (cases_eq v.number number) [
@@ -64,7 +69,8 @@ apart_without (v ∷ vs) number once = elim (cases_eq v.number number) [
 ]
 
 -- ---- an empty file has no block
-module _ (p : Parts) (number : ℕ) (staged : IsStaged p 0) (low : number < length p.log.tables.rows) (used : (row_of p.log.tables number).used ≡ true)
+module _ (p : Parts) (number : ℕ) (staged : IsStaged p 0) (low : number < length p.log.tables.rows)
+    (used : (row_of p.log.tables number).used ≡ true)
     (empty : (f : Fields) → record_of p number ≡ Some f → f.attributes.size ≡ 0) where
   has_record : (f : Fields) × (record_of p number ≡ Some f)
   has_record = some_fields (record_of p number) (staged.whole.recorded number used)
@@ -73,7 +79,8 @@ module _ (p : Parts) (number : ℕ) (staged : IsStaged p 0) (low : number < leng
   no_frame key locked is =
       let f = has_record.0 in
       let none = empty f has_record.1 in
-      let version : key.version ≡ version_of p number = (staged.whole.frames key locked).at_version ∙ ap (version_of p) is in
+      let version : key.version ≡ version_of p number = (staged.whole.frames key locked).at_version
+      ∙ ap (version_of p) is in
       let at : (code : ℕ) → key.lbn ≡ code → IsLocked (key_of number (version_of p number) code) p.cache
       = λ code same. subst (λ k. IsLocked k p.cache) (λ i. key_of (is i) (version i) (same i)) locked in
       let code = staged.whole.coded key locked in
@@ -105,10 +112,12 @@ module _ (p : Parts) (number : ℕ) (staged : IsStaged p 0) (low : number < leng
         from_inside = omega arith;
         to_inside = omega arith;
         had = λ some.
-            let at : (log_state p).at number 0 ≡ 4 * (row_of p.log.tables number).address + (row_of p.log.tables number).slot
+            let at : (log_state p).at number 0 ≡ 4 * (row_of p.log.tables number).address
+            + (row_of p.log.tables number).slot
             = place-record p number ∙ placed_at p.log.tables number some in
             let slot = row.slot in
-            let fits = left_fits (log_state p) 0 number 0 staged.log (record { number_below = low; code_below = omega arith; somewhere = λ none. some (omega arith) }) in
+            let fits = left_fits (log_state p) 0 number 0 staged.log
+            (record { number_below = low; code_below = omega arith; somewhere = λ none. some (omega arith) }) in
             let seg : (log_state p).at number 0 / 256 ≡ (row_of p.log.tables number).address / 64 = omega arith in
             subst (λ s. 128 ≤ slice_index p.log.tables.live s) seg fits;
         fits = λ some. absurd (some refl);
@@ -148,7 +157,8 @@ module _ (number : ℕ) (old new : Parts) (h : Forgets number old new) (low : nu
       subst (λ ws. All (λ (w : Inode). IsPresent new w.number w.version) ws) (sym h.waiting)
       (λ k d inside.
       other_present number old new keeps_others _ _ (apart_without old.waiting number staged.once k d inside)
-      (all_without (λ (w : Inode). IsPresent old w.number w.version) old.waiting number staged.whole.records k d inside))
+      (all_without (λ (w : Inode). IsPresent old w.number w.version) old.waiting number staged.whole.records k d
+      inside))
 
   files_new : AreFiles new
   files_new =
@@ -156,9 +166,11 @@ module _ (number : ℕ) (old new : Parts) (h : Forgets number old new) (low : nu
       (λ used. absurd (false≢true (sym h.unused ∙ used)))
       (λ f is. absurd (none-some f (sym no_record ∙ is)))
       present
-      (λ key bytes was is. was.somewhere (ap (λ n. address (tree_of old n) (way_of key.lbn)) is ∙ none_addressed old number block (way_of key.lbn)))
+      (λ key bytes was is. was.somewhere (ap (λ n. address (tree_of old n) (way_of key.lbn)) is
+      ∙ none_addressed old number block (way_of key.lbn)))
 
-  pub taken_staged : (at : ℕ → ℕ → ℕ) → ((c : ℕ) → at number c ≡ 0) → ((n c : ℕ) → n ≢ number → at n c ≡ (log_state old).at n c)
+  pub taken_staged : (at : ℕ → ℕ → ℕ) → ((c : ℕ) → at number c ≡ 0)
+      → ((n c : ℕ) → n ≢ number → at n c ≡ (log_state old).at n c)
       → IsLog (log.log_state new.log at) 0 → IsStaged new 0
   taken_staged at none others kept =
       staged_still number old new keeps_others block.no_frame staged files_new
@@ -166,26 +178,33 @@ module _ (number : ℕ) (old new : Parts) (h : Forgets number old new) (low : nu
       (subst AreOnce (sym h.waiting) (once_without old.waiting number staged.once))
       (let fewer = length-without old.waiting number in
       let few = staged.few in
-      let e : length new.waiting ≡ length (without number old.waiting) = ap (λ (ws : List Inode). length ws) h.waiting in
+      let e : length new.waiting ≡ length (without number old.waiting) =
+      ap (λ (ws : List Inode). length ws) h.waiting in
       omega arith)
 
   pub taken_content : content_of new ≡ map.remove (content_of old) number
-  taken_content = same_map nat_cmp_total nat_cmp-IsAntisymmetric (content_of new) (map.remove (content_of old) number) (λ q. elim (cases_eq q number) [
-    | inl is ↦ rw is (get-content_of new number ∙ file_at-none new number no_record ∙ sym (get-remove_same (content_of old) number))
-    | inr other ↦
-        get-content_of new q ∙ other_file number old new keeps_others q other ∙ sym (get-content_of old q) ∙ sym (get-remove_other (content_of old) number q other)
-  ])
+  taken_content = same_map nat_cmp_total nat_cmp-IsAntisymmetric (content_of new) (map.remove (content_of old) number)
+      (λ q. elim (cases_eq q number) [
+        | inl is ↦ rw is (get-content_of new number ∙ file_at-none new number no_record
+            ∙ sym (get-remove_same (content_of old) number))
+        | inr other ↦
+            get-content_of new q ∙ other_file number old new keeps_others q other ∙ sym (get-content_of old q)
+            ∙ sym (get-remove_other (content_of old) number q other)
+      ])
 
 -- ---- the log, step by step: the record's place is given up, and the number is released
-module _ (number : ℕ) (p : Parts) (between new : LogParts) (block : HasNoBlock p number) (staged : IsStaged p 0) (low : number < length p.log.tables.rows)
+module _ (number : ℕ) (p : Parts) (between new : LogParts) (block : HasNoBlock p number) (staged : IsStaged p 0)
+    (low : number < length p.log.tables.rows)
     (none : record_place between.tables number ≡ 0) where
   abbrev at_last : ℕ → ℕ → ℕ
   at_last = placed (log_state p).at number 0 (record_place between.tables number)
 
   pub last_none : (c : ℕ) → at_last number c ≡ 0
   last_none c = elim (cases_eq c 0) [
-    | inl is ↦ ap (at_last number) is ∙ placed-here (log_state p).at number 0 (record_place between.tables number) ∙ none
-    | inr other ↦ placed-code (log_state p).at number 0 (record_place between.tables number) number c other ∙ block_nowhere p number block c other
+    | inl is ↦ ap (at_last number) is ∙ placed-here (log_state p).at number 0 (record_place between.tables number)
+        ∙ none
+    | inr other ↦ placed-code (log_state p).at number 0 (record_place between.tables number) number c other
+        ∙ block_nowhere p number block c other
   ]
 
   pub last_others : (n c : ℕ) → n ≢ number → at_last n c ≡ (log_state p).at n c
@@ -200,24 +219,32 @@ module _ (number : ℕ) (p : Parts) (between new : LogParts) (block : HasNoBlock
       released
 
 -- ---- the rows
-pub released_other : (number : ℕ) (between new : LogParts) → new.tables ≡ with_row between.tables number (released_row (row_of between.tables number))
+pub released_other : (number : ℕ) (between new : LogParts) → new.tables
+    ≡ with_row between.tables number (released_row (row_of between.tables number))
     → (n : ℕ) → n ≢ number → row_of new.tables n ≡ row_of between.tables n
 released_other number between new released n other =
-    ap (λ (t : Tables). row_of t n) released ∙ get_or-set_other between.tables.rows number n (released_row (row_of between.tables number)) fresh_row other
+    ap (λ (t : Tables). row_of t n) released
+    ∙ get_or-set_other between.tables.rows number n (released_row (row_of between.tables number)) fresh_row other
 
 pub released_at : (number : ℕ) (between new : LogParts) → number < length between.tables.rows
-    → new.tables ≡ with_row between.tables number (released_row (row_of between.tables number)) → row_of new.tables number ≡ released_row (row_of between.tables number)
+    → new.tables ≡ with_row between.tables number (released_row (row_of between.tables number))
+    → row_of new.tables number ≡ released_row (row_of between.tables number)
 released_at number between new low released =
-    ap (λ (t : Tables). row_of t number) released ∙ get_or-set_same between.tables.rows number (released_row (row_of between.tables number)) fresh_row low
+    ap (λ (t : Tables). row_of t number) released
+    ∙ get_or-set_same between.tables.rows number (released_row (row_of between.tables number)) fresh_row low
 
 -- ---- the content, from before the file was cut
-pub removed_content : (number : ℕ) (c cut : Content) → cut ≡ with_length number 0 c → map.remove cut number ≡ map.remove c number
-removed_content number c cut is = same_map nat_cmp_total nat_cmp-IsAntisymmetric (map.remove cut number) (map.remove c number) (λ q. elim (cases_eq q number) [
-  | inl same ↦ rw same (get-remove_same cut number ∙ sym (get-remove_same c number))
-  | inr other ↦
-      get-remove_other cut number q other ∙ ap (λ (d : Content). map.get d q) is ∙ changed_other (map.get c number) q other ∙ sym (get-remove_other c number q other)
-])
+pub removed_content : (number : ℕ) (c cut : Content) → cut ≡ with_length number 0 c → map.remove cut number
+    ≡ map.remove c number
+removed_content number c cut is = same_map nat_cmp_total nat_cmp-IsAntisymmetric (map.remove cut number)
+    (map.remove c number) (λ q. elim (cases_eq q number) [
+      | inl same ↦ rw same (get-remove_same cut number ∙ sym (get-remove_same c number))
+      | inr other ↦
+          get-remove_other cut number q other ∙ ap (λ (d : Content). map.get d q) is
+          ∙ changed_other (map.get c number) q other ∙ sym (get-remove_other c number q other)
+    ])
   where
-    changed_other : (o : Option File) (q : ℕ) → q ≢ number → map.get (changed_at o number (λ f. record f { bytes = resized f.bytes 0 }) c) q ≡ map.get c q
+    changed_other : (o : Option File) (q : ℕ) → q ≢ number
+        → map.get (changed_at o number (λ f. record f { bytes = resized f.bytes 0 }) c) q ≡ map.get c q
     changed_other None q other = refl
     changed_other (Some f) q other = get-insert_other c number (record f { bytes = resized f.bytes 0 }) q other

@@ -1,5 +1,6 @@
 -- The address of a block is set in what holds it, and the block waits no more: what that makes of each file.
-use Rattle.std.proofs.Common.{◌≡◌, ◌≢◌, ℕ, ◌*◌, ◌<◌, ◌⊎◌, List, [], ◌∷◌, None, IsSome, false, refl, sym, ap, ◌∙◌, subst, inl, inr}
+use Rattle.std.proofs.Common.{◌≡◌, ◌≢◌, ℕ, ◌*◌, ◌<◌, ◌⊎◌, List, [], ◌∷◌, None, IsSome, false, refl, sym, ap, ◌∙◌, subst}
+use Rattle.std.proofs.Common.{inl, inr}
 use Rattle.std.specs.Prelude.{slice_set}
 use Rattle.std.proofs.lemmas.Bool.{cases_eq}
 use Rattle.lfs_ifile.specs.declared.inode.InodeRow.{InodeRow}
@@ -58,16 +59,19 @@ pub record Unstages (p s q : Parts) (v : Inode) (block : FileBlock) (a i : ℕ) 
   pub rows : q.log.tables.rows ≡ p.log.tables.rows
   pub waiting : q.waiting ≡ s.waiting
   pub gone : block_in (key_of v.number v.version (code_of block)) q.cache.locked ≡ None
-  pub kept : (key : Key) → same_key (key_of v.number v.version (code_of block)) key ≡ false → block_in key q.cache.locked ≡ block_in key s.cache.locked
+  pub kept : (key : Key) → same_key (key_of v.number v.version (code_of block)) key ≡ false
+      → block_in key q.cache.locked ≡ block_in key s.cache.locked
 
-module _ (p s q : Parts) (v : Inode) (block : FileBlock) (a i : ℕ) (up : List ℕ) (h : Unstages p s q v block a i up) where
+module _ (p s q : Parts) (v : Inode) (block : FileBlock) (a i : ℕ) (up : List ℕ)
+    (h : Unstages p s q v block a i up) where
   pub version_same : (m : ℕ) → version_of q m ≡ version_of p m
   version_same m = ap (λ (rs : List InodeRow). (row_at rs m).version) h.rows
 
   -- records
   record_after : (m : ℕ) → record_of q m ≡ record_of s m
   record_after m =
-      record_like s q m (h.memory ∙ ap (λ (l : LogParts). l.memory) (sym h.set.log)) (h.rows ∙ ap (λ (l : LogParts). l.tables.rows) (sym h.set.log)) (ap (λ items. waiting_in items m) h.waiting)
+      record_like s q m (h.memory ∙ ap (λ (l : LogParts). l.memory) (sym h.set.log)) (h.rows
+      ∙ ap (λ (l : LogParts). l.tables.rows) (sym h.set.log)) (ap (λ items. waiting_in items m) h.waiting)
 
   pub record_other : (m : ℕ) → m ≢ v.number → record_of q m ≡ record_of p m
   record_other m other = record_after m ∙ h.set.records m other
@@ -76,23 +80,29 @@ module _ (p s q : Parts) (v : Inode) (block : FileBlock) (a i : ℕ) (up : List 
   record_here some = record_after v.number ∙ h.set.root some
 
   -- what waits
-  pub waits_key : (key : Key) → same_key (key_of v.number v.version (code_of block)) key ≡ false → same_key (key_of v.number v.version (code_at up)) key ≡ false
+  pub waits_key : (key : Key) → same_key (key_of v.number v.version (code_of block)) key ≡ false
+      → same_key (key_of v.number v.version (code_at up)) key ≡ false
       → block_in key q.cache.locked ≡ block_in key p.cache.locked
   waits_key key apart above = h.kept key apart ∙ h.set.waits key above
 
-  waits_version : (m : ℕ) (way : List ℕ) → (tree_of q m).waits way ≡ block_in (key_of m (version_of p m) (code_at way)) q.cache.locked
+  waits_version : (m : ℕ) (way : List ℕ) → (tree_of q m).waits way
+      ≡ block_in (key_of m (version_of p m) (code_at way)) q.cache.locked
   waits_version m way = ap (λ n. block_in (key_of m n (code_at way)) q.cache.locked) (version_same m)
 
   -- nothing waits for the block; for another, of this file or of another one, what waited
   pub waits_none : (tree_of q v.number).waits (i ∷ up) ≡ None
-  waits_none = waits_version v.number (i ∷ up) ∙ ap (λ c. block_in (key_of v.number (version_of p v.number) c) q.cache.locked) (code_here block i up h.can h.way)
+  waits_none = waits_version v.number (i ∷ up)
+      ∙ ap (λ c. block_in (key_of v.number (version_of p v.number) c) q.cache.locked) (code_here block i up h.can h.way)
       ∙ ap (λ n. block_in (key_of v.number n (code_of block)) q.cache.locked) (sym h.at_version) ∙ h.gone
 
-  pub waits_rest : (way : List ℕ) → IsBlockWay way → way ≢ i ∷ up → way ≢ up → (tree_of q v.number).waits way ≡ (tree_of p v.number).waits way
+  pub waits_rest : (way : List ℕ) → IsBlockWay way → way ≢ i ∷ up → way ≢ up → (tree_of q v.number).waits way
+      ≡ (tree_of p v.number).waits way
   waits_rest way there ne far =
       waits_version v.number way ∙ waits_key (key_of v.number (version_of p v.number) (code_at way))
-      (apart_code v.number v.number v.version (version_of p v.number) (code_of block) (code_at way) (code_apart block i up h.can h.way way there ne))
-      (apart_code v.number v.number v.version (version_of p v.number) (code_at up) (code_at way) (code_above block i up h.can h.way way there far))
+      (apart_code v.number v.number v.version (version_of p v.number) (code_of block) (code_at way)
+      (code_apart block i up h.can h.way way there ne))
+      (apart_code v.number v.number v.version (version_of p v.number) (code_at up) (code_at way)
+      (code_above block i up h.can h.way way there far))
 
   pub waits_other : (m : ℕ) (way : List ℕ) → m ≢ v.number → (tree_of q m).waits way ≡ (tree_of p m).waits way
   waits_other m way other =
@@ -104,9 +114,11 @@ module _ (p s q : Parts) (v : Inode) (block : FileBlock) (a i : ℕ) (up : List 
   parent_waits : up ≢ [] → IsSome ((tree_of s v.number).waits up)
   parent_waits some = still up some h.set.still
     where
-      still : (up : List ℕ) → up ≢ [] → HolderWaits s.cache v.number v.version up → IsSome ((tree_of s v.number).waits up)
+      still : (up : List ℕ) → up ≢ [] → HolderWaits s.cache v.number v.version up
+          → IsSome ((tree_of s v.number).waits up)
       still [] some waits = absurd (some refl)
-      still (j ∷ above) some waits = subst (λ n. IsSome (block_in (key_of v.number n (code_at (j ∷ above))) s.cache.locked)) at_version waits
+      still (j ∷ above) some waits = subst (λ n. IsSome
+          (block_in (key_of v.number n (code_at (j ∷ above))) s.cache.locked)) at_version waits
         where
           at_version : v.version ≡ version_of s v.number
           at_version = h.at_version ∙ sym (ap (λ (l : LogParts). (row_of l.tables v.number).version) h.set.log)
@@ -117,7 +129,8 @@ module _ (p s q : Parts) (v : Inode) (block : FileBlock) (a i : ℕ) (up : List 
       (λ some. (waits_after, parent_waits some))
     where
       version_after : version_of q v.number ≡ version_of s v.number
-      version_after = ap (λ (rs : List InodeRow). (row_at rs v.number).version) (h.rows ∙ ap (λ (l : LogParts). l.tables.rows) (sym h.set.log))
+      version_after = ap (λ (rs : List InodeRow). (row_at rs v.number).version) (h.rows
+          ∙ ap (λ (l : LogParts). l.tables.rows) (sym h.set.log))
 
       waits_after : (tree_of q v.number).waits up ≡ (tree_of s v.number).waits up
       waits_after = ap (λ n. block_in (key_of v.number n (code_at up)) q.cache.locked) version_after
@@ -136,11 +149,14 @@ pub record Readdresses (Is : ℕ → Type 0) (p q : Parts) (v : Inode) (block : 
   pub other : code_of block ≢ 0
   pub rows : q.log.tables.rows ≡ p.log.tables.rows
   pub here : address (tree_of q v.number) (way_of (code_of block)) ≡ a
-  pub rest : (way : List ℕ) → IsBlockWay way → way ≢ way_of (code_of block) → address (tree_of q v.number) way ≡ address (tree_of p v.number) way
+  pub rest : (way : List ℕ) → IsBlockWay way → way ≢ way_of (code_of block) → address (tree_of q v.number) way
+      ≡ address (tree_of p v.number) way
   pub others : (m : ℕ) → Is m → m ≢ v.number → SameReadings (tree_of p m) (tree_of q m)
 
-module _ (Is : ℕ → Type 0) (p q : Parts) (v : Inode) (block : FileBlock) (a : ℕ) (h : Readdresses Is p q v block a) where
-  pub address_same : (m d : ℕ) → Is m → d < BLOCK_CODES → (m ≢ v.number) ⊎ (d ≢ code_of block) → address (tree_of q m) (way_of d) ≡ address (tree_of p m) (way_of d)
+module _ (Is : ℕ → Type 0) (p q : Parts) (v : Inode) (block : FileBlock) (a : ℕ)
+    (h : Readdresses Is p q v block a) where
+  pub address_same : (m d : ℕ) → Is m → d < BLOCK_CODES → (m ≢ v.number) ⊎ (d ≢ code_of block)
+      → address (tree_of q m) (way_of d) ≡ address (tree_of p m) (way_of d)
   address_same m d is below apart =
       elim (cases_eq m v.number) [
         | inl e ↦
@@ -151,16 +167,21 @@ module _ (Is : ℕ → Type 0) (p q : Parts) (v : Inode) (block : FileBlock) (a 
         | inr ne ↦ (h.others m is ne).addresses (way_of d) (way_of-known d below)
       ]
 
-  pub place_kept : (m d : ℕ) → Is m → d < BLOCK_CODES → (m ≢ v.number) ⊎ (d ≢ code_of block) → (log_state q).at m d ≡ (log_state p).at m d
+  pub place_kept : (m d : ℕ) → Is m → d < BLOCK_CODES → (m ≢ v.number) ⊎ (d ≢ code_of block) → (log_state q).at m d
+      ≡ (log_state p).at m d
   place_kept m d is below apart =
       elim (cases_eq d 0) [
-        | inl none ↦ ap ((log_state q).at m) none ∙ place-record q m ∙ same_place p.log.tables q.log.tables m h.rows ∙ sym (place-record p m) ∙ ap ((log_state p).at m) (sym none)
-        | inr some ↦ place-block q m d some ∙ ap (λ n. 4 * n) (address_same m d is below apart) ∙ sym (place-block p m d some)
+        | inl none ↦ ap ((log_state q).at m) none ∙ place-record q m ∙ same_place p.log.tables q.log.tables m h.rows
+            ∙ sym (place-record p m) ∙ ap ((log_state p).at m) (sym none)
+        | inr some ↦ place-block q m d some ∙ ap (λ n. 4 * n) (address_same m d is below apart)
+            ∙ sym (place-block p m d some)
       ]
 
-  pub place_after : (m d : ℕ) → Is m → d < BLOCK_CODES → (log_state q).at m d ≡ placed (log_state p).at v.number (code_of block) (4 * a) m d
+  pub place_after : (m d : ℕ) → Is m → d < BLOCK_CODES → (log_state q).at m d
+      ≡ placed (log_state p).at v.number (code_of block) (4 * a) m d
   place_after m d is below =
       elim (placed-cases (log_state p).at v.number (code_of block) (4 * a) m d) [
-        | inl e ↦ ap (λ n. (log_state q).at n d) e.0 ∙ ap ((log_state q).at v.number) e.1 ∙ place-block q v.number (code_of block) h.other ∙ ap (λ n. 4 * n) h.here ∙ sym e.2
+        | inl e ↦ ap (λ n. (log_state q).at n d) e.0 ∙ ap ((log_state q).at v.number) e.1
+            ∙ place-block q v.number (code_of block) h.other ∙ ap (λ n. 4 * n) h.here ∙ sym e.2
         | inr e ↦ place_kept m d is below e.0 ∙ sym e.1
       ]

@@ -1,5 +1,6 @@
 -- The list of records that wait.
-use Rattle.std.proofs.Common.{◌≡◌, ◌≢◌, ℕ, zero, suc, ◌+◌, ◌<◌, ◌≤◌, List, [], ◌∷◌, All, length, get_or, None, Some, IsSome, refl, sym, ap, ◌∙◌, subst, inl, inr, arith}
+use Rattle.std.proofs.Common.{◌≡◌, ◌≢◌, ℕ, zero, suc, ◌+◌, ◌<◌, ◌≤◌, List, [], ◌∷◌, All, length, get_or, None, Some}
+use Rattle.std.proofs.Common.{IsSome, refl, sym, ap, ◌∙◌, subst, inl, inr, arith}
 use Rattle.std.specs.List.{remove}
 use Rattle.std.proofs.lemmas.Bool.{cases_eq, cond-true, cond-false, eq-eqb, ne_eqb}
 use Rattle.std.proofs.lemmas.List.Elements.{All-cons, All-head, All-tail}
@@ -8,7 +9,8 @@ use Rattle.lfs_staging.specs.View.{waiting_in}
 use Rattle.lfs_staging.specs.Waiting.{AreOnce, without}
 
 -- taking away the record at the first place that has the number
-pub without-at : (vs : List Inode) (i number : ℕ) → i < length vs → ((k : ℕ) (d : Inode) → k < i → (get_or vs k d).number ≢ number)
+pub without-at : (vs : List Inode) (i number : ℕ) → i < length vs
+    → ((k : ℕ) (d : Inode) → k < i → (get_or vs k d).number ≢ number)
     → ((d : Inode) → (get_or vs i d).number ≡ number) → remove vs i ≡ without number vs
 unfolding without
 without-at [] i number inside others here = absurd (omega arith)
@@ -18,7 +20,8 @@ without-at (v ∷ vs) (suc i) number inside others here =
     ∙ sym (cond-false _ _ _ (ne_eqb v.number number (others 0 v (omega arith))))
 
 -- no record has the number
-pub without-none : (vs : List Inode) (number : ℕ) → ((k : ℕ) (d : Inode) → k < length vs → (get_or vs k d).number ≢ number) → without number vs ≡ vs
+pub without-none : (vs : List Inode) (number : ℕ)
+    → ((k : ℕ) (d : Inode) → k < length vs → (get_or vs k d).number ≢ number) → without number vs ≡ vs
 unfolding without
 without-none [] number others = refl
 without-none (v ∷ vs) number others =
@@ -34,31 +37,40 @@ none_once vs none = subst AreOnce (sym none) tt
 pub waiting-head : (v : Inode) (vs : List Inode) (number : ℕ) → v.number ≡ number → waiting_in (v ∷ vs) number ≡ Some v
 waiting-head v vs number is = cond-true _ _ _ (eq-eqb v.number number is)
 
-pub waiting-tail : (v : Inode) (vs : List Inode) (number : ℕ) → v.number ≢ number → waiting_in (v ∷ vs) number ≡ waiting_in vs number
+pub waiting-tail : (v : Inode) (vs : List Inode) (number : ℕ) → v.number ≢ number → waiting_in (v ∷ vs) number
+    ≡ waiting_in vs number
 waiting-tail v vs number other = cond-false _ _ _ (ne_eqb v.number number other)
 
 -- another number's record waits still
-pub waiting-without : (vs : List Inode) (number other : ℕ) → other ≢ number → waiting_in (without number vs) other ≡ waiting_in vs other
+pub waiting-without : (vs : List Inode) (number other : ℕ) → other ≢ number → waiting_in (without number vs) other
+    ≡ waiting_in vs other
 unfolding without
 waiting-without [] number other apart = refl
 waiting-without (v ∷ vs) number other apart = elim (cases_eq v.number number) [
-  | inl is ↦ ap (λ ws. waiting_in ws other) (cond-true _ _ _ (eq-eqb v.number number is)) ∙ sym (waiting-tail v vs other (λ e. apart (sym e ∙ is)))
-  | inr ne ↦ ap (λ ws. waiting_in ws other) (cond-false _ _ _ (ne_eqb v.number number ne)) ∙ (elim (cases_eq v.number other) as (λ _. waiting_in (v ∷ without number vs) other ≡ waiting_in (v ∷ vs) other) [
-    | inl same ↦ waiting-head v (without number vs) other same ∙ sym (waiting-head v vs other same)
-    | inr far ↦ waiting-tail v (without number vs) other far ∙ waiting-without vs number other apart ∙ sym (waiting-tail v vs other far)
-  ])
+  | inl is ↦ ap (λ ws. waiting_in ws other) (cond-true _ _ _ (eq-eqb v.number number is))
+      ∙ sym (waiting-tail v vs other (λ e. apart (sym e ∙ is)))
+  | inr ne ↦ ap (λ ws. waiting_in ws other) (cond-false _ _ _ (ne_eqb v.number number ne))
+      ∙ (elim (cases_eq v.number other) as (λ _. waiting_in (v ∷ without number vs) other ≡ waiting_in (v ∷ vs) other) [
+        | inl same ↦ waiting-head v (without number vs) other same ∙ sym (waiting-head v vs other same)
+        | inr far ↦ waiting-tail v (without number vs) other far ∙ waiting-without vs number other apart
+            ∙ sym (waiting-tail v vs other far)
+      ])
 ]
 
-pub waiting-staged : (v : Inode) (vs : List Inode) (other : ℕ) → other ≢ v.number → waiting_in (v ∷ without v.number vs) other ≡ waiting_in vs other
-waiting-staged v vs other apart = waiting-tail v (without v.number vs) other (λ e. apart (sym e)) ∙ waiting-without vs v.number other apart
+pub waiting-staged : (v : Inode) (vs : List Inode) (other : ℕ) → other ≢ v.number
+    → waiting_in (v ∷ without v.number vs) other ≡ waiting_in vs other
+waiting-staged v vs other apart = waiting-tail v (without v.number vs) other (λ e. apart (sym e))
+    ∙ waiting-without vs v.number other apart
 
 -- where no number waits twice, none of this number is left
 pub once_gone : (vs : List Inode) (number : ℕ) → AreOnce vs → waiting_in (without number vs) number ≡ None
 unfolding without AreOnce
 once_gone [] number once = refl
 once_gone (v ∷ vs) number once = elim (cases_eq v.number number) [
-  | inl is ↦ ap (λ ws. waiting_in ws number) (cond-true _ _ _ (eq-eqb v.number number is)) ∙ ap (waiting_in vs) (sym is) ∙ once.0
-  | inr ne ↦ ap (λ ws. waiting_in ws number) (cond-false _ _ _ (ne_eqb v.number number ne)) ∙ waiting-tail v (without number vs) number ne ∙ once_gone vs number once.1
+  | inl is ↦ ap (λ ws. waiting_in ws number) (cond-true _ _ _ (eq-eqb v.number number is)) ∙ ap (waiting_in vs) (sym is)
+      ∙ once.0
+  | inr ne ↦ ap (λ ws. waiting_in ws number) (cond-false _ _ _ (ne_eqb v.number number ne))
+      ∙ waiting-tail v (without number vs) number ne ∙ once_gone vs number once.1
 ]
 
 pub once_without : (vs : List Inode) (number : ℕ) → AreOnce vs → AreOnce (without number vs)
@@ -88,9 +100,12 @@ pub length-without : (vs : List Inode) (number : ℕ) → length (without number
 unfolding without
 length-without [] number = omega arith
 length-without (v ∷ vs) number = elim (cases_eq v.number number) [
-  | inl is ↦ let e : length (without number (v ∷ vs)) ≡ length vs = ap (λ (ws : List Inode). length ws) (cond-true _ _ _ (eq-eqb v.number number is)) in omega arith
+  | inl is ↦ let e : length (without number (v ∷ vs))
+      ≡ length vs = ap (λ (ws : List Inode). length ws) (cond-true _ _ _ (eq-eqb v.number number is)) in omega arith
   | inr ne ↦
-      let e : length (without number (v ∷ vs)) ≡ suc (length (without number vs)) = ap (λ (ws : List Inode). length ws) (cond-false _ _ _ (ne_eqb v.number number ne)) in
+      let e : length (without number (v ∷ vs))
+      ≡ suc (length (without number vs)) = ap (λ (ws : List Inode). length ws)
+      (cond-false _ _ _ (ne_eqb v.number number ne)) in
       let rest = length-without vs number in
       omega arith
 ]
@@ -100,21 +115,28 @@ pub length-rest : (vs : List Inode) (number : ℕ) → length vs ≤ length (wit
 unfolding without
 length-rest [] number = omega arith
 length-rest (v ∷ vs) number = elim (cases_eq v.number number) [
-  | inl is ↦ let e : length (without number (v ∷ vs)) ≡ length vs = ap (λ (ws : List Inode). length ws) (cond-true _ _ _ (eq-eqb v.number number is)) in omega arith
+  | inl is ↦ let e : length (without number (v ∷ vs))
+      ≡ length vs = ap (λ (ws : List Inode). length ws) (cond-true _ _ _ (eq-eqb v.number number is)) in omega arith
   | inr ne ↦
-      let e : length (without number (v ∷ vs)) ≡ suc (length (without number vs)) = ap (λ (ws : List Inode). length ws) (cond-false _ _ _ (ne_eqb v.number number ne)) in
+      let e : length (without number (v ∷ vs))
+      ≡ suc (length (without number vs)) = ap (λ (ws : List Inode). length ws)
+      (cond-false _ _ _ (ne_eqb v.number number ne)) in
       let rest = length-rest vs number in
       omega arith
 ]
 
 -- one less where the number waits
-pub length-less : (vs : List Inode) (number : ℕ) → IsSome (waiting_in vs number) → length (without number vs) + 1 ≡ length vs
+pub length-less : (vs : List Inode) (number : ℕ) → IsSome (waiting_in vs number) → length (without number vs) + 1
+    ≡ length vs
 unfolding without
 length-less [] number waits = absurd (cc)
 length-less (v ∷ vs) number waits = elim (cases_eq v.number number) [
-  | inl is ↦ let e : length (without number (v ∷ vs)) ≡ length vs = ap (λ (ws : List Inode). length ws) (cond-true _ _ _ (eq-eqb v.number number is)) in omega arith
+  | inl is ↦ let e : length (without number (v ∷ vs))
+      ≡ length vs = ap (λ (ws : List Inode). length ws) (cond-true _ _ _ (eq-eqb v.number number is)) in omega arith
   | inr ne ↦
-      let e : length (without number (v ∷ vs)) ≡ suc (length (without number vs)) = ap (λ (ws : List Inode). length ws) (cond-false _ _ _ (ne_eqb v.number number ne)) in
+      let e : length (without number (v ∷ vs))
+      ≡ suc (length (without number vs)) = ap (λ (ws : List Inode). length ws)
+      (cond-false _ _ _ (ne_eqb v.number number ne)) in
       let rest = length-less vs number (subst IsSome (waiting-tail v vs number ne) waits) in
       omega arith
 ]

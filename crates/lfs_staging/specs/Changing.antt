@@ -36,11 +36,13 @@ version_after (SetLength ino len) number version = version
 abbrev pub length_table : ℕ → FileBlock
 length_table len = table_of (Data (block_count len - 1))
 
--- the codes of the blocks that a length has wait: that of its last data block, where it ends within it, and those of the
+-- the codes of the blocks that a length has wait: that of its last data block, where it ends within it, and those of
+-- the
 -- blocks that lead to this one
 abbrev pub length_codes : ℕ → List ℕ
 length_codes len =
-    (if len % BLOCK_SIZE == 0 then [] else (FIRST_DATA_CODE + (block_count len - 1)) ∷ []) ++ codes_on (way_to (length_table len))
+    (if len % BLOCK_SIZE == 0 then [] else (FIRST_DATA_CODE + (block_count len - 1)) ∷ [])
+    ++ codes_on (way_to (length_table len))
 
 -- the frames that it takes at most
 abbrev pub frames_of_length : ℕ → ℕ

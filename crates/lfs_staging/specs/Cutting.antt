@@ -1,5 +1,6 @@
 -- The length of a file is set.
-use Rattle.std.specs.Prelude.{◌≡◌, ◌≢◌, ℕ, ◌+◌, ◌-◌, ◌<◌, ◌≤◌, ◌⊎◌, List, [], ◌∷◌, ◌++◌, if◌then◌else◌, length, nat_lt, Some, IsSome, false, true}
+use Rattle.std.specs.Prelude.{◌≡◌, ◌≢◌, ℕ, ◌+◌, ◌-◌, ◌<◌, ◌≤◌, ◌⊎◌, List, [], ◌∷◌, ◌++◌, if◌then◌else◌, length, nat_lt}
+use Rattle.std.specs.Prelude.{Some, IsSome, false, true}
 use Rattle.std.specs.FinMap as map
 use Rattle.lfs_types.specs.Changes.{changed_at}
 use Rattle.lfs_types.specs.Splicing.{resized}
@@ -37,7 +38,8 @@ pub record IsGone (p : Parts) (number : ℕ) (way : List ℕ) : Type 0 where
 
 -- no block of a number that leads only to data blocks from one on has an address, and none waits
 abbrev pub GoneFrom : Parts → ℕ → ℕ → Type 0
-GoneFrom p number first = (block : FileBlock) → IsFileBlock block → code_of block ≢ 0 → first ≤ first_under block → IsGone p number (way_to block)
+GoneFrom p number first = (block : FileBlock) → IsFileBlock block → code_of block ≢ 0 → first ≤ first_under block
+    → IsGone p number (way_to block)
 
 -- A block of a file may be given back: it lies within the file, whose record waits, and so does what holds the block's
 -- address; the blocks whose addresses it holds went before.
@@ -71,10 +73,13 @@ pub record ClearsBlock (number : ℕ) (block : FileBlock) (old new : Parts) : Ty
   pub rest : KeepsRest number old new
   pub nowhere : address (tree_of new number) (way_to block) ≡ 0
   pub free : IsLocked (key_of number (version_of old number) (code_of block)) new.cache → ⊥
-  pub addresses : (way : List ℕ) → IsBlockWay way → way ≢ way_to block → address (tree_of new number) way ≡ address (tree_of old number) way
+  pub addresses : (way : List ℕ) → IsBlockWay way → way ≢ way_to block → address (tree_of new number) way
+      ≡ address (tree_of old number) way
   pub only : (key : Key) → IsLocked key new.cache → IsLocked key old.cache
-  pub kept : (key : Key) → same_key (key_of number (version_of old number) (code_of block)) key ≡ false → IsLocked key old.cache → IsLocked key new.cache
-  pub data_same : (n index : ℕ) → (n ≢ number) ⊎ (FIRST_DATA_CODE + index ≢ code_of block) → data_block (tree_of new n) index ≡ data_block (tree_of old n) index
+  pub kept : (key : Key) → same_key (key_of number (version_of old number) (code_of block)) key ≡ false
+      → IsLocked key old.cache → IsLocked key new.cache
+  pub data_same : (n index : ℕ) → (n ≢ number) ⊎ (FIRST_DATA_CODE + index ≢ code_of block)
+      → data_block (tree_of new n) index ≡ data_block (tree_of old n) index
 
 -- The data blocks of a file from one to before another may be given back: they lie within it, and what holds their
 -- addresses waits.
@@ -84,7 +89,8 @@ pub record MayClearBetween (p : Parts) (number first end : ℕ) : Type 0 where
   pub waits : IsSome (waiting_in p.waiting number)
   pub bounded : end ≤ FILE_BLOCKS
   pub within : (f : Fields) → record_of p number ≡ Some f → end ≤ block_count f.attributes.size
-  pub holders : (index : ℕ) → first ≤ index → index < end → HolderWaits p.cache number (version_of p number) (way_to (table_of (Data index)))
+  pub holders : (index : ℕ) → first ≤ index → index < end
+      → HolderWaits p.cache number (version_of p number) (way_to (table_of (Data index)))
 
 -- They were given back.
 pub record ClearsBlocks (number first end : ℕ) (old new : Parts) : Type 0 where
@@ -92,12 +98,15 @@ pub record ClearsBlocks (number first end : ℕ) (old new : Parts) : Type 0 wher
   pub rest : KeepsRest number old new
   pub only : (key : Key) → IsLocked key new.cache → IsLocked key old.cache
   pub gone : (index : ℕ) → first ≤ index → index < end → IsGone new number (data_way index)
-  pub still : (block : FileBlock) → IsFileBlock block → IsGone old number (way_to block) → IsGone new number (way_to block)
+  pub still : (block : FileBlock) → IsFileBlock block → IsGone old number (way_to block)
+      → IsGone new number (way_to block)
   pub tables : (code : ℕ) → code < FIRST_DATA_CODE → IsLocked (key_of number (version_of old number) code) old.cache
       → IsLocked (key_of number (version_of old number) code) new.cache
-  pub data_same : (n index : ℕ) → (n ≢ number) ⊎ ((index < first) ⊎ (end ≤ index)) → data_block (tree_of new n) index ≡ data_block (tree_of old n) index
+  pub data_same : (n index : ℕ) → (n ≢ number) ⊎ ((index < first) ⊎ (end ≤ index)) → data_block (tree_of new n) index
+      ≡ data_block (tree_of old n) index
 
--- An indirect block that waits may be given back, with the data blocks up to before one whose addresses stand in it: these may
+-- An indirect block that waits may be given back, with the data blocks up to before one whose addresses stand in it:
+-- these may
 -- be given back, and then the block itself.
 pub record MayClearTable (p : Parts) (number : ℕ) (table : FileBlock) (end : ℕ) : Type 0 where
   pub blocks : MayClearBetween p number (first_under table) end
@@ -114,12 +123,15 @@ pub record ClearsTable (number : ℕ) (table : FileBlock) (end : ℕ) (old new :
   pub blocks : ClearsBlocks number (first_under table) end old between
   pub last : ClearsBlock number table between new
 
--- Of the blocks of a file that lead only to data blocks from one on those are gone that hold addresses and have a code from
+-- Of the blocks of a file that lead only to data blocks from one on those are gone that hold addresses and have a code
+-- from
 -- `turn` on, and the data blocks whose addresses stand in a block with such a code.
 pub record GoneDown (p : Parts) (number left turn : ℕ) : Type 0 where
-  pub tables : (block : FileBlock) → IsFileBlock block → code_of block < FIRST_DATA_CODE → turn ≤ code_of block → left ≤ first_under block
+  pub tables : (block : FileBlock) → IsFileBlock block → code_of block < FIRST_DATA_CODE → turn ≤ code_of block
+      → left ≤ first_under block
       → IsGone p number (way_to block)
-  pub blocks : (index : ℕ) → index < FILE_BLOCKS → turn ≤ code_of (table_of (Data index)) → left ≤ index → IsGone p number (data_way index)
+  pub blocks : (index : ℕ) → index < FILE_BLOCKS → turn ≤ code_of (table_of (Data index)) → left ≤ index
+      → IsGone p number (data_way index)
 
 -- What a block that holds addresses leads to may be given back, from data block `left` on: what has a greater code went
 -- before, and there are frames for the block and its parents.
@@ -141,32 +153,38 @@ pub record DropsTable (number : ℕ) (table : FileBlock) (left : ℕ) (old new :
   pub rest : KeepsRest number old new
   pub takes : TakesOnly number (version_of old number) (codes_on (way_to table)) old.cache new.cache
   pub gone : GoneDown new number left (code_of table)
-  pub data_same : (n index : ℕ) → (n ≢ number) ⊎ (index < left) → data_block (tree_of new n) index ≡ data_block (tree_of old n) index
+  pub data_same : (n index : ℕ) → (n ≢ number) ⊎ (index < left) → data_block (tree_of new n) index
+      ≡ data_block (tree_of old n) index
 
 -- the block that holds the address of the last data block that is left
 abbrev pub last_table : ℕ → FileBlock
 last_table left = table_of (Data (left - 1))
 
--- The codes of the blocks that a cut has wait while what a block leads to goes: the last data block that is left and what holds
+-- The codes of the blocks that a cut has wait while what a block leads to goes: the last data block that is left and
+-- what holds
 -- its address, the block and its parents. What leads to that holder is among these.
 abbrev pub cut_codes : ℕ → FileBlock → List ℕ
 cut_codes left table = (FIRST_DATA_CODE + (left - 1)) ∷ code_of (last_table left) ∷ codes_on (way_to table)
 
--- The codes of the blocks that it has wait when the turn of the block with a code is over: those that lead to the last data
+-- The codes of the blocks that it has wait when the turn of the block with a code is over: those that lead to the last
+-- data
 -- block that is left, and the double indirect block, as long as its turn is to come.
 abbrev pub down_codes : ℕ → ℕ → List ℕ
 down_codes left turn = (if nat_lt 2 turn then 2 ∷ [] else []) ++ codes_on (way_to (last_table left))
 
--- The blocks of a file that hold addresses were dropped, from the last down to the one with a code. What waits more leads
+-- The blocks of a file that hold addresses were dropped, from the last down to the one with a code. What waits more
+-- leads
 -- to the last data block that is left, or to blocks whose turn is to come.
 pub record DropsDown (number left turn : ℕ) (old new : Parts) : Type 0 where
   pub staged : IsStaged new 0
   pub rest : KeepsRest number old new
   pub takes : TakesOnly number (version_of old number) (down_codes left turn) old.cache new.cache
   pub gone : GoneDown new number left turn
-  pub data_same : (n index : ℕ) → (n ≢ number) ⊎ (index < left) → data_block (tree_of new n) index ≡ data_block (tree_of old n) index
+  pub data_same : (n index : ℕ) → (n ≢ number) ⊎ (index < left) → data_block (tree_of new n) index
+      ≡ data_block (tree_of old n) index
 
--- The blocks of a file that lead only to data blocks from one on may be given back, of so many data blocks. There are frames
+-- The blocks of a file that lead only to data blocks from one on may be given back, of so many data blocks. There are
+-- frames
 -- for the last block that is left and for each block whose turn comes, with its parents.
 pub record MayDropAll (p : Parts) (number left blocks : ℕ) : Type 0 where
   pub staged : IsStaged p 0
@@ -176,7 +194,8 @@ pub record MayDropAll (p : Parts) (number left blocks : ℕ) : Type 0 where
   pub some : 0 < blocks
   pub bounded : blocks ≤ FILE_BLOCKS
   pub all : (f : Fields) → record_of p number ≡ Some f → blocks ≡ block_count f.attributes.size
-  pub frames : (table : FileBlock) → IsFileBlock table → code_of (last_table left) ≤ code_of table → code_of table ≤ code_of (table_of (Data (blocks - 1)))
+  pub frames : (table : FileBlock) → IsFileBlock table → code_of (last_table left) ≤ code_of table
+      → code_of table ≤ code_of (table_of (Data (blocks - 1)))
       → HasFrames p number (cut_codes left table)
 
 -- They were given back.
@@ -185,7 +204,8 @@ pub record DropsBlocks (number left : ℕ) (old new : Parts) : Type 0 where
   pub rest : KeepsRest number old new
   pub takes : TakesOnly number (version_of old number) (codes_on (way_to (last_table left))) old.cache new.cache
   pub gone : GoneFrom new number left
-  pub data_same : (n index : ℕ) → (n ≢ number) ⊎ (index < left) → data_block (tree_of new n) index ≡ data_block (tree_of old n) index
+  pub data_same : (n index : ℕ) → (n ≢ number) ⊎ (index < left) → data_block (tree_of new n) index
+      ≡ data_block (tree_of old n) index
 
 -- What a data block of a file has past a length is zero; it waits, with its parents. Nothing else changed.
 pub record CutsBlock (number index len : ℕ) (old new : Parts) : Type 0 where
@@ -203,8 +223,10 @@ pub record CutsLast (number len : ℕ) (old new : Parts) : Type 0 where
   pub log : new.log ≡ old.log
   pub records : (n : ℕ) → record_of new n ≡ record_of old n
   pub addresses : (n : ℕ) (way : List ℕ) → IsBlockWay way → address (tree_of new n) way ≡ address (tree_of old n) way
-  pub cut : (m : ℕ) → m < block_count len → IsBlockCut m len (data_block (tree_of old number) m) (data_block (tree_of new number) m)
-  pub others : (n m : ℕ) → (n ≢ number) ⊎ (block_count len ≤ m) → data_block (tree_of new n) m ≡ data_block (tree_of old n) m
+  pub cut : (m : ℕ) → m < block_count len → IsBlockCut m len (data_block (tree_of old number) m)
+      (data_block (tree_of new number) m)
+  pub others : (n m : ℕ) → (n ≢ number) ⊎ (block_count len ≤ m) → data_block (tree_of new n) m
+      ≡ data_block (tree_of old n) m
   pub takes : TakesOnly number (version_of old number) (length_codes len) old.cache new.cache
   pub waiting : without number new.waiting ≡ without number old.waiting
   pub waits : IsSome (waiting_in old.waiting number) → IsSome (waiting_in new.waiting number)
@@ -224,7 +246,8 @@ pub record Shortens (number len : ℕ) (old new : Parts) : Type 0 where
   pub staged : IsStaged new 0
   pub log : new.log ≡ old.log
   pub cache : new.cache ≡ old.cache
-  pub here : (f : Fields) → record_of old number ≡ Some f → HasAttributes new number (record (f.attributes) { size = len })
+  pub here : (f : Fields) → record_of old number ≡ Some f
+      → HasAttributes new number (record (f.attributes) { size = len })
   pub others : (n : ℕ) → n ≢ number → record_of new n ≡ record_of old n
   pub blocks : (n : ℕ) → tree_of new n ≡ tree_of old n
   pub waiting : length new.waiting ≤ length old.waiting
@@ -235,7 +258,8 @@ pub record CutsFile (number len : ℕ) (old new : Parts) : Type 0 where
   pub staged : IsStaged new 0
   pub log : StaysInLog old new
   pub rows : new.log.tables.rows ≡ old.log.tables.rows
-  pub here : (f : Fields) → record_of old number ≡ Some f → HasAttributes new number (record (f.attributes) { size = len })
+  pub here : (f : Fields) → record_of old number ≡ Some f
+      → HasAttributes new number (record (f.attributes) { size = len })
   pub others : (n : ℕ) → n ≢ number → record_of new n ≡ record_of old n
   pub cut : (m : ℕ) → IsBlockCut m len (data_block (tree_of old number) m) (data_block (tree_of new number) m)
   pub data_same : (n m : ℕ) → n ≢ number → data_block (tree_of new n) m ≡ data_block (tree_of old n) m

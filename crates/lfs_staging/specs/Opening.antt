@@ -1,5 +1,6 @@
 -- A volume that was just laid out: the root directory alone, with its record in the second block of the log.
-use Rattle.std.specs.Prelude.{◌≡◌, ◌≢◌, ℕ, ◌+◌, ◌<◌, ◌≤◌, ◌⊎◌, [], ◌∷◌, None, Some, length, replicate, if◌then◌else◌, ◌==◌, slice_index, true}
+use Rattle.std.specs.Prelude.{◌≡◌, ◌≢◌, ℕ, ◌+◌, ◌<◌, ◌≤◌, ◌⊎◌, [], ◌∷◌, None, Some, length, replicate, if◌then◌else◌}
+use Rattle.std.specs.Prelude.{◌==◌, slice_index, true}
 use Rattle.lfs_types.specs.declared.limits.TheConstants.{ROOT_INODE}
 use Rattle.lfs_types.specs.Ranges.{least_segments, most_segments, least_inodes, most_inodes, least_frames, most_frames}
 use Rattle.lfs_types.specs.Tree.{attrs_of, fresh_root}
@@ -22,12 +23,14 @@ use Rattle.lfs_inodes.specs.declared.inode.TheConstants.{ROOT_COUNT}
 -- a number of segments, of inode numbers or of frames is the first one out of its range, and below it
 abbrev pub IsTooFew : ℕ → ℕ → ℕ → Type 0
 IsTooFew segments inodes frames =
-    (segments < least_segments) ⊎ ((segments ≤ most_segments) × ((inodes < least_inodes) ⊎ ((inodes ≤ most_inodes) × (frames < least_frames))))
+    (segments < least_segments) ⊎ ((segments ≤ most_segments)
+    × ((inodes < least_inodes) ⊎ ((inodes ≤ most_inodes) × (frames < least_frames))))
 
 -- or above it
 abbrev pub IsTooMany : ℕ → ℕ → ℕ → Type 0
 IsTooMany segments inodes frames =
-    (most_segments < segments) ⊎ ((least_segments ≤ segments) × ((most_inodes < inodes) ⊎ ((least_inodes ≤ inodes) × (most_frames < frames))))
+    (most_segments < segments) ⊎ ((least_segments ≤ segments)
+    × ((most_inodes < inodes) ⊎ ((least_inodes ≤ inodes) × (most_frames < frames))))
 
 -- the entry of a block of inodes
 abbrev pub inodes_entry : SummaryEntry
@@ -35,7 +38,10 @@ inodes_entry = record { number = 0; version = 0; block = Inodes }
 
 -- the record of the root directory at a version
 abbrev pub root_fields : ℕ → Fields
-root_fields version = record { attributes = attributes_from ROOT_INODE version (attrs_of fresh_root) 0; addresses = replicate ROOT_COUNT 0 }
+root_fields version = record {
+  attributes = attributes_from ROOT_INODE version (attrs_of fresh_root) 0;
+  addresses = replicate ROOT_COUNT 0;
+}
 
 -- the row of the root directory: its record stands in slot 0 of block 2
 abbrev pub root_row : InodeRow
@@ -45,7 +51,8 @@ root_row = record { used = true; address = 2; slot = 0; version = 1 }
 abbrev pub fresh_used : ℕ → ℕ → Tables
 fresh_used segments inodes = with_state (fresh_tables segments inodes) 0 Active
 
--- the segments: segment 0 is active, and behind the label it has a summary at address 1, and at 2 the block that it names, with
+-- the segments: segment 0 is active, and behind the label it has a summary at address 1, and at 2 the block that it
+-- names, with
 -- the root's record alone, at version 1
 pub record HasRootBlock (m : SegmentMemory) : Type 0 where
   pub active : m.active ≡ 0

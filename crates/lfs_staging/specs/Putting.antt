@@ -27,9 +27,11 @@ use Rattle.lfs_staging.specs.View.{LiesIn, blocks_of, record_of, tree_of}
 abbrev pub blocks_of_put : ℕ → ℕ → ℕ
 blocks_of_put start count = (start + count - 1) / BLOCK_SIZE + 1 - start / BLOCK_SIZE
 
--- the frames that bytes put into a file take at most: one for each block, and one for each indirect block that leads to them
+-- the frames that bytes put into a file take at most: one for each block, and one for each indirect block that leads to
+-- them
 abbrev pub frames_of_put : ℕ → ℕ → ℕ
-frames_of_put start count = blocks_of_put start count + tables_between (start / BLOCK_SIZE) ((start + count - 1) / BLOCK_SIZE)
+frames_of_put start count = blocks_of_put start count
+    + tables_between (start / BLOCK_SIZE) ((start + count - 1) / BLOCK_SIZE)
 
 -- What falls of some bytes, put at `start` of a file, into one of its data blocks is there, and nothing else changed.
 pub record PutsBlock (v : Inode) (index start : ℕ) (bytes : List ℕ) (old new : Parts) : Type 0 where
@@ -61,7 +63,8 @@ pub record GrowsTo (v w : Inode) (size : ℕ) (old new : Parts) : Type 0 where
   pub cache : new.cache ≡ old.cache
   pub number : w.number ≡ v.number
   pub size_is : w.size ≡ max v.size size
-  pub here : record_of new v.number ≡ Some (record (fields_of v) { attributes = record ((fields_of v).attributes) { size = max v.size size } })
+  pub here : record_of new v.number ≡ Some
+      (record (fields_of v) { attributes = record ((fields_of v).attributes) { size = max v.size size } })
   pub others : (n : ℕ) → n ≢ v.number → record_of new n ≡ record_of old n
   pub blocks : (n : ℕ) → tree_of new n ≡ tree_of old n
   pub again : MayStage new w
@@ -70,7 +73,8 @@ pub record GrowsTo (v w : Inode) (size : ℕ) (old new : Parts) : Type 0 where
 
 -- the content with bytes put at a place of a file
 abbrev pub with_put : ℕ → ℕ → List ℕ → Content → Content
-with_put number start bytes c = changed_at (map.get c number) number (λ f. record f { bytes = splice f.bytes start bytes }) c
+with_put number start bytes c = changed_at (map.get c number) number
+    (λ f. record f { bytes = splice f.bytes start bytes }) c
 
 -- the content with other attributes of a file, whose bytes stay
 abbrev pub with_attrs : ℕ → Attrs → Content → Content
@@ -89,4 +93,5 @@ pub record MayChange (p : Parts) (number : ℕ) : Type 0 where
 pub record MayPut (p : Parts) (number start : ℕ) (bytes : List ℕ) : Type 0 where
   pub some : 0 < length bytes
   pub bounded : start + length bytes ≤ FILE_BYTES
-  pub sized : (f : Fields) → record_of p number ≡ Some f → IsSizeOf f.attributes.kind (max f.attributes.size (start + length bytes))
+  pub sized : (f : Fields) → record_of p number ≡ Some f
+      → IsSizeOf f.attributes.kind (max f.attributes.size (start + length bytes))

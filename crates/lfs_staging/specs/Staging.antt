@@ -23,7 +23,8 @@ use Rattle.lfs_staging.specs.Store.{AreFiles, HolderWaits, IsWithin, ParentsWait
 use Rattle.lfs_staging.specs.View.{LiesIn, blocks_of, key_of, record_of, tree_of, version_of, waiting_in}
 use Rattle.lfs_staging.specs.Waiting.{AreOnce, without}
 
--- What holds in the middle of a call: of the files, of the log with so many spare bytes, and of what waits. There is room
+-- What holds in the middle of a call: of the files, of the log with so many spare bytes, and of what waits. There is
+-- room
 -- for the records, and each block that waits lies within its file.
 pub record IsStaged (p : Parts) (spare : ℕ) : Type 0 where
   pub whole : AreFiles p
@@ -42,7 +43,8 @@ pub record StagesRecord (v : Inode) (old new : Parts) : Type 0 where
   pub here : record_of new v.number ≡ Some (fields_of v)
   pub others : (n : ℕ) → n ≢ v.number → record_of new n ≡ record_of old n
 
--- The frames that wait are those that waited, and one of this key; it is one more where it is new. No block is clean that
+-- The frames that wait are those that waited, and one of this key; it is one more where it is new. No block is clean
+-- that
 -- wasn't.
 pub record GrowsBy (key : Key) (old new : Parts) : Type 0 where
   pub formed : IsContents new.cache
@@ -75,7 +77,8 @@ pub record HasParents (p : Parts) (number : ℕ) (block : FileBlock) : Type 0 wh
 -- each key that waits is of one of some codes of a number, or waited
 abbrev pub TakesOnly : ℕ → ℕ → List ℕ → Contents → Contents → Type 0
 TakesOnly number version codes old new =
-    (key : Key) → IsLocked key new → ((code : ℕ) × Contains codes code × (key ≡ key_of number version code)) ⊎ IsLocked key old
+    (key : Key) → IsLocked key new → ((code : ℕ) × Contains codes code × (key ≡ key_of number version code))
+    ⊎ IsLocked key old
 
 -- A data block of the file with this record may wait: it is the record of a number in use, and there is room for it.
 pub record MayStage (p : Parts) (v : Inode) : Type 0 where
@@ -87,9 +90,11 @@ pub record MayStage (p : Parts) (v : Inode) : Type 0 where
   pub here : record_of p v.number ≡ Some (fields_of v)
   pub records : length (without v.number p.waiting) < WAITING_LIMIT
 
--- There are frames for the blocks of some codes of a number: whichever of them come to wait, each other one finds a frame.
+-- There are frames for the blocks of some codes of a number: whichever of them come to wait, each other one finds a
+-- frame.
 pub record HasFrames (p : Parts) (number : ℕ) (codes : List ℕ) : Type 0 where
-  pub each : (c : Contents) → IsContents c → TakesOnly number (version_of p number) codes p.cache c → (code : ℕ) → Contains codes code
+  pub each : (c : Contents) → IsContents c → TakesOnly number (version_of p number) codes p.cache c → (code : ℕ)
+      → Contains codes code
       → IsLocked (key_of number (version_of p number) code) c ⊎ (length c.locked < LOCKED_LIMIT)
 
 -- some bytes may be data block `index` of a file of this size: they are zeros past it

@@ -23,7 +23,8 @@ use Rattle.lfs_staging.specs.Keys.{log_state}
 use Rattle.lfs_staging.specs.View.{key_of, record_of, tree_of, version_of, waiting_in}
 use Rattle.lfs_staging.specs.Waiting.{AreOnce}
 
--- a file of this size can have the block, which isn't its record: the first data block that it leads to lies below the size
+-- a file of this size can have the block, which isn't its record: the first data block that it leads to lies below the
+-- size
 abbrev pub IsWithin : FileBlock → ℕ → Type 0
 IsWithin block size = first_under block < block_count size
 
@@ -56,10 +57,12 @@ pub record IsFile (p : Parts) (number : ℕ) (f : Fields) : Type 0 where
   pub formed : AreFields f
   pub own_number : f.attributes.number ≡ number
   pub own_version : f.attributes.version ≡ version_of p number
-  pub none_past : (block : FileBlock) → IsFileBlock block → block_count f.attributes.size ≤ first_under block → address (tree_of p number) (way_to block) ≡ 0
+  pub none_past : (block : FileBlock) → IsFileBlock block → block_count f.attributes.size ≤ first_under block
+      → address (tree_of p number) (way_to block) ≡ 0
   pub padded : IsPadded (data_block (tree_of p number)) f.attributes.size
 
--- What holds of the files and of what waits: the parts are each well formed and of one volume; of the numbers below 4 none
+-- What holds of the files and of what waits: the parts are each well formed and of one volume; of the numbers below 4
+-- none
 -- but the root's is in use; each number in use has a record; what waits is of a number in use, at its present version;
 -- what is clean in the cache is what the log has.
 pub record AreFiles (p : Parts) : Type 0 where
@@ -81,7 +84,8 @@ HolderWaits c number version (i ∷ up) = IsLocked (key_of number version (code_
 -- Where a block waits, its parents do: the record of its number, and the block that holds its address.
 pub record ParentsWait (p : Parts) : Type 0 where
   pub records : (key : Key) → IsLocked key p.cache → IsSome (waiting_in p.waiting key.ino)
-  pub holders : (key : Key) → IsLocked key p.cache → (i : ℕ) (up : List ℕ) → way_of key.lbn ≡ i ∷ up → HolderWaits p.cache key.ino key.version up
+  pub holders : (key : Key) → IsLocked key p.cache → (i : ℕ) (up : List ℕ) → way_of key.lbn ≡ i ∷ up
+      → HolderWaits p.cache key.ino key.version up
 
 -- What holds between the calls of a store: of its files, of its log, which goes on with a summary, and of what waits.
 pub record IsStore (p : Parts) : Type 0 where

@@ -38,7 +38,8 @@ waiting_or (Some v) logged = Some (fields_of v)
 -- in use has none.
 unfoldable pub record_of : Parts → ℕ → Option Fields
 record_of p number =
-    option_and_then (λ (place : InodePlace). waiting_or (waiting_in p.waiting number) (fields_at p.log.memory place)) (place_of p.log.tables number)
+    option_and_then (λ (place : InodePlace). waiting_or (waiting_in p.waiting number) (fields_at p.log.memory place))
+    (place_of p.log.tables number)
 
 -- the name of a block of a file in the cache
 abbrev pub key_of : ℕ → ℕ → ℕ → Key

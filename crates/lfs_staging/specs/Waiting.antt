@@ -1,5 +1,6 @@
 -- The records that wait to be written.
-use Rattle.std.specs.Prelude.{◌≡◌, ℕ, ◌<◌, ◌≤◌, List, [], ◌∷◌, All, Bool, false, Option, None, find, length, slice_index_or, if◌then◌else◌, ◌==◌, ⊤}
+use Rattle.std.specs.Prelude.{◌≡◌, ℕ, ◌<◌, ◌≤◌, List, [], ◌∷◌, All, Bool, false, Option, None, find, length}
+use Rattle.std.specs.Prelude.{slice_index_or, if◌then◌else◌, ◌==◌, ⊤}
 use Rattle.std.specs.Option.{is_some}
 use Rattle.lfs_types.specs.Ranges.{most_inodes}
 use Rattle.lfs_inodes.specs.declared.inode.Inode.{Inode}
@@ -23,11 +24,13 @@ AreOnce (v ∷ vs) = (waiting_in vs v.number ≡ None) × AreOnce vs
 abbrev pub IsNumbered : Inode → Type 0
 IsNumbered v = v.number < most_inodes
 
--- Some records, each of another number, and for each number whether one of them is of it; there is room for all that may
+-- Some records, each of another number, and for each number whether one of them is of it; there is room for all that
+-- may
 -- wait.
 pub record IsRecords (records : List Inode) (waits : List Bool) (capacity : ℕ) : Type 0 where
   pub room : WAITING_LIMIT ≤ capacity
   pub once : AreOnce records
   pub numbered : All IsNumbered records
   pub sized : length waits ≡ most_inodes
-  pub told : (number : ℕ) → number < most_inodes → slice_index_or waits number false ≡ is_some (waiting_in records number)
+  pub told : (number : ℕ) → number < most_inodes → slice_index_or waits number false
+      ≡ is_some (waiting_in records number)

@@ -1,5 +1,6 @@
 -- Where a checker stands, and what it says where it stands.
-use Rattle.std.proofs.Common.{◌≡◌, ◌<◌, ◌+◌, ℕ, suc, Bool, true, false, List, [], ◌∷◌, ◌++◌, length, get_or, take, None, Some, Option, refl, sym, ap, subst, ◌∙◌, arith, inl, inr}
+use Rattle.std.proofs.Common.{◌≡◌, ◌<◌, ◌+◌, ℕ, suc, Bool, true, false, List, [], ◌∷◌, ◌++◌, length, get_or, take, None}
+use Rattle.std.proofs.Common.{Some, Option, refl, sym, ap, subst, ◌∙◌, arith, inl, inr}
 use Rattle.std.specs.Prelude.{◌↔◌, Result, Ok, Err, IsTrue, IsFalse, IsSome, if◌then◌else◌, is_some, not}
 use Rattle.std.specs.FinMap as map
 use Rattle.std.proofs.Math.Seq.{take-suc}
@@ -25,7 +26,8 @@ use Rattle.lfs_model.specs.Steps.{AllUsed, IsEvent, IsLegal, after_event, world_
 use Rattle.lfs_model.proofs.RunLemmas.{IsLegal-append, world_after-append}
 use Rattle.lfs_calls.specs.Calls.{LooksOn}
 use Rattle.lfs_calls.specs.Volumes.{IsVolume}
-use Rattle.lfs_trace.specs.Checking.{IsChecked, IsFirstIllegal, IsLooking, IsPlain, IsSameStanding, Standing, StandsAt, numbers_of, plain_state, standing}
+use Rattle.lfs_trace.specs.Checking.{IsChecked, IsFirstIllegal, IsLooking, IsPlain, IsSameStanding, Standing, StandsAt}
+use Rattle.lfs_trace.specs.Checking.{numbers_of, plain_state, standing}
 use Rattle.lfs_trace.specs.Judging.{JudgesRefusal}
 use Rattle.lfs_trace.specs.declared.fault.EntryFault.{EntryFault}
 use Rattle.lfs_trace.specs.declared.fault.EntryFault.TheVariants.{Illegal}
@@ -61,15 +63,18 @@ module _ (old new : FlatFiles) (level : Level) (segments : ℕ) (same : plain_st
   pub same_standing : IsSameStanding (standing old level segments) (standing new level segments)
   same_standing = record { worlds = forth; back = back; numbers = same_numbers; segments = refl }
 
-  pub still_stands : (numbers : ℕ) → Stands numbers (standing old level segments) → Stands numbers (standing new level segments)
+  pub still_stands : (numbers : ℕ) → Stands numbers (standing old level segments)
+      → Stands numbers (standing new level segments)
   still_stands numbers is = (is.0 ∙ sym same_numbers, is.1, forth is.1 is.2)
 
 -- a checker that has said something stands somewhere
-pub checked_stands : (numbers : ℕ) (old new : Standing) (caller : Caller) (event : Event) (result : Result (Unit {0}) EntryFault)
+pub checked_stands : (numbers : ℕ) (old new : Standing) (caller : Caller) (event : Event)
+    (result : Result (Unit {0}) EntryFault)
     → IsChecked old new caller event result → Stands numbers old → Stands numbers new
 checked_stands numbers old new caller event (Ok done) is stands =
     (stands.0 ∙ sym is.numbers, after_event (numbers_of old) stands.1 caller event, is.leads stands.1 stands.2)
-checked_stands numbers old new caller event (Err fault) is stands = (stands.0 ∙ sym is.numbers, stands.1, is.stays stands.1 stands.2)
+checked_stands numbers old new caller event (Err fault) is stands =
+    (stands.0 ∙ sym is.numbers, stands.1, is.stays stands.1 stands.2)
 
 -- a call that only looks leaves the state
 pub looked_on : (request : Request) (old new : StoreState) → IsLooking request → LooksOn request old new → new ≡ old
@@ -92,14 +97,16 @@ pub either : (b : Bool) (P : Type 0) → (IsTrue b → ¬ P) → (IsFalse b → 
 either true P left none = (λ yes. left yes, λ _. refl)
 either false P left none = (λ yes. absurd (cc), λ not. absurd (not (none refl)))
 
-pub refusal_checked : (old new : Standing) (caller : Caller) (request : Request) (resource : Resource) (allowed left judged : Bool)
+pub refusal_checked : (old new : Standing) (caller : Caller) (request : Request) (resource : Resource)
+    (allowed left judged : Bool)
     → IsPlain (plain_state old.store) → IsSameStanding old new
     → ((w : World) → StandsAt old w → IsTrue allowed ↔ (decide w caller request ≡ None))
     → ((w : World) → StandsAt old w → IsTrue left ↔ ¬ (AllUsed (numbers_of old) w.rows))
     → JudgesRefusal request allowed left resource judged
     → IsChecked old new caller (User request (Refused resource)) (if judged then Ok tt else Err Illegal)
 refusal_checked old new caller request resource allowed left true plain same allows leaves judges =
-    let judged = λ (w : World) (at : StandsAt old w). judges (numbers_of old) w caller (allows w at) (leaves w at) (uncrowded (plain_state old.store) w plain at.shown request) in
+    let judged = λ (w : World) (at : StandsAt old w). judges (numbers_of old) w caller (allows w at) (leaves w at)
+    (uncrowded (plain_state old.store) w plain at.shown request) in
     record {
       legal = λ w at. (judged w at).0 refl;
       leads = λ w at. same.worlds w at;
@@ -109,7 +116,8 @@ refusal_checked old new caller request resource allowed left true plain same all
       segments = same.segments;
     }
 refusal_checked old new caller request resource allowed left false plain same allows leaves judges =
-    let judged = λ (w : World) (at : StandsAt old w). judges (numbers_of old) w caller (allows w at) (leaves w at) (uncrowded (plain_state old.store) w plain at.shown request) in
+    let judged = λ (w : World) (at : StandsAt old w). judges (numbers_of old) w caller (allows w at) (leaves w at)
+    (uncrowded (plain_state old.store) w plain at.shown request) in
     record {
       legal = tt;
       leads = tt;
@@ -122,10 +130,12 @@ refusal_checked old new caller request resource allowed left false plain same al
 -- ---- traces
 
 -- with the first that isn't legal, entries aren't
-last_legal : (numbers segments : ℕ) (es : List Entry) (e : Entry) (w : World) → IsLegal numbers segments (es ++ e ∷ []) w
+last_legal : (numbers segments : ℕ) (es : List Entry) (e : Entry) (w : World)
+    → IsLegal numbers segments (es ++ e ∷ []) w
     → IsEvent numbers segments (world_after numbers es w) e.cred e.event
 last_legal numbers segments [] e w legal = legal.0
-last_legal numbers segments (x ∷ es) e w legal = last_legal numbers segments es e (after_event numbers w x.cred x.event) legal.1
+last_legal numbers segments (x ∷ es) e w legal =
+    last_legal numbers segments es e (after_event numbers w x.cred x.event) legal.1
 
 -- what holds behind so many entries of a trace
 pub record IsBehind (numbers segments : ℕ) (entries : List Entry) (at : ℕ) (checker : Standing) : Type 0 where
@@ -134,29 +144,36 @@ pub record IsBehind (numbers segments : ℕ) (entries : List Entry) (at : ℕ) (
   pub numbers_are : numbers_of checker ≡ numbers
   pub segments_are : checker.segments ≡ segments
 
-module _ (numbers segments : ℕ) (entries : List Entry) (at : ℕ) (entry : Entry) (within : at < length entries) (is : entry ≡ get_or entries at entry) where
+module _ (numbers segments : ℕ) (entries : List Entry) (at : ℕ) (entry : Entry) (within : at < length entries)
+    (is : entry ≡ get_or entries at entry) where
   one_more : take (at + 1) entries ≡ take at entries ++ entry ∷ []
   one_more =
       let next : at + 1 ≡ suc at = omega arith in
-      ap (λ k. take k entries) next ∙ take-suc entries at entry within ∙ ap (λ (e : Entry). take at entries ++ e ∷ []) (sym is)
+      ap (λ k. take k entries) next ∙ take-suc entries at entry within
+      ∙ ap (λ (e : Entry). take at entries ++ e ∷ []) (sym is)
 
-  pub behind_more : (old new : Standing) → IsBehind numbers segments entries at old → IsChecked old new entry.cred entry.event (Ok tt)
+  pub behind_more : (old new : Standing) → IsBehind numbers segments entries at old
+      → IsChecked old new entry.cred entry.event (Ok tt)
       → IsBehind numbers segments entries (at + 1) new
   behind_more old new behind checked =
       let here = world_after numbers (take at entries) opening_world in
-      let happens = subst (λ n. IsEvent n old.segments here entry.cred entry.event) behind.numbers_are (checked.legal here behind.stands) in
-      let leads = subst (λ n. StandsAt new (after_event n here entry.cred entry.event)) behind.numbers_are (checked.leads here behind.stands) in
+      let happens = subst (λ n. IsEvent n old.segments here entry.cred entry.event) behind.numbers_are
+      (checked.legal here behind.stands) in
+      let leads = subst (λ n. StandsAt new (after_event n here entry.cred entry.event)) behind.numbers_are
+      (checked.leads here behind.stands) in
       record {
         legal = subst (λ es. IsLegal numbers segments es opening_world) (sym one_more)
             (IsLegal-append numbers segments (take at entries) entry opening_world behind.legal
             (subst (λ n. IsEvent numbers n here entry.cred entry.event) behind.segments_are happens));
         stands = subst (λ es. StandsAt new (world_after numbers es opening_world)) (sym one_more)
-            (subst (StandsAt new) (sym (world_after-append numbers (take at entries) (entry ∷ []) opening_world)) leads);
+            (subst (StandsAt new) (sym (world_after-append numbers (take at entries) (entry ∷ []) opening_world))
+            leads);
         numbers_are = checked.numbers ∙ behind.numbers_are;
         segments_are = checked.segments ∙ behind.segments_are;
       }
 
-  pub first_illegal : (old new : Standing) → IsBehind numbers segments entries at old → IsChecked old new entry.cred entry.event (Err Illegal)
+  pub first_illegal : (old new : Standing) → IsBehind numbers segments entries at old
+      → IsChecked old new entry.cred entry.event (Err Illegal)
       → IsFirstIllegal numbers segments entries at
   first_illegal old new behind checked =
       let here = world_after numbers (take at entries) opening_world in
@@ -164,7 +181,8 @@ module _ (numbers segments : ℕ) (entries : List Entry) (at : ℕ) (entry : Ent
         within = within;
         before = behind.legal;
         then = λ legal.
-            let happens = last_legal numbers segments (take at entries) entry opening_world (subst (λ es. IsLegal numbers segments es opening_world) one_more legal) in
+            let happens = last_legal numbers segments (take at entries) entry opening_world
+            (subst (λ es. IsLegal numbers segments es opening_world) one_more legal) in
             checked.illegal refl here behind.stands
             (subst (λ n. IsEvent n old.segments here entry.cred entry.event) (sym behind.numbers_are)
             (subst (λ n. IsEvent numbers n here entry.cred entry.event) (sym behind.segments_are) happens));

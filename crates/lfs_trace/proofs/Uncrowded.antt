@@ -26,7 +26,8 @@ module _ (s : StoreState) (w : World) (plain : IsPlain s) (v : IsVolume s w) whe
       plain.within n (present (stored_of s.content w v.shows n c.row c.there).stored))
 
   not_many : (parent : ℕ) → FILE_BLOCKS ≤ length (children w.rows parent) → ⊥
-  not_many parent many = let few = few_children parent in let most = plain.few in absurd (omega (arith, many, few, most))
+  not_many parent many = let few = few_children parent in let most = plain.few in
+      absurd (omega (arith, many, few, most))
 
   pub uncrowded : (request : Request) → ¬ (IsCrowded w request)
   uncrowded (Create path mode) h = not_many (reached w.rows root (front path)) h

@@ -1,5 +1,6 @@
 -- Where a checker of a trace stands, and what it says of the next entry.
-use Rattle.std.specs.Prelude.{◌≡◌, ℕ, ◌+◌, ◌<◌, ◌≤◌, false, List, [], ◌∷◌, length, take, Option, None, Some, Result, IsErrOf, IsSome, OnErr, OnOk, vec_len}
+use Rattle.std.specs.Prelude.{◌≡◌, ℕ, ◌+◌, ◌<◌, ◌≤◌, false, List, [], ◌∷◌, length, take, Option, None, Some, Result}
+use Rattle.std.specs.Prelude.{IsErrOf, IsSome, OnErr, OnOk, vec_len}
 use Rattle.std.specs.FinMap as map
 use Rattle.lfs_types.specs.Caller.{Caller}
 use Rattle.lfs_types.specs.Ranges.{most_inodes}
@@ -53,13 +54,17 @@ pub record IsPlain (s : StoreState) : Type 0 where
   pub within : (n : ℕ) → IsSome (map.get s.content n) → n < s.shape.numbers
   pub roomy : 2 < s.clean
 
--- What a checker says of the next entry's event. In each world at which it stood: where nothing is said against the event, it
--- may happen, and the checker stands at the world that it leaves; where it is said to be illegal, it may not; and wherever
+-- What a checker says of the next entry's event. In each world at which it stood: where nothing is said against the
+-- event, it
+-- may happen, and the checker stands at the world that it leaves; where it is said to be illegal, it may not; and
+-- wherever
 -- something is said, the checker stands where it stood.
-pub record IsChecked (old new : Standing) (caller : Caller) (event : Event) (result : Result (Unit {0}) EntryFault) : Type 0 where
+pub record IsChecked (old new : Standing) (caller : Caller) (event : Event)
+    (result : Result (Unit {0}) EntryFault) : Type 0 where
   pub legal : OnOk result ((w : World) → StandsAt old w → IsEvent (numbers_of old) old.segments w caller event)
   pub leads : OnOk result ((w : World) → StandsAt old w → StandsAt new (after_event (numbers_of old) w caller event))
-  pub illegal : IsErrOf result Illegal → (w : World) → StandsAt old w → ¬ (IsEvent (numbers_of old) old.segments w caller event)
+  pub illegal : IsErrOf result Illegal → (w : World) → StandsAt old w
+      → ¬ (IsEvent (numbers_of old) old.segments w caller event)
   pub stays : OnErr result ((w : World) → StandsAt old w → StandsAt new w)
   pub numbers : numbers_of new ≡ numbers_of old
   pub segments : new.segments ≡ old.segments
@@ -89,7 +94,8 @@ superuser = record { uid = 0; groups = 0 ∷ []; init = false }
 -- the row that a path leads to, as the superuser's Stat shows it: none where it leads nowhere
 abbrev pub IsRowAt : World → List (List ℕ) → Option ShownRow → Type 0
 IsRowAt w path None = ¬ (decide w superuser (Stat path) ≡ None)
-IsRowAt w path (Some row) = (decide w superuser (Stat path) ≡ None) × (Shows.Stat row.number row.attrs ≡ answer_of w (Stat path))
+IsRowAt w path (Some row) = (decide w superuser (Stat path) ≡ None)
+    × (Shows.Stat row.number row.attrs ≡ answer_of w (Stat path))
 
 -- what a call shows whatever the tree is: all but a Stat, a Read and a List show that they are done
 abbrev pub MayShow : Request → Shown → Type 0

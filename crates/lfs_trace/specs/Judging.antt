@@ -13,7 +13,8 @@ use Rattle.lfs_model.specs.Steps.{AllUsed, IsAnswer, IsCrowded, IsEvent}
 use Rattle.lfs_model.specs.declared.journal.Entry.{Entry}
 use Rattle.lfs_model.specs.declared.journal.Event.TheVariants.{User}
 
--- an answer that the rules alone give: not one for want of space, of a directory's room, of memory or of the journal's room
+-- an answer that the rules alone give: not one for want of space, of a directory's room, of memory or of the journal's
+-- room
 abbrev pub IsOfRules : Answer → Type 0
 IsOfRules (Served shown) = Unit {0}
 IsOfRules (Denied denial) = Unit {0}
@@ -30,7 +31,8 @@ OneAnswer =
 abbrev pub answered : ℕ → Caller → Request → Answer → Entry
 answered session caller request answer = record { session = session; cred = caller; event = User request answer }
 
--- In each world where the rules gave a call the answer of one entry, the other, which tells an answer of the rules to the
+-- In each world where the rules gave a call the answer of one entry, the other, which tells an answer of the rules to
+-- the
 -- same call, is allowed exactly where this is true.
 abbrev pub JudgesMade : Entry → Entry → Bool → Type 0
 JudgesMade made told result =

@@ -56,7 +56,8 @@ module _ (c : Content) (order : List ℕ) (rows : Rows) (h : IsReached c order o
     }
 
 -- a number that a walk didn't reach is one that no names lead to
-pub no_names : (c : Content) (order : List ℕ) (n : ℕ) → Reaches c order order 0 [] → is_among order n ≡ false → Leads c n → ⊥
+pub no_names : (c : Content) (order : List ℕ) (n : ℕ) → Reaches c order order 0 [] → is_among order n ≡ false
+    → Leads c n → ⊥
 no_names c order n (rows, h) none leads = let there = leads_there c order rows h n leads in absurd (cc)
 
 -- where it reached all numbers in use, there is a world

@@ -1,5 +1,6 @@
 -- An entry of a directory is read: a row hangs there that is a new one.
-use Rattle.std.proofs.Common.{◌≡◌, ◌≢◌, ◌≤◌, ℕ, true, false, List, [], ◌∷◌, ◌++◌, None, Some, refl, sym, ap, subst, ◌∙◌, ⊎_elim}
+use Rattle.std.proofs.Common.{◌≡◌, ◌≢◌, ◌≤◌, ℕ, true, false, List, [], ◌∷◌, ◌++◌, None, Some, refl, sym, ap, subst, ◌∙◌}
+use Rattle.std.proofs.Common.{⊎_elim}
 use Rattle.std.specs.Prelude.{IsSomeAnd, is_some, bytes_eq}
 use Rattle.std.proofs.lemmas.Bool.{cases_eq, cases_Bool, both_ways}
 use Rattle.std.proofs.lemmas.Slice.Eq.{bytes_eq-Decides}
@@ -23,7 +24,8 @@ use Rattle.lfs_trees.proofs.Numbers.{among-same, among-other}
 use Rattle.lfs_trees.proofs.Rooting.{visible-empty}
 use Rattle.lfs_trees.proofs.Turning.{so_far-here, so_far-other}
 
-module _ (c : Content) (order before : List ℕ) (dir : ℕ) (es : List Entry) (rows : Rows) (h : IsReached c order before dir es rows)
+module _ (c : Content) (order before : List ℕ) (dir : ℕ) (es : List Entry) (rows : Rows)
+    (h : IsReached c order before dir es rows)
     (directory : IsDirectoryAt c dir) (reached : is_among order dir ≡ true) (apart : is_among before dir ≡ false)
     (e : Entry) (f : File) (stored : map.get c e.0 ≡ Some f) (first : FIRST_INODE ≤ e.0) (below : e.0 ≡ root → ⊥)
     (new_number : is_among order e.0 ≡ false) (new_name : number_in e.1 es ≡ None)
@@ -60,7 +62,8 @@ module _ (c : Content) (order before : List ℕ) (dir : ℕ) (es : List Entry) (
   middle_tree = IsTree-grown rows h.tree e.0 bare above.value absent below free above.is above_directory refl first
 
   grown_tree : IsTree grown
-  grown_tree = IsTree-changed middle middle_tree e.0 bare (get-insert_same rows e.0 bare) (visible f) refl (visible-empty f)
+  grown_tree = IsTree-changed middle middle_tree e.0 bare (get-insert_same rows e.0 bare) (visible f) refl
+      (visible-empty f)
 
   here : map.get grown e.0 ≡ Some row
   here = get-insert_same middle e.0 row
@@ -74,18 +77,22 @@ module _ (c : Content) (order before : List ℕ) (dir : ℕ) (es : List Entry) (
   child_here : child grown dir e.1 ≡ Some e.0
   child_here = stays dir e.1 ∙ child-new rows e.0 bare absent below free h.tree.unique
 
-  child_other : (parent : ℕ) (name : List ℕ) → (dir ≡ parent → e.1 ≡ name → ⊥) → child grown parent name ≡ child rows parent name
-  child_other parent name far = stays parent name ∙ child-new_other rows e.0 bare absent below free h.tree.unique parent name far
+  child_other : (parent : ℕ) (name : List ℕ) → (dir ≡ parent → e.1 ≡ name → ⊥) → child grown parent name
+      ≡ child rows parent name
+  child_other parent name far = stays parent name
+      ∙ child-new_other rows e.0 bare absent below free h.tree.unique parent name far
 
   -- what hangs in the directory is what was read of it
   hangs_here : (name : List ℕ) → child grown dir name ≡ number_in name (es ++ e ∷ [])
   hangs_here name = ⊎_elim
       (λ t.
       let same : e.1 ≡ name = (bytes_eq-Decides e.1 name).0 t in
-      subst (λ q. child grown dir q ≡ number_in q (es ++ e ∷ [])) same (child_here ∙ sym (found_behind e es [] new_name)))
+      subst (λ q. child grown dir q ≡ number_in q (es ++ e ∷ [])) same (child_here
+      ∙ sym (found_behind e es [] new_name)))
       (λ t.
       let far : e.1 ≡ name → ⊥ = λ same. both_ways _ t ((bytes_eq-Decides e.1 name).1 same) in
-      child_other dir name (λ _. far) ∙ h.later dir apart name ∙ ap (number_in name) (so_far-here dir es) ∙ sym (other_behind name e es far))
+      child_other dir name (λ _. far) ∙ h.later dir apart name ∙ ap (number_in name) (so_far-here dir es)
+      ∙ sym (other_behind name e es far))
       (cases_Bool (bytes_eq e.1 name))
 
   -- with the row too the walk reaches what it did
@@ -93,7 +100,8 @@ module _ (c : Content) (order before : List ℕ) (dir : ℕ) (es : List Entry) (
   entered = record {
     tree = grown_tree;
     reached = λ n. ⊎_elim
-        (λ same. subst (λ k. is_some (map.get grown k) ≡ is_among (order ++ e.0 ∷ []) k) (sym same) (ap is_some here ∙ sym (among-same order e.0)))
+        (λ same. subst (λ k. is_some (map.get grown k) ≡ is_among (order ++ e.0 ∷ []) k) (sym same) (ap is_some here
+        ∙ sym (among-same order e.0)))
         (λ other. ap is_some (others n other) ∙ h.reached n ∙ sym (among-other order e.0 n other))
         (cases_eq n e.0);
     shown = each_value rows grown e.0 row here others (λ n r. IsSomeAnd (map.get c n) (λ g. visible g ≡ r.file))

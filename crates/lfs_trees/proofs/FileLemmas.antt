@@ -14,7 +14,8 @@ use Rattle.lfs_calls.specs.Content.{IsDirectoryAt}
 use Rattle.lfs_trees.specs.Files.{AreFiles, HasWhole, MayStand}
 
 -- the attributes of a file's number are the file's
-pub attrs_here : (c : Content) (n : ℕ) (f : File) (o : Option Attrs) → o ≡ shown_attrs c n → map.get c n ≡ Some f → o ≡ Some (attrs_of f)
+pub attrs_here : (c : Content) (n : ℕ) (f : File) (o : Option Attrs) → o ≡ shown_attrs c n → map.get c n ≡ Some f → o
+    ≡ Some (attrs_of f)
 attrs_here c n f o shown e = shown ∙ ap (option_map attrs_of) e
 
 -- where they may stand there the file may
@@ -30,7 +31,8 @@ pub record Shown (c : Content) (n : ℕ) (a : Attrs) : Type 0 where
   pub stored : map.get c n ≡ Some file
   pub same : a ≡ attrs_of file
 
-shown_as : (c : Content) (n : ℕ) (a : Attrs) (o : Option File) → map.get c n ≡ o → Some a ≡ option_map attrs_of o → Shown c n a
+shown_as : (c : Content) (n : ℕ) (a : Attrs) (o : Option File) → map.get c n ≡ o → Some a ≡ option_map attrs_of o
+    → Shown c n a
 shown_as c n a None e h = absurd (cc)
 shown_as c n a (Some f) e h = record { file = f; stored = e; same = cc }
 
@@ -44,18 +46,22 @@ directory_kind Regular h = absurd (cc)
 directory_kind Directory h = refl
 
 -- a number of a directory's attributes is a directory's
-pub directory_at : (c : Content) (n : ℕ) (a : Attrs) → Some a ≡ shown_attrs c n → is_directory_kind a.kind ≡ true → IsDirectoryAt c n
+pub directory_at : (c : Content) (n : ℕ) (a : Attrs) → Some a ≡ shown_attrs c n → is_directory_kind a.kind ≡ true
+    → IsDirectoryAt c n
 directory_at c n a shown kind =
     let f = file_of_attrs c n a shown in
-    is_some_and (λ (x : File). x.kind ≡ Directory) f.stored (ap (λ (x : Attrs). x.kind) (sym f.same) ∙ directory_kind a.kind kind)
+    is_some_and (λ (x : File). x.kind ≡ Directory) f.stored (ap (λ (x : Attrs). x.kind) (sym f.same)
+    ∙ directory_kind a.kind kind)
 
 -- the blocks of a directory among files that may stand where they do
-pub has_whole : (c : Content) (n : ℕ) (a : Attrs) → AreFiles c → Some a ≡ shown_attrs c n → is_directory_kind a.kind ≡ true
+pub has_whole : (c : Content) (n : ℕ) (a : Attrs) → AreFiles c → Some a ≡ shown_attrs c n → is_directory_kind a.kind
+    ≡ true
     → HasWhole c n (a.size / 512)
 has_whole c n a files shown kind =
     let f = file_of_attrs c n a shown in
     let is : f.file.kind ≡ Directory = ap (λ (x : Attrs). x.kind) (sym f.same) ∙ directory_kind a.kind kind in
-    let sized : IsLength Directory (length f.file.bytes) = subst (λ k. IsLength k (length f.file.bytes)) is (files n f.file f.stored).sized in
+    let sized : IsLength Directory (length f.file.bytes) =
+    subst (λ k. IsLength k (length f.file.bytes)) is (files n f.file f.stored).sized in
     let bytes : length f.file.bytes ≡ length (bytes_of c n) = ap length (sym (ap bytes_of_file f.stored)) in
     record {
       directory = directory_at c n a shown kind;

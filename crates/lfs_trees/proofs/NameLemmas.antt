@@ -13,7 +13,8 @@ use Rattle.std.proofs.lemmas.Slice.Eq.{bytes_eq-Decides}
 bytes_eq-sym : (a b : List ℕ) → bytes_eq a b ≡ bytes_eq b a
 bytes_eq-sym a b = ⊎_elim
     (λ t. t ∙ sym ((bytes_eq-Decides b a).1 (sym ((bytes_eq-Decides a b).0 t))))
-    (λ t. t ∙ sym (false_from_ne_true _ (λ u. both_ways _ t ((bytes_eq-Decides a b).1 (sym ((bytes_eq-Decides b a).0 u))))))
+    (λ t. t ∙ sym (false_from_ne_true _ (λ u. both_ways _ t
+    ((bytes_eq-Decides a b).1 (sym ((bytes_eq-Decides b a).0 u))))))
     (cases_Bool (bytes_eq a b))
 
 swapped : (a b rest : Bool) → (a || (b || rest)) ≡ (b || (a || rest))
@@ -28,7 +29,8 @@ doubled false rest = refl
 
 module _ (cmp : Vec ℕ → Vec ℕ → Ordering) (same : (a b : Vec ℕ) → is_eq (cmp a b) ≡ bytes_eq a.items b.items) where
   -- the order's test finds the names that have the bytes
-  pub contained : (key : Vec ℕ) (ks : List (Vec ℕ)) → list_any (λ k. is_eq (cmp key k)) ks ≡ list_any (λ (k : Vec ℕ). bytes_eq k.items key.items) ks
+  pub contained : (key : Vec ℕ) (ks : List (Vec ℕ)) → list_any (λ k. is_eq (cmp key k)) ks
+      ≡ list_any (λ (k : Vec ℕ). bytes_eq k.items key.items) ks
   contained key [] = refl
   contained key (k ∷ ks) =
       ap (λ b. b || list_any (λ (j : Vec ℕ). is_eq (cmp key j)) ks) (same key k ∙ bytes_eq-sym key.items k.items)
@@ -38,8 +40,10 @@ module _ (cmp : Vec ℕ → Vec ℕ → Ordering) (same : (a b : Vec ℕ) → is
     abbrev test : Vec ℕ → Bool
     test k = bytes_eq k.items name
 
-    placed : (key x : Vec ℕ) (xs rest : List (Vec ℕ)) → list_any test rest ≡ (test key || list_any test xs) → (o : Ordering) → cmp key x ≡ o
-        → list_any test (match_ordering o (key ∷ x ∷ xs) (x ∷ xs) (x ∷ rest)) ≡ (test key || (test x || list_any test xs))
+    placed : (key x : Vec ℕ) (xs rest : List (Vec ℕ)) → list_any test rest ≡ (test key || list_any test xs)
+        → (o : Ordering) → cmp key x ≡ o
+        → list_any test (match_ordering o (key ∷ x ∷ xs) (x ∷ xs) (x ∷ rest))
+        ≡ (test key || (test x || list_any test xs))
     placed key x xs rest h Less is = refl
     placed key x xs rest h Equal is =
         let one : key.items ≡ x.items = (bytes_eq-Decides key.items x.items).0 (sym (same key x) ∙ ap is_eq is) in
@@ -47,6 +51,7 @@ module _ (cmp : Vec ℕ → Vec ℕ → Ordering) (same : (a b : Vec ℕ) → is
     placed key x xs rest h Greater is = ap (λ b. test x || b) h ∙ swapped (test x) (test key) (list_any test xs)
 
     -- with a key more, a name is there where it has that key's bytes or was there
-    pub with_key : (key : Vec ℕ) (ks : List (Vec ℕ)) → list_any test (insert_key cmp ks key) ≡ (test key || list_any test ks)
+    pub with_key : (key : Vec ℕ) (ks : List (Vec ℕ)) → list_any test (insert_key cmp ks key)
+        ≡ (test key || list_any test ks)
     with_key key [] = refl
     with_key key (x ∷ xs) = placed key x xs (insert_key cmp xs key) (with_key key xs) (cmp key x) refl

@@ -1,10 +1,12 @@
 -- Numbers in the order in which a walk reached them.
-use Rattle.std.proofs.Common.{◌≡◌, ◌≢◌, ℕ, zero, suc, ◌+◌, ◌<◌, ◌≤◌, Bool, true, false, List, [], ◌∷◌, ◌++◌, length, take, get_or, replicate, set, refl, sym, ap, subst, ◌∙◌, ⊎_elim, arith, length-set}
+use Rattle.std.proofs.Common.{◌≡◌, ◌≢◌, ℕ, zero, suc, ◌+◌, ◌<◌, ◌≤◌, Bool, true, false, List, [], ◌∷◌, ◌++◌, length}
+use Rattle.std.proofs.Common.{take, get_or, replicate, set, refl, sym, ap, subst, ◌∙◌, ⊎_elim, arith, length-set}
 use Rattle.std.specs.Prelude.{◌||◌, nat_eq}
 use Rattle.std.specs.List.{IsDistinct, AllByRecursion}
 use Rattle.std.specs.Cmp.{nat_eq_equiv}
 use Rattle.std.proofs.lemmas.Bool.{cases_eq, eq-eqb, ne_eqb}
-use Rattle.std.proofs.lemmas.List.{take_more, take-append-le, get_or-replicate, get_or-set_same, get_or-set_other, length-replicate}
+use Rattle.std.proofs.lemmas.List.{take_more, take-append-le, get_or-replicate, get_or-set_same, get_or-set_other}
+use Rattle.std.proofs.lemmas.List.{length-replicate}
 use Rattle.std.proofs.lemmas.List.Folds.{list_any-append}
 use Rattle.std.proofs.lemmas.Map.Keys.{IsDistinct-push}
 use Rattle.std.proofs.lemmas.Map.Steps.{length-le_from_distinct_below}
@@ -30,17 +32,21 @@ among-same ns n = list_any-append (nat_eq n) ns (n ∷ []) ∙ or_right _ _ (ap 
 
 -- and of the others those that were
 pub among-other : (ns : List ℕ) (n m : ℕ) → m ≢ n → is_among (ns ++ n ∷ []) m ≡ is_among ns m
-among-other ns n m apart = list_any-append (nat_eq m) ns (n ∷ []) ∙ ap (λ b. is_among ns m || (b || false)) (ne_eqb m n apart) ∙ or_false _
+among-other ns n m apart = list_any-append (nat_eq m) ns (n ∷ [])
+    ∙ ap (λ b. is_among ns m || (b || false)) (ne_eqb m n apart) ∙ or_false _
 
 -- ---- the first of them
 
-none_before : (n : ℕ) (ns : List ℕ) (i : ℕ) → AllByRecursion (λ m. nat_eq n m ≡ false) ns → i < length ns → nat_eq (get_or ns i 0) n ≡ false
+none_before : (n : ℕ) (ns : List ℕ) (i : ℕ) → AllByRecursion (λ m. nat_eq n m ≡ false) ns → i < length ns
+    → nat_eq (get_or ns i 0) n ≡ false
 none_before n [] i all within = absurd (omega arith)
-none_before n (m ∷ ns) zero all within = ne_eqb m n (λ same. let here = all.0 in let is = eq-eqb n m (sym same) in absurd (cc))
+none_before n (m ∷ ns) zero all within =
+    ne_eqb m n (λ same. let here = all.0 in let is = eq-eqb n m (sym same) in absurd (cc))
 none_before n (m ∷ ns) (suc i) all within = none_before n ns i all.1 (omega arith)
 
 -- a number isn't among those before it
-pub among-before : (ns : List ℕ) (i : ℕ) → IsDistinct nat_eq ns → i < length ns → is_among (take i ns) (get_or ns i 0) ≡ false
+pub among-before : (ns : List ℕ) (i : ℕ) → IsDistinct nat_eq ns → i < length ns → is_among (take i ns) (get_or ns i 0)
+    ≡ false
 unfolding IsDistinct
 among-before [] i distinct within = absurd (omega arith)
 among-before (n ∷ ns) zero distinct within = refl
@@ -56,26 +62,31 @@ among-place (n ∷ ns) (suc i) within = or_right _ _ (among-place ns i (omega ar
 -- ---- marks
 
 -- before any number is reached none is marked
-pub unmarked : (numbers : ℕ) (order : List ℕ) (marks : List Bool) → order ≡ [] → marks ≡ replicate numbers false → AreMarked order marks
+pub unmarked : (numbers : ℕ) (order : List ℕ) (marks : List Bool) → order ≡ [] → marks ≡ replicate numbers false
+    → AreMarked order marks
 unfolding IsDistinct
-unmarked numbers order marks none all = subst (λ ns. AreMarked ns marks) (sym none) (subst (AreMarked []) (sym all) (record {
-  marked = λ n within. get_or-replicate numbers n false false (omega (arith, length-replicate numbers false));
-  below = λ n among. absurd (cc);
-  distinct = tt;
-}))
+unmarked numbers order marks none all = subst (λ ns. AreMarked ns marks) (sym none)
+    (subst (AreMarked []) (sym all) (record {
+      marked = λ n within. get_or-replicate numbers n false false (omega (arith, length-replicate numbers false));
+      below = λ n among. absurd (cc);
+      distinct = tt;
+    }))
 
 -- one more number is reached and marked
-pub marked_more : (order : List ℕ) (marks : List Bool) (n : ℕ) → AreMarked order marks → n < length marks → is_among order n ≡ false
+pub marked_more : (order : List ℕ) (marks : List Bool) (n : ℕ) → AreMarked order marks → n < length marks
+    → is_among order n ≡ false
     → AreMarked (order ++ n ∷ []) (set marks n true)
 marked_more order marks n h within apart = record {
   marked = λ m inside. ⊎_elim
       (λ same. subst (λ k. get_or (set marks n true) k false ≡ is_among (order ++ n ∷ []) k) (sym same)
       (get_or-set_same marks n true false within ∙ sym (among-same order n)))
-      (λ other. get_or-set_other marks n m true false other ∙ h.marked m (omega (arith, length-set marks n true)) ∙ sym (among-other order n m other))
+      (λ other. get_or-set_other marks n m true false other ∙ h.marked m (omega (arith, length-set marks n true))
+      ∙ sym (among-other order n m other))
       (cases_eq m n);
   below = λ m among. ⊎_elim
       (λ same. omega (arith, length-set marks n true, same))
-      (λ other. let was = h.below m (sym (among-other order n m other) ∙ among) in omega (arith, length-set marks n true))
+      (λ other. let was = h.below m (sym (among-other order n m other) ∙ among) in
+      omega (arith, length-set marks n true))
       (cases_eq m n);
   distinct = IsDistinct-push nat_eq_equiv order n h.distinct apart;
 }

@@ -1,5 +1,6 @@
 -- A block of a directory, entry by entry.
-use Rattle.std.proofs.Common.{◌≡◌, ◌+◌, ◌<◌, ℕ, true, false, List, [], ◌∷◌, ◌++◌, length, take, get_or, None, Some, sym, ap, subst, ◌∙◌, arith, append_assoc, length-append}
+use Rattle.std.proofs.Common.{◌≡◌, ◌+◌, ◌<◌, ℕ, true, false, List, [], ◌∷◌, ◌++◌, length, take, get_or, None, Some, sym}
+use Rattle.std.proofs.Common.{ap, subst, ◌∙◌, arith, append_assoc, length-append}
 use Rattle.std.specs.Prelude.{bytes_eq, ◌||◌}
 use Rattle.std.proofs.lemmas.List.{get_or_append_left}
 use Rattle.std.specs.FinMap as map
@@ -12,7 +13,8 @@ use Rattle.lfs_model.proofs.Children.{child-answer}
 use Rattle.lfs_calls.specs.Content.{all_entries}
 use Rattle.lfs_calls.specs.Names.{Lists}
 use Rattle.lfs_trees.specs.declared.fault.TreeFault.{TreeFault}
-use Rattle.lfs_trees.specs.declared.fault.TreeFault.TheVariants.{Root, Reserved, Length, Block, NameTwice, RootListed, Unused, NumberTwice, Unreached, Memory}
+use Rattle.lfs_trees.specs.declared.fault.TreeFault.TheVariants.{Root, Reserved, Length, Block, NameTwice, RootListed}
+use Rattle.lfs_trees.specs.declared.fault.TreeFault.TheVariants.{Unused, NumberTwice, Unreached, Memory}
 use Rattle.lfs_trees.specs.declared.names.Names.{Names}
 use Rattle.lfs_trees.specs.declared.walk.Walk.{Walk}
 use Rattle.lfs_trees.specs.Faults.{IsBelow, IsTreeFaultOf}
@@ -32,10 +34,12 @@ pub record HasPart (c : Content) (old new : Walk) (names : Names) (dir : ℕ) (a
   pub entries : AreEntries left
 
 module _ (c : Content) (old walk : Walk) (names : Names) (dir : ℕ) (all left rest behind : List Entry) (e : Entry)
-    (h : HasPart c old walk names dir all left) (first : left ≡ e ∷ rest) (whole : all_entries (bytes_of c dir) ≡ all ++ behind) where
+    (h : HasPart c old walk names dir all left) (first : left ≡ e ∷ rest) (whole : all_entries (bytes_of c dir) ≡ all
+    ++ behind) where
   -- the directory lists the entry behind those that were read
   listed : all_entries (bytes_of c dir) ≡ h.read ++ e ∷ (rest ++ behind)
-  listed = whole ∙ ap (λ es. es ++ behind) (sym h.parts ∙ ap (λ es. h.read ++ es) first) ∙ append_assoc h.read (e ∷ rest) behind
+  listed = whole ∙ ap (λ es. es ++ behind) (sym h.parts ∙ ap (λ es. h.read ++ es) first)
+      ∙ append_assoc h.read (e ∷ rest) behind
 
   no_name : has names e.1 ≡ false → number_in e.1 h.read ≡ None
   no_name new_name = not_some _ (sym (h.named e.1) ∙ new_name)
@@ -53,8 +57,16 @@ module _ (c : Content) (old walk : Walk) (names : Names) (dir : ℕ) (all left r
   part_fault (Length n) w = absurd w
   part_fault (Block d k) w = absurd w
   part_fault (NameTwice d n) w =
-      subst (λ x. IsTreeFaultOf c (NameTwice x n)) (sym w.0) (subst (λ m. IsTreeFaultOf c (NameTwice dir m)) (sym w.1)
-      (h.reading.directory, record { name = e.1; before = h.read; behind = rest ++ behind; parts = listed; again = sym (h.named e.1) ∙ w.2 }))
+      subst (λ x. IsTreeFaultOf c (NameTwice x n)) (sym w.0) (subst (λ m. IsTreeFaultOf c (NameTwice dir m)) (sym w.1) (
+        h.reading.directory,
+        record {
+          name = e.1;
+          before = h.read;
+          behind = rest ++ behind;
+          parts = listed;
+          again = sym (h.named e.1) ∙ w.2;
+        },
+      ))
   part_fault (RootListed d) w =
       subst (λ x. IsTreeFaultOf c (RootListed x)) (sym w.0) (e.1, subst (Lists c dir e.1) w.1 (lists w.2))
   part_fault (Unused d n) w =
@@ -73,7 +85,8 @@ module _ (c : Content) (old walk : Walk) (names : Names) (dir : ℕ) (all left r
         apart = λ parents named.
             let found = child-answer rows reached.tree.unique dir e.1 (Some n)
             (record { row = row.value; there = row.is; below = w.2; hangs = parents; named = named }) in
-            let none = reached.later dir h.reading.apart e.1 ∙ ap (number_in e.1) (so_far-here dir h.read) ∙ no_name w.3 in
+            let none = reached.later dir h.reading.apart e.1 ∙ ap (number_in e.1) (so_far-here dir h.read)
+            ∙ no_name w.3 in
             absurd (cc);
       }
   part_fault (Unreached n) w = absurd w
@@ -84,7 +97,8 @@ module _ (c : Content) (old walk : Walk) (names : Names) (dir : ℕ) (all left r
     is = subst AreEntries first h.entries
 
     reached_dir : is_among walk.order.items dir ≡ true
-    reached_dir = subst (λ n. is_among walk.order.items n ≡ true) h.reading.next (among-place walk.order.items walk.done h.reading.within)
+    reached_dir = subst (λ n. is_among walk.order.items n ≡ true) h.reading.next
+        (among-place walk.order.items walk.done h.reading.within)
 
     same_done : done_of new ≡ done_of walk
     same_done =
@@ -97,14 +111,16 @@ module _ (c : Content) (old walk : Walk) (names : Names) (dir : ℕ) (all left r
         let f = there_of (map.get c e.0) w.used in
         let one = entered c walk.order.items (done_of walk) dir h.read rows h.reading.reaches.1
         h.reading.directory reached_dir h.reading.apart e f.value f.is
-        ((h.reading.files e.0 f.value f.is).numbered w.below) w.below w.new_number (no_name w.new_name) (lists w.new_name) in
+        ((h.reading.files e.0 f.value f.is).numbered w.below) w.below w.new_number (no_name w.new_name)
+        (lists w.new_name) in
         subst (λ ns. Reaches c ns (done_of new) dir (h.read ++ e ∷ [])) (sym w.order)
         (subst (λ ns. Reaches c (walk.order.items ++ e.0 ∷ []) ns dir (h.read ++ e ∷ [])) (sym same_done) (_, one))
 
     within : new.done < length new.order.items
     within =
         let inside = h.reading.within in
-        let long : length new.order.items ≡ length walk.order.items + 1 = ap length w.order ∙ length-append walk.order.items (e.0 ∷ []) in
+        let long : length new.order.items ≡ length walk.order.items + 1 = ap length w.order
+        ∙ length-append walk.order.items (e.0 ∷ []) in
         let same = w.done in
         omega arith
 

@@ -16,7 +16,8 @@ use Rattle.lfs_calls.specs.Volumes.{HasWorld}
 use Rattle.lfs_calls.proofs.ListedNames.{lists_child, number-child}
 use Rattle.lfs_calls.proofs.Visible.{shown_of, stored_of}
 use Rattle.lfs_trees.specs.declared.fault.TreeFault.{TreeFault}
-use Rattle.lfs_trees.specs.declared.fault.TreeFault.TheVariants.{Root, Reserved, Length, Block, NameTwice, RootListed, Unused, NumberTwice, Unreached, Memory}
+use Rattle.lfs_trees.specs.declared.fault.TreeFault.TheVariants.{Root, Reserved, Length, Block, NameTwice, RootListed}
+use Rattle.lfs_trees.specs.declared.fault.TreeFault.TheVariants.{Unused, NumberTwice, Unreached, Memory}
 use Rattle.lfs_trees.specs.Faults.{Leads, begins, goes, IsTreeFaultOf}
 use Rattle.lfs_trees.proofs.Listing.{again_twice}
 
@@ -39,7 +40,8 @@ module _ (c : Content) (w : World) (shows : Shows c w) (tree : IsTree w.rows) wh
       record {
         directory = directory;
         listed = number-child c w shows r.parent directory r.name
-            ∙ child-answer w.rows tree.unique r.parent r.name (Some n) (record { row = r; there = there; below = below; hangs = refl; named = refl });
+            ∙ child-answer w.rows tree.unique r.parent r.name (Some n)
+            (record { row = r; there = there; below = below; hangs = refl; named = refl });
       }
 
   -- names lead to each row
@@ -83,7 +85,8 @@ module _ (c : Content) (w : World) (shows : Shows c w) (tree : IsTree w.rows) wh
       let a = hangs h.one h.one_name n h.first in
       let b = hangs h.other h.other_name n h.second in
       let same : a.row ≡ b.row = (let x = a.there in let y = b.there in cc) in
-      h.apart (sym a.hangs ∙ ap (λ (r : Row). r.parent) same ∙ b.hangs) (sym a.named ∙ ap (λ (r : Row). r.name) same ∙ b.named)
+      h.apart (sym a.hangs ∙ ap (λ (r : Row). r.parent) same ∙ b.hangs) (sym a.named ∙ ap (λ (r : Row). r.name) same
+      ∙ b.named)
   wrong (Unreached n) h real =
       let f = there_of (map.get c n) h.0 in
       let row = shown_of c w shows n f.value f.is in
@@ -92,5 +95,6 @@ module _ (c : Content) (w : World) (shows : Shows c w) (tree : IsTree w.rows) wh
   wrong Memory h real = real refl
 
 -- where a content has a fault, it shows no tree
-pub no_world : (s : StoreState) (fault : TreeFault) → IsTreeFaultOf s.content fault → (fault ≡ Memory → ⊥) → HasWorld s → ⊥
+pub no_world : (s : StoreState) (fault : TreeFault) → IsTreeFaultOf s.content fault → (fault ≡ Memory → ⊥) → HasWorld s
+    → ⊥
 no_world s fault h real world = wrong s.content world.0 world.1.shows world.1.tree fault h real

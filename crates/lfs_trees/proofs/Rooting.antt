@@ -58,9 +58,11 @@ module _ (c : Content) (f : File) (stored : map.get c root ≡ Some f) (kind : f
       tree = one_row;
       reached = λ n. ⊎_elim
           (λ same. subst (λ k. is_some (map.get rows k) ≡ is_among (root ∷ []) k) (sym same) (ap is_some here))
-          (λ other. ap is_some (get-insert_other map.empty root row n other ∙ map.get-empty _ n) ∙ sym (ap (λ b. b || false) (ne_eqb n root other)))
+          (λ other. ap is_some (get-insert_other map.empty root row n other ∙ map.get-empty _ n)
+          ∙ sym (ap (λ b. b || false) (ne_eqb n root other)))
           (cases_eq n root);
-      shown = each (λ n r. IsSomeAnd (map.get c n) (λ g. visible g ≡ r.file)) (is_some_and (λ g. visible g ≡ visible f) stored refl);
+      shown = each (λ n r. IsSomeAnd (map.get c n) (λ g. visible g ≡ r.file))
+          (is_some_and (λ g. visible g ≡ visible f) stored refl);
       listed = λ n r there apart. absurd (apart (alone n r there));
       complete = λ d among. absurd (cc);
       later = λ d none name. child-answer rows one_row.unique d name None (childless d name)

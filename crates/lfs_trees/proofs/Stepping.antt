@@ -1,5 +1,6 @@
 -- A walk from number to number.
-use Rattle.std.proofs.Common.{◌≡◌, ◌+◌, ◌<◌, ◌≤◌, ℕ, false, List, [], ◌∷◌, ◌++◌, length, take, get_or, None, Some, refl, sym, ap, subst, ◌∙◌, ⊎_elim}
+use Rattle.std.proofs.Common.{◌≡◌, ◌+◌, ◌<◌, ◌≤◌, ℕ, false, List, [], ◌∷◌, ◌++◌, length, take, get_or, None, Some, refl}
+use Rattle.std.proofs.Common.{sym, ap, subst, ◌∙◌, ⊎_elim}
 use Rattle.std.specs.Prelude.{slice_get}
 use Rattle.std.proofs.lemmas.Bool.{cases_lt}
 use Rattle.std.proofs.lemmas.List.{take_all}
@@ -21,7 +22,8 @@ use Rattle.lfs_trees.proofs.Turning.{pass_directory, pass_file, turn}
 pub stands_first : (c : Content) (w : Walk) → IsDirectoryAt c root → w.order.items ≡ root ∷ [] → w.done ≡ 0 → Stands c w
 stands_first c w directory alone none =
     let before : done_of w ≡ [] = ap (λ k. take k w.order.items) none in
-    subst (λ ns. Reaches c ns (done_of w) 0 []) (sym alone) (subst (λ ns. Reaches c (root ∷ []) ns 0 []) (sym before) (reaches_root c directory))
+    subst (λ ns. Reaches c ns (done_of w) 0 []) (sym alone)
+    (subst (λ ns. Reaches c (root ∷ []) ns 0 []) (sym before) (reaches_root c directory))
 
 -- where no number comes next, all were read
 pub all_read : (c : Content) (w : Walk) → slice_get w.order.items w.done ≡ None → Stands c w → HasRead c w
@@ -33,7 +35,8 @@ all_read c w none stands =
     subst (λ ns. Reaches c w.order.items ns 0 []) (take_all w.done w.order.items past) stands
 
 -- a walk that reads a directory began to read it
-pub from_here : (c : Content) (old new : Walk) (dir : ℕ) (es : List Entry) → IsReading c old new dir es → IsReading c new new dir es
+pub from_here : (c : Content) (old new : Walk) (dir : ℕ) (es : List Entry) → IsReading c old new dir es
+    → IsReading c new new dir es
 from_here c old new dir es h = record {
   bounded = h.bounded;
   files = h.files;
@@ -63,7 +66,8 @@ further c old mid new dir es fs h k = record {
   numbers = k.numbers ∙ h.numbers;
 }
 
-module _ (c : Content) (w : Walk) (number : ℕ) (stands : Stands c w) (next : slice_get w.order.items w.done ≡ Some number) where
+module _ (c : Content) (w : Walk) (number : ℕ) (stands : Stands c w) (next : slice_get w.order.items w.done
+    ≡ Some number) where
   inside : w.done < length w.order.items
   inside = slice_get_within w.order.items w.done number next
 
@@ -78,7 +82,8 @@ module _ (c : Content) (w : Walk) (number : ℕ) (stands : Stands c w) (next : s
     directory = directory;
     within = inside;
     next = here;
-    apart = subst (λ n. is_among (done_of w) n ≡ false) here (among-before w.order.items w.done w.marked.distinct inside);
+    apart = subst (λ n. is_among (done_of w) n ≡ false) here
+        (among-before w.order.items w.done w.marked.distinct inside);
     entries = tt;
     reaches = turn c w.order.items (done_of w) 0 number stands;
     done = refl;
@@ -86,26 +91,33 @@ module _ (c : Content) (w : Walk) (number : ℕ) (stands : Stands c w) (next : s
   }
 
   -- what comes next and is no directory is passed by
-  pub passes_file : (new : Walk) → (IsDirectoryAt c number → ⊥) → new.done ≡ w.done + 1 → new.order.items ≡ w.order.items
+  pub passes_file : (new : Walk) → (IsDirectoryAt c number → ⊥) → new.done ≡ w.done + 1 → new.order.items
+      ≡ w.order.items
       → length new.marks.items ≡ length w.marks.items → Steps c w new
   passes_file new none done order numbers = record {
     stands =
         let before : done_of new ≡ done_of w ++ number ∷ [] =
-        ap (λ k. take k new.order.items) done ∙ ap (take (w.done + 1)) order ∙ read_more w.order.items w.done number inside here in
-        subst (λ ns. Reaches c ns (done_of new) 0 []) (sym order) (subst (λ ns. Reaches c w.order.items ns 0 []) (sym before)
+        ap (λ k. take k new.order.items) done ∙ ap (take (w.done + 1)) order
+        ∙ read_more w.order.items w.done number inside here in
+        subst (λ ns. Reaches c ns (done_of new) 0 []) (sym order)
+        (subst (λ ns. Reaches c w.order.items ns 0 []) (sym before)
         (pass_file c w.order.items (done_of w) number none stands));
     done = done;
     numbers = numbers;
   }
 
 -- a directory of which all was read is passed by
-pub passes_directory : (c : Content) (old w new : Walk) (dir : ℕ) → IsReading c old w dir (all_entries (bytes_of c dir)) → AreBlocks (bytes_of c dir)
-    → new.done ≡ w.done + 1 → new.order.items ≡ w.order.items → length new.marks.items ≡ length w.marks.items → Steps c old new
+pub passes_directory : (c : Content) (old w new : Walk) (dir : ℕ) → IsReading c old w dir (all_entries (bytes_of c dir))
+    → AreBlocks (bytes_of c dir)
+    → new.done ≡ w.done + 1 → new.order.items ≡ w.order.items → length new.marks.items ≡ length w.marks.items
+    → Steps c old new
 passes_directory c old w new dir h blocks done order numbers = record {
   stands =
       let before : done_of new ≡ done_of w ++ dir ∷ [] =
-      ap (λ k. take k new.order.items) done ∙ ap (take (w.done + 1)) order ∙ read_more w.order.items w.done dir h.within h.next in
-      subst (λ ns. Reaches c ns (done_of new) 0 []) (sym order) (subst (λ ns. Reaches c w.order.items ns 0 []) (sym before)
+      ap (λ k. take k new.order.items) done ∙ ap (take (w.done + 1)) order
+      ∙ read_more w.order.items w.done dir h.within h.next in
+      subst (λ ns. Reaches c ns (done_of new) 0 []) (sym order)
+      (subst (λ ns. Reaches c w.order.items ns 0 []) (sym before)
       (pass_directory c w.order.items (done_of w) dir h.apart blocks h.entries h.reaches));
   done = done ∙ ap (λ n. n + 1) h.done;
   numbers = numbers ∙ h.numbers;

@@ -30,7 +30,8 @@ so_far-none dir d = none (nat_eq d dir)
     none false = refl
 
 -- a walk between two numbers may begin to read any
-pub turn : (c : Content) (order before : List ℕ) (old new : ℕ) → Reaches c order before old [] → Reaches c order before new []
+pub turn : (c : Content) (order before : List ℕ) (old new : ℕ) → Reaches c order before old []
+    → Reaches c order before new []
 turn c order before old new (rows, h) = (
   rows,
   record {
@@ -51,7 +52,8 @@ module _ (c : Content) (order before : List ℕ) (dir : ℕ) where
   not_here : (d : ℕ) → is_among (before ++ dir ∷ []) d ≡ false → (d ≡ dir → ⊥)
   not_here d none same =
       let yes = among-same before dir in
-      let no : is_among (before ++ dir ∷ []) dir ≡ false = subst (λ k. is_among (before ++ dir ∷ []) k ≡ false) same none in
+      let no : is_among (before ++ dir ∷ []) dir
+      ≡ false = subst (λ k. is_among (before ++ dir ∷ []) k ≡ false) same none in
       absurd (cc)
 
   -- what is no directory lists nothing
@@ -64,7 +66,8 @@ module _ (c : Content) (order before : List ℕ) (dir : ℕ) where
       shown = h.shown;
       listed = h.listed;
       complete = λ d among f stored kind. ⊎_elim
-          (λ same. absurd (none (is_some_and (λ (x : File). x.kind ≡ Directory) (ap (map.get c) (sym same) ∙ stored) kind)))
+          (λ same. absurd (none (is_some_and (λ (x : File). x.kind ≡ Directory) (ap (map.get c) (sym same)
+          ∙ stored) kind)))
           (λ apart. h.complete d (among_more d among apart) f stored kind)
           (cases_eq d dir);
       later = λ d none name. h.later d (sym (among-other before dir d (not_here d none)) ∙ none) name;
@@ -72,7 +75,8 @@ module _ (c : Content) (order before : List ℕ) (dir : ℕ) where
   )
 
   -- a directory of which all entries were read is complete
-  pub pass_directory : is_among before dir ≡ false → AreBlocks (bytes_of c dir) → AreEntries (all_entries (bytes_of c dir))
+  pub pass_directory : is_among before dir ≡ false → AreBlocks (bytes_of c dir)
+      → AreEntries (all_entries (bytes_of c dir))
       → Reaches c order before dir (all_entries (bytes_of c dir)) → Reaches c order (before ++ dir ∷ []) 0 []
   pass_directory apart blocks entries (rows, h) = (
     rows,
@@ -87,7 +91,8 @@ module _ (c : Content) (order before : List ℕ) (dir : ℕ) where
           subst (ListsRows rows d) bytes (subst (λ k. ListsRows rows k (bytes_of c dir)) (sym same) (record {
             blocks = blocks;
             distinct = entries;
-            names = λ name. sym (h.later dir apart name ∙ ap (number_in name) (so_far-here dir (all_entries (bytes_of c dir))));
+            names = λ name. sym (h.later dir apart name
+                ∙ ap (number_in name) (so_far-here dir (all_entries (bytes_of c dir))));
           })))
           (λ other. h.complete d (among_more d among other) f stored kind)
           (cases_eq d dir);

@@ -11,7 +11,8 @@ use Rattle.lfs_dirs.specs.Reading.{entries_of}
 use Rattle.lfs_calls.specs.Content.{IsDirectoryAt, all_entries, block_at}
 use Rattle.lfs_calls.specs.Names.{Lists}
 use Rattle.lfs_trees.specs.declared.fault.TreeFault.{TreeFault}
-use Rattle.lfs_trees.specs.declared.fault.TreeFault.TheVariants.{Root, Reserved, Length, Block, NameTwice, RootListed, Unused, NumberTwice, Unreached, Memory}
+use Rattle.lfs_trees.specs.declared.fault.TreeFault.TheVariants.{Root, Reserved, Length, Block, NameTwice, RootListed}
+use Rattle.lfs_trees.specs.declared.fault.TreeFault.TheVariants.{Unused, NumberTwice, Unreached, Memory}
 
 -- each number in use is below this one
 abbrev pub IsBelow : ℕ → Content → Type 0
@@ -51,8 +52,10 @@ IsTreeFaultOf c (Reserved number) = IsSome (map.get c number) × (number ≢ roo
 IsTreeFaultOf c (Length number) = IsSomeAnd (map.get c number) (λ f. IsLength f.kind (length f.bytes) → ⊥)
 IsTreeFaultOf c (Block directory index) =
     IsDirectoryAt c directory × (index < length (bytes_of c directory) / BLOCK_SIZE)
-    × (IsDirectoryBlock (block_at (bytes_of c directory) index) (entries_of (block_at (bytes_of c directory) index)) → ⊥)
-IsTreeFaultOf c (NameTwice directory number) = IsDirectoryAt c directory × StandsAgain (all_entries (bytes_of c directory)) number
+    × (IsDirectoryBlock (block_at (bytes_of c directory) index) (entries_of (block_at (bytes_of c directory) index))
+    → ⊥)
+IsTreeFaultOf c (NameTwice directory number) = IsDirectoryAt c directory
+    × StandsAgain (all_entries (bytes_of c directory)) number
 IsTreeFaultOf c (RootListed directory) = IsListed c directory root
 IsTreeFaultOf c (Unused directory number) = IsListed c directory number × (map.get c number ≡ None)
 IsTreeFaultOf c (NumberTwice number) = IsListedTwice c number

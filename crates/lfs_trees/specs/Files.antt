@@ -10,7 +10,8 @@ use Rattle.lfs_types.specs.Stored.{bytes_of}
 use Rattle.lfs_types.specs.Tree.{Content, File, root}
 use Rattle.lfs_calls.specs.Content.{IsDirectoryAt}
 use Rattle.lfs_trees.specs.declared.fault.TreeFault.{TreeFault}
-use Rattle.lfs_trees.specs.declared.fault.TreeFault.TheVariants.{Root, Reserved, Length, Block, NameTwice, RootListed, Unused, NumberTwice, Unreached, Memory}
+use Rattle.lfs_trees.specs.declared.fault.TreeFault.TheVariants.{Root, Reserved, Length, Block, NameTwice, RootListed}
+use Rattle.lfs_trees.specs.declared.fault.TreeFault.TheVariants.{Unused, NumberTwice, Unreached, Memory}
 
 -- a file of this kind with so many bytes may have this number
 pub record MayStand (number : ℕ) (kind : Kind) (size : ℕ) : Type 0 where

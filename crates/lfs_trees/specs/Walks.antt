@@ -1,5 +1,6 @@
 -- A walk from the root along names: the rows that it reached, as a tree.
-use Rattle.std.specs.Prelude.{◌≡◌, ◌≢◌, ℕ, ◌+◌, ◌<◌, Bool, true, false, cond, ◌||◌, nat_eq, List, [], ◌∷◌, ◌++◌, length, take, slice_index, None, Some, IsSome, IsSomeAnd, is_some, bytes_eq}
+use Rattle.std.specs.Prelude.{◌≡◌, ◌≢◌, ℕ, ◌+◌, ◌<◌, Bool, true, false, cond, ◌||◌, nat_eq, List, [], ◌∷◌, ◌++◌, length}
+use Rattle.std.specs.Prelude.{take, slice_index, None, Some, IsSome, IsSomeAnd, is_some, bytes_eq}
 use Rattle.std.specs.FinMap as map
 use Rattle.std.specs.List.{list_any}
 use Rattle.std.specs.Global.{Vec}
@@ -13,7 +14,8 @@ use Rattle.lfs_trees.specs.Faults.{IsBelow}
 use Rattle.lfs_trees.specs.Files.{AreFiles}
 use Rattle.lfs_trees.specs.Marks.{is_among}
 use Rattle.lfs_trees.specs.declared.fault.TreeFault.{TreeFault}
-use Rattle.lfs_trees.specs.declared.fault.TreeFault.TheVariants.{Root, Reserved, Length, Block, NameTwice, RootListed, Unused, NumberTwice, Unreached, Memory}
+use Rattle.lfs_trees.specs.declared.fault.TreeFault.TheVariants.{Root, Reserved, Length, Block, NameTwice, RootListed}
+use Rattle.lfs_trees.specs.declared.fault.TreeFault.TheVariants.{Unused, NumberTwice, Unreached, Memory}
 use Rattle.lfs_trees.specs.declared.names.Names.{Names}
 use Rattle.lfs_trees.specs.declared.walk.Walk.{Walk}
 
@@ -33,15 +35,18 @@ HasNames names es = (name : List ℕ) → has names name ≡ is_some (number_in 
 abbrev pub so_far : ℕ → List Entry → ℕ → List Entry
 so_far dir es d = cond (nat_eq d dir) es []
 
--- Rows that were reached in this order, of which the first were read, and of one directory these entries: they are a tree;
+-- Rows that were reached in this order, of which the first were read, and of one directory these entries: they are a
+-- tree;
 -- each is a file's, which a directory lists there; what was read lists what hangs in it; nothing else hangs anywhere.
 pub record IsReached (c : Content) (order before : List ℕ) (dir : ℕ) (es : List Entry) (rows : Rows) : Type 0 where
   pub tree : IsTree rows
   pub reached : (n : ℕ) → is_some (map.get rows n) ≡ is_among order n
   pub shown : (n : ℕ) (r : Row) → map.get rows n ≡ Some r → IsSomeAnd (map.get c n) (λ f. visible f ≡ r.file)
   pub listed : (n : ℕ) (r : Row) → map.get rows n ≡ Some r → n ≢ root → Lists c r.parent r.name n
-  pub complete : (d : ℕ) → is_among before d ≡ true → (f : File) → map.get c d ≡ Some f → f.kind ≡ Directory → ListsRows rows d f.bytes
-  pub later : (d : ℕ) → is_among before d ≡ false → (name : List ℕ) → child rows d name ≡ number_in name (so_far dir es d)
+  pub complete : (d : ℕ) → is_among before d ≡ true → (f : File) → map.get c d ≡ Some f → f.kind ≡ Directory
+      → ListsRows rows d f.bytes
+  pub later : (d : ℕ) → is_among before d ≡ false → (name : List ℕ) → child rows d name
+      ≡ number_in name (so_far dir es d)
 
 -- there are such rows
 abbrev pub Reaches : Content → List ℕ → List ℕ → ℕ → List Entry → Type 0
@@ -111,6 +116,7 @@ IsEntryFault c w names dir e (Block d index) = ⊥
 IsEntryFault c w names dir e (NameTwice d n) = (d ≡ dir) × (n ≡ e.0) × (has names e.1 ≡ true)
 IsEntryFault c w names dir e (RootListed d) = (d ≡ dir) × (e.0 ≡ root) × (has names e.1 ≡ false)
 IsEntryFault c w names dir e (Unused d n) = (d ≡ dir) × (n ≡ e.0) × (map.get c n ≡ None) × (has names e.1 ≡ false)
-IsEntryFault c w names dir e (NumberTwice n) = (n ≡ e.0) × (is_among w.order.items n ≡ true) × (n ≢ root) × (has names e.1 ≡ false)
+IsEntryFault c w names dir e (NumberTwice n) = (n ≡ e.0) × (is_among w.order.items n ≡ true) × (n ≢ root)
+    × (has names e.1 ≡ false)
 IsEntryFault c w names dir e (Unreached n) = ⊥
 IsEntryFault c w names dir e Memory = Unit {0}

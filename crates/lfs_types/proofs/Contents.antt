@@ -13,7 +13,8 @@ pub get-content_with : (k : ℕ) (o : Option File) (c : Content) → map.get c k
 get-content_with k None c none = none
 get-content_with k (Some f) c none = get-insert_same c k f
 
-pub get-content_with_apart : (k q : ℕ) (o : Option File) (c : Content) → q ≢ k → map.get (content_with k o c) q ≡ map.get c q
+pub get-content_with_apart : (k q : ℕ) (o : Option File) (c : Content) → q ≢ k → map.get (content_with k o c) q
+    ≡ map.get c q
 get-content_with_apart k q None c apart = refl
 get-content_with_apart k q (Some f) c apart = get-insert_other c k f q apart
 

@@ -1,5 +1,6 @@
 -- Names read one after another: the first of them has no fault.
-use Rattle.std.proofs.Common.{◌≤◌, ◌+◌, length, arith, append_assoc, ◌≡◌, ◌++◌, ◌∷◌, [], List, ℕ, None, Some, Option, ap, sym, subst, ◌∙◌}
+use Rattle.std.proofs.Common.{◌≤◌, ◌+◌, length, arith, append_assoc, ◌≡◌, ◌++◌, ◌∷◌, [], List, ℕ, None, Some, Option}
+use Rattle.std.proofs.Common.{ap, sym, subst, ◌∙◌}
 use Rattle.lfs_types.specs.Naming.{name_fault}
 use Rattle.lfs_types.specs.Paths.{StartsWell, IsCut, names_fault, or_later, parts}
 
@@ -8,16 +9,19 @@ abbrev pub StartsWellOrNone : List (List ℕ) → Type 0
 StartsWellOrNone [] = Unit {0}
 StartsWellOrNone (name ∷ names) = name_fault name ≡ None
 
-pub starts_append : (names : List (List ℕ)) (name : List ℕ) → StartsWellOrNone names → name_fault name ≡ None → StartsWellOrNone (names ++ name ∷ [])
+pub starts_append : (names : List (List ℕ)) (name : List ℕ) → StartsWellOrNone names → name_fault name ≡ None
+    → StartsWellOrNone (names ++ name ∷ [])
 starts_append [] name before fine = fine
 starts_append (first ∷ names) name before fine = before
 
-starts_at : (names : List (List ℕ)) (name : List ℕ) (rest : List (List ℕ)) → StartsWellOrNone names → name_fault name ≡ None → StartsWell (names ++ name ∷ rest)
+starts_at : (names : List (List ℕ)) (name : List ℕ) (rest : List (List ℕ)) → StartsWellOrNone names → name_fault name
+    ≡ None → StartsWell (names ++ name ∷ rest)
 starts_at [] name rest before fine = fine
 starts_at (first ∷ names) name rest before fine = before
 
 -- names that go on behind those read so far with one that has no fault start well
-pub starts_well : (all names : List (List ℕ)) (text part : List ℕ) (behind : Option (List ℕ)) → all ≡ names ++ parts text → IsCut text part behind
+pub starts_well : (all names : List (List ℕ)) (text part : List ℕ) (behind : Option (List ℕ)) → all ≡ names
+    ++ parts text → IsCut text part behind
     → StartsWellOrNone names → name_fault part ≡ None → StartsWell all
 starts_well all names text part None same cut before fine =
     subst StartsWell (sym (same ∙ ap (λ ps. names ++ ps) cut)) (starts_at names part [] before fine)
@@ -31,13 +35,17 @@ pub record Reading (text rest : List ℕ) (names : List (List ℕ)) (component :
   pub bounded : component + length rest ≤ length text + 1
 
 -- one more name is read
-pub reads_on : (text rest part behind : List ℕ) (names more : List (List ℕ)) (k : ℕ) → Reading text rest names k × StartsWellOrNone names
-    → IsCut rest part (Some behind) → name_fault part ≡ None → more ≡ names ++ part ∷ [] → Reading text behind more (k + 1) × StartsWellOrNone more
+pub reads_on : (text rest part behind : List ℕ) (names more : List (List ℕ)) (k : ℕ) → Reading text rest names k
+    × StartsWellOrNone names
+    → IsCut rest part (Some behind) → name_fault part ≡ None → more ≡ names ++ part ∷ []
+    → Reading text behind more (k + 1) × StartsWellOrNone more
 reads_on text rest part behind names more k (r, before) cut fine same = (
   record {
-    all = r.all ∙ ap (λ ps. names ++ ps) cut.0 ∙ sym (append_assoc names (part ∷ []) (parts behind)) ∙ ap (λ xs. xs ++ parts behind) (sym same);
+    all = r.all ∙ ap (λ ps. names ++ ps) cut.0 ∙ sym (append_assoc names (part ∷ []) (parts behind))
+        ∙ ap (λ xs. xs ++ parts behind) (sym same);
     faults = r.faults ∙ ap (names_fault k) cut.0 ∙ later fine;
-    bounded = let cutting : length part + 1 + length behind ≡ length rest = cut.1 in let far : k + length rest ≤ length text + 1 = r.bounded in omega arith;
+    bounded = let cutting : length part + 1 + length behind ≡ length rest = cut.1 in let far : k
+        + length rest ≤ length text + 1 = r.bounded in omega arith;
   },
   subst StartsWellOrNone (sym same) (starts_append names part before fine),
 )

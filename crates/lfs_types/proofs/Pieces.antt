@@ -1,5 +1,6 @@
 -- Pieces of a list into which others were put.
-use Rattle.std.proofs.Common.{◌≡◌, ℕ, ◌+◌, ◌-◌, ◌<◌, ◌≤◌, List, [], ◌∷◌, ◌++◌, length, take, drop, sym, ap, subst, ◌∙◌, arith, length-append, length-take, length-drop, append_assoc}
+use Rattle.std.proofs.Common.{◌≡◌, ℕ, ◌+◌, ◌-◌, ◌<◌, ◌≤◌, List, [], ◌∷◌, ◌++◌, length, take, drop, sym, ap, subst, ◌∙◌}
+use Rattle.std.proofs.Common.{arith, length-append, length-take, length-drop, append_assoc}
 use Rattle.std.proofs.Math.ListN.{length-replicate}
 use Rattle.std.proofs.lemmas.List.{take-append-drop}
 use Rattle.std.proofs.lemmas.Slice.{drop-append-drop}
@@ -16,7 +17,8 @@ abbrev pub put_over : List ℕ → ℕ → List ℕ → List ℕ
 put_over old start new = (take start old ++ new) ++ drop (start + length new) old
 
 -- bytes put within the old ones or at their end are put over them
-pub splice-within : (old : List ℕ) (start b : ℕ) (bs : List ℕ) → start ≤ length old → splice old start (b ∷ bs) ≡ put_over old start (b ∷ bs)
+pub splice-within : (old : List ℕ) (start b : ℕ) (bs : List ℕ) → start ≤ length old → splice old start (b ∷ bs)
+    ≡ put_over old start (b ∷ bs)
 splice-within old start b bs h = let none : start - length old ≡ 0 = omega arith in rw none (simp append_assoc)
 
 module _ (old : List ℕ) (start : ℕ) (new : List ℕ) (within : start ≤ length old) where
@@ -29,19 +31,24 @@ module _ (old : List ℕ) (start : ℕ) (new : List ℕ) (within : start ≤ len
   piece-before n j h =
       let fits : j + n ≤ length (take start old) = omega (arith, front_length) in
       ap (λ x. take n (drop j x)) (append_assoc (take start old) new _) ∙ piece-front n j (take start old) _ fits
-      ∙ sym (piece-front n j (take start old) (drop start old) fits) ∙ ap (λ x. take n (drop j x)) (take-append-drop start old)
+      ∙ sym (piece-front n j (take start old) (drop start old) fits)
+      ∙ ap (λ x. take n (drop j x)) (take-append-drop start old)
 
   -- the new bytes stand where they were put
   pub piece-here : take (length new) (drop start (put_over old start new)) ≡ new
   piece-here =
-      let seam : drop start (take start old ++ (new ++ drop (start + length new) old)) ≡ new ++ drop (start + length new) old =
-      subst (λ k. drop k (take start old ++ (new ++ drop (start + length new) old)) ≡ new ++ drop (start + length new) old) front_length (drop-append_seam (take start old) _) in
-      ap (λ x. take (length new) (drop start x)) (append_assoc (take start old) new _) ∙ ap (take (length new)) seam ∙ take-append_seam new _
+      let seam : drop start (take start old ++ (new ++ drop (start + length new) old)) ≡ new
+      ++ drop (start + length new) old =
+      subst (λ k. drop k (take start old ++ (new ++ drop (start + length new) old)) ≡ new
+      ++ drop (start + length new) old) front_length (drop-append_seam (take start old) _) in
+      ap (λ x. take (length new) (drop start x)) (append_assoc (take start old) new _) ∙ ap (take (length new)) seam
+      ∙ take-append_seam new _
 
   -- a piece behind them is the old one
   pub piece-behind : (n j : ℕ) → start + length new ≤ j → take n (drop j (put_over old start new)) ≡ take n (drop j old)
   piece-behind n j h =
-      let ends : length (take start old ++ new) ≡ start + length new = simp length-append (omega (arith, front_length)) in
+      let ends : length (take start old ++ new) ≡ start
+      + length new = simp length-append (omega (arith, front_length)) in
       ap (take n) (drop-append-drop (start + length new) old (take start old ++ new) j h ends)
 
   -- the length of the whole
@@ -49,7 +56,8 @@ module _ (old : List ℕ) (start : ℕ) (new : List ℕ) (within : start ≤ len
   length-put_over = simp (length-append, length-drop) (omega (arith, front_length))
 
 -- some bytes put within the old ones or at their end are put over them
-pub splice-put_over : (old : List ℕ) (start : ℕ) (new : List ℕ) → 0 < length new → start ≤ length old → splice old start new ≡ put_over old start new
+pub splice-put_over : (old : List ℕ) (start : ℕ) (new : List ℕ) → 0 < length new → start ≤ length old
+    → splice old start new ≡ put_over old start new
 splice-put_over old start [] some h = absurd (omega arith)
 splice-put_over old start (b ∷ bs) some h = splice-within old start b bs h
 

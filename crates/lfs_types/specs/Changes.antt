@@ -18,7 +18,8 @@ abbrev pub changed : Change → Content → Content
 changed (Make ino attrs) c = map.insert c ino (file_of attrs [])
 changed (Remove ino) c = map.remove c ino
 changed (SetAttrs ino attrs) c = changed_at (map.get c ino) ino (λ f. file_of attrs f.bytes) c
-changed (Put ino off bytes) c = changed_at (map.get c ino) ino (λ f. record f { bytes = splice f.bytes off bytes.now }) c
+changed (Put ino off bytes) c = changed_at (map.get c ino) ino
+    (λ f. record f { bytes = splice f.bytes off bytes.now }) c
 changed (SetLength ino len) c = changed_at (map.get c ino) ino (λ f. record f { bytes = resized f.bytes len }) c
 
 -- the content after changes, in order
@@ -36,7 +37,8 @@ abbrev pub CanChange : ℕ → Change → Content → Type 0
 CanChange numbers (Make ino attrs) c = (4 ≤ ino) × (ino < numbers) × (map.get c ino ≡ None)
 CanChange numbers (Remove ino) c = IsSome (map.get c ino)
 CanChange numbers (SetAttrs ino attrs) c = IsSomeAnd (map.get c ino) (λ f. f.kind ≡ attrs.kind)
-CanChange numbers (Put ino off bytes) c = IsSomeAnd (map.get c ino) (λ f. IsLength f.kind (length (splice f.bytes off bytes.now)))
+CanChange numbers (Put ino off bytes) c =
+    IsSomeAnd (map.get c ino) (λ f. IsLength f.kind (length (splice f.bytes off bytes.now)))
 CanChange numbers (SetLength ino len) c = IsSomeAnd (map.get c ino) (λ f. IsLength f.kind len)
 
 -- changes may be asked for, one after another

@@ -1,5 +1,6 @@
 -- Names in a directory.
-use Rattle.std.specs.Prelude.{◌≡◌, ℕ, ◌==◌, nat_lt, Bool, false, List, [], ◌∷◌, length, Option, None, Some, Result, Ok, Err, if◌then◌else◌}
+use Rattle.std.specs.Prelude.{◌≡◌, ℕ, ◌==◌, nat_lt, Bool, false, List, [], ◌∷◌, length, Option, None, Some, Result, Ok}
+use Rattle.std.specs.Prelude.{Err, if◌then◌else◌}
 use Rattle.std.specs.List.{list_any}
 use Rattle.lfs_types.specs.declared.name.BadName.{BadName}
 use Rattle.lfs_types.specs.declared.name.BadName.TheVariants.{Empty, Long, Slash, Nul, Dot, Memory}

@@ -1,9 +1,14 @@
 -- The rules in order, the code and the error number of each, and the name of each error number.
 use Rattle.std.specs.Prelude.{ℕ, List, [], ◌∷◌, codes}
 use Rattle.lfs_types.specs.declared.rule.Rule.{Rule}
-use Rattle.lfs_types.specs.declared.rule.Rule.TheVariants.{IsDirectory, GrantsSearch, NameThere, NameFree, IsNoDirectory, IsEmpty, IsNotRoot, IsNotBeneathItself, IsMutable, IsNotAppendOnly, GrantsRead, GrantsWrite, PassesSticky, IsOwner, MaySetOwner, IsSuperuser, MaySetFlags, KeepsSystemLocks, MaySetLevel, FitsFile}
+use Rattle.lfs_types.specs.declared.rule.Rule.TheVariants.{IsDirectory, GrantsSearch, NameThere, NameFree}
+use Rattle.lfs_types.specs.declared.rule.Rule.TheVariants.{IsNoDirectory, IsEmpty, IsNotRoot, IsNotBeneathItself}
+use Rattle.lfs_types.specs.declared.rule.Rule.TheVariants.{IsMutable, IsNotAppendOnly, GrantsRead, GrantsWrite}
+use Rattle.lfs_types.specs.declared.rule.Rule.TheVariants.{PassesSticky, IsOwner, MaySetOwner, IsSuperuser, MaySetFlags}
+use Rattle.lfs_types.specs.declared.rule.Rule.TheVariants.{KeepsSystemLocks, MaySetLevel, FitsFile}
 use Rattle.lfs_types.specs.declared.rule.Errno.{Errno}
-use Rattle.lfs_types.specs.declared.rule.Errno.TheVariants.{EPERM, ENOENT, EACCES, EBUSY, EEXIST, ENOTDIR, EISDIR, EINVAL, EFBIG, ENOTEMPTY}
+use Rattle.lfs_types.specs.declared.rule.Errno.TheVariants.{EPERM, ENOENT, EACCES, EBUSY, EEXIST, ENOTDIR, EISDIR}
+use Rattle.lfs_types.specs.declared.rule.Errno.TheVariants.{EINVAL, EFBIG, ENOTEMPTY}
 
 -- the rules, in the order in which they are reported
 abbrev pub rules : List Rule

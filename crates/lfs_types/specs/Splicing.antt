@@ -5,7 +5,8 @@ use Rattle.std.specs.Prelude.{ℕ, ◌+◌, ◌-◌, List, [], ◌∷◌, ◌++�
 -- them. No bytes change nothing.
 abbrev pub splice : List ℕ → ℕ → List ℕ → List ℕ
 splice old start [] = old
-splice old start (b ∷ bs) = take start old ++ replicate (start - length old) 0 ++ (b ∷ bs) ++ drop (start + length (b ∷ bs)) old
+splice old start (b ∷ bs) = take start old ++ replicate (start - length old) 0 ++ (b ∷ bs)
+    ++ drop (start + length (b ∷ bs)) old
 
 -- Bytes of which so many are kept, and zeros behind them where there are fewer.
 abbrev pub resized : List ℕ → ℕ → List ℕ

@@ -6,7 +6,8 @@ use Rattle.lfs_types.specs.Stored.{MayRefuse}
 use Rattle.lfs_types.specs.declared.store.Change.{Change}
 use Rattle.lfs_types.specs.declared.store.StoreRefusal.{StoreRefusal}
 
--- what no call changes: how many inode numbers and segments there are, and whether changes take memory and so can lack it
+-- what no call changes: how many inode numbers and segments there are, and whether changes take memory and so can lack
+-- it
 pub record Shape : Type 0 where
   pub numbers : ℕ
   pub segments : ℕ
@@ -24,7 +25,8 @@ pub record Follows (old new : StoreState) : Type 0 where
   pub shape : new.shape ≡ old.shape
 
 -- changes are made in order, all of them or none; a refusal has its cause
-pub record Applies (old : StoreState) (changes : List Change) (result : Result (Unit {0}) StoreRefusal) (new : StoreState) : Type 0 where
+pub record Applies (old : StoreState) (changes : List Change) (result : Result (Unit {0}) StoreRefusal)
+    (new : StoreState) : Type 0 where
   pub ok : OnOk result (new.content ≡ applied changes old.content)
   pub err : OnErr result (new.content ≡ old.content)
   pub refused : IfErr result (MayRefuse old.clean old.shape.can_lack_memory)

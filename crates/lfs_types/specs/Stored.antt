@@ -1,5 +1,6 @@
 -- What a store shows of its content.
-use Rattle.std.specs.Prelude.{◌≡◌, ℕ, ◌<◌, ◌≤◌, Bool, true, List, [], ◌++◌, length, take, drop, Option, None, Some, IsSome, option_map}
+use Rattle.std.specs.Prelude.{◌≡◌, ℕ, ◌<◌, ◌≤◌, Bool, true, List, [], ◌++◌, length, take, drop, Option, None, Some}
+use Rattle.std.specs.Prelude.{IsSome, option_map}
 use Rattle.std.specs.FinMap as map
 use Rattle.lfs_types.specs.Tree.{File, Content, attrs_of}
 use Rattle.lfs_types.specs.declared.attrs.Attrs.{Attrs}

@@ -56,7 +56,10 @@ fresh_root = record { kind = Directory; uid = 0; gid = 0; mode = 0o755; flags = 
 
 -- the world of a fresh volume: the root alone, at level 0
 abbrev pub opening_world : World
-opening_world = record { level = Insecure; rows = map.insert map.empty root (record { parent = root; name = []; file = fresh_root }) }
+opening_world = record {
+  level = Insecure;
+  rows = map.insert map.empty root (record { parent = root; name = []; file = fresh_root });
+}
 
 -- what the store of a fresh volume contains
 abbrev pub opening_content : Content

@@ -1,6 +1,6 @@
 //! Absolute paths.
 
-ghost use Rattle.std.specs.Prelude.{◌≡◌, ◌≤◌, length, option_copied, IfOk, IfErr, OnOk, MatchOption, false, [], ◌∷◌, ◌++◌, position, ◌==◌};
+ghost use Rattle.std.specs.Prelude.{◌≡◌, ◌≤◌, length, option_copied, IfOk, IfErr, OnOk, IsSome, IfSome, ◌↔◌, ◌<◌, ◌+◌, MatchOption, false, [], ◌∷◌, ◌++◌, position, ◌==◌};
 ghost use Rattle.lfs_types.specs.Paths.{ParsesPath, ParsesNames, IsCut, is_absolute, items_of, parts, path_text, slashed};
 
 use crate::name::{BadName, Name, clone_names};
@@ -54,7 +54,15 @@ impl Path {
         ensures parses { ParsesPath text.now result }
         ensures spelled { IfOk result (λ path. path_text path ≡ text.now) }
     {
-        let Some(behind) = behind_slash(text.as_bytes()) else {
+        Path::parse_bytes(alloc, text.as_bytes())
+    }
+
+    /// The path that these bytes spell, of any encoding or of none, or the first fault in the order of `BadPath`.
+    pub fn parse_bytes(alloc: Global, text: &[u8]) -> Result<Path, BadPath>
+        ensures parses { ParsesPath text.now result }
+        ensures spelled { IfOk result (λ path. path_text path ≡ text.now) }
+    {
+        let Some(behind) = behind_slash(text) else {
             return Err(BadPath::NotAbsolute);
         };
         if behind.len() >= PATH_MAX {
@@ -66,6 +74,15 @@ impl Path {
         }
         let names = names_of(alloc, behind)?;
         Ok(Path { names })
+    }
+
+    /// The path of these names from the root, where its text has at most 1,024 bytes.
+    pub fn from_names(names: Vec<Name>) -> Option<Path>
+        ensures fits { IsSome result ↔ (length (slashed names.items) ≤ 1024) }
+        ensures names { IfSome result (λ path. path ≡ names.items) }
+    {
+        room_behind(names.as_slice(), PATH_MAX)?;
+        Some(Path { names })
     }
 
     /// The names from the root, one for each component from 1.
@@ -106,6 +123,20 @@ impl Eq for Path {
     ghost use Rattle.std.specs.Cmp.Rules.{comparing};
 
     ghost laws = { Prim.search (comparing, rules) };
+}
+
+/// What is left of so many bytes behind names, each with a slash before it, where they fit.
+fn room_behind(names: &[Name], room: usize) -> Option<usize>
+    ensures { MatchOption result (room < length (slashed names.now))
+        (λ left. length (slashed names.now) + left ≡ room) }
+{
+    let mut left = room;
+    let mut rest = names;
+    while let Some((name, behind)) = rest.split_first() {
+        left = left.checked_sub(name.as_bytes().len() + 1)?;
+        rest = behind;
+    }
+    Some(left)
 }
 
 /// The bytes behind a slash at the front, where there is one.

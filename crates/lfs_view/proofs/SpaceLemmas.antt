@@ -1,5 +1,6 @@
 -- Sums over segments and numbers grow by one.
-use Rattle.std.proofs.Common.{◌≡◌, ℕ, suc, ◌+◌, ◌≤◌, Bool, true, false, None, Some, IsSome, IsNone, cond, if◌then◌else◌, subst, refl, sym, arith}
+use Rattle.std.proofs.Common.{◌≡◌, ℕ, suc, ◌+◌, ◌≤◌, Bool, true, false, None, Some, IsSome, IsNone, cond, if◌then◌else◌}
+use Rattle.std.proofs.Common.{subst, refl, sym, arith}
 use Rattle.lfs_ifile.specs.Tables.{place_of, row_of}
 use Rattle.lfs_ifile.specs.declared.inode.InodePlace.{InodePlace}
 use Rattle.lfs_log.specs.Parts.{live_of}
@@ -10,7 +11,8 @@ pub live_none : (p : Parts) → 0 ≡ live_below p 0
 unfolding live_below
 live_none p = refl
 
-pub live_more : (p : Parts) (n bytes : ℕ) → bytes ≡ live_below p n → bytes + live_of p.log.tables n ≡ live_below p (n + 1)
+pub live_more : (p : Parts) (n bytes : ℕ) → bytes ≡ live_below p n → bytes + live_of p.log.tables n
+    ≡ live_below p (n + 1)
 unfolding live_below
 live_more p n bytes is =
     let one : n + 1 ≡ suc n = omega arith in
@@ -20,7 +22,8 @@ pub used_none : (p : Parts) → 0 ≡ used_below p 0
 unfolding used_below
 used_none p = refl
 
-pub used_more : (p : Parts) (n count one : ℕ) → count ≡ used_below p n → one ≡ one_used p n → count + one ≡ used_below p (n + 1)
+pub used_more : (p : Parts) (n count one : ℕ) → count ≡ used_below p n → one ≡ one_used p n → count + one
+    ≡ used_below p (n + 1)
 unfolding used_below
 used_more p n count one is here =
     let next : n + 1 ≡ suc n = omega arith in
@@ -35,7 +38,8 @@ shown-used : (used : Bool) (place : InodePlace) → IsSome (if used then Some pl
 shown-used true place there = refl
 shown-used false place there = absurd (cc)
 
-shown-unused : (used : Bool) (place : InodePlace) → IsNone (if used then Some place else None) → cond {A = ℕ} used 1 0 ≡ 0
+shown-unused : (used : Bool) (place : InodePlace) → IsNone (if used then Some place else None) → cond {A = ℕ} used 1 0
+    ≡ 0
 shown-unused true place there = absurd (cc)
 shown-unused false place there = refl
 

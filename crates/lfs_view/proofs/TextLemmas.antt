@@ -1,5 +1,6 @@
 -- Texts grow by their lines and signs.
-use Rattle.std.proofs.Common.{◌≡◌, ℕ, suc, ◌+◌, ◌<◌, ◌≤◌, List, [], ◌∷◌, ◌++◌, length, map, take, get_or, replicate, sym, ap, ◌∙◌, append_assoc, append-nil, arith}
+use Rattle.std.proofs.Common.{◌≡◌, ℕ, suc, ◌+◌, ◌<◌, ◌≤◌, List, [], ◌∷◌, ◌++◌, length, map, take, get_or, replicate}
+use Rattle.std.proofs.Common.{sym, ap, ◌∙◌, append_assoc, append-nil, arith}
 use Rattle.std.specs.List.{flat_map}
 use Rattle.std.proofs.lemmas.List.{flat_map_more, map-append, replicate_more, take_all, take_more}
 use Rattle.lfs_staging.specs.declared.parts.Parts.{Parts}
@@ -9,12 +10,15 @@ use Rattle.lfs_view.specs.SegmentText.{cell_lines}
 use Rattle.lfs_view.specs.declared.cells.Cell.{Cell}
 
 -- one more space
-pub spaces_more : (out done new : List ℕ) (n : ℕ) → done ≡ out ++ replicate n 32 → new ≡ done ++ 32 ∷ [] → new ≡ out ++ replicate (n + 1) 32
+pub spaces_more : (out done new : List ℕ) (n : ℕ) → done ≡ out ++ replicate n 32 → new ≡ done ++ 32 ∷ [] → new ≡ out
+    ++ replicate (n + 1) 32
 spaces_more out done new n so_far grown =
-    grown ∙ ap (λ (xs : List ℕ). xs ++ 32 ∷ []) so_far ∙ append_assoc out (replicate n 32) (32 ∷ []) ∙ ap (λ (xs : List ℕ). out ++ xs) (replicate_more n 32)
+    grown ∙ ap (λ (xs : List ℕ). xs ++ 32 ∷ []) so_far ∙ append_assoc out (replicate n 32) (32 ∷ [])
+    ∙ ap (λ (xs : List ℕ). out ++ xs) (replicate_more n 32)
 
 -- a row, part by part
-pub row_added : (p : Parts) (segment : ℕ) (out a b c new : List ℕ) (slice cells : List Cell) → a ≡ out ++ use_text p segment → b ≡ a ++ 32 ∷ [] → slice ≡ cells → cells ≡ cells_of p segment
+pub row_added : (p : Parts) (segment : ℕ) (out a b c new : List ℕ) (slice cells : List Cell) → a ≡ out
+    ++ use_text p segment → b ≡ a ++ 32 ∷ [] → slice ≡ cells → cells ≡ cells_of p segment
     → c ≡ b ++ map cell_sign slice → new ≡ c ++ 10 ∷ [] → new ≡ out ++ row_text p segment
 unfolding row_text
 row_added p segment out a b c new slice cells one two same all three four =
@@ -25,27 +29,35 @@ pub rows_none : (p : Parts) (out : List ℕ) → out ≡ out ++ rows_below p 0
 unfolding rows_below
 rows_none p out = sym (append-nil out)
 
-pub rows_more : (p : Parts) (out done new : List ℕ) (n : ℕ) → done ≡ out ++ rows_below p n → new ≡ done ++ row_text p n → new ≡ out ++ rows_below p (n + 1)
+pub rows_more : (p : Parts) (out done new : List ℕ) (n : ℕ) → done ≡ out ++ rows_below p n → new ≡ done ++ row_text p n
+    → new ≡ out ++ rows_below p (n + 1)
 unfolding rows_below
 rows_more p out done new n so_far grown =
     let one : n + 1 ≡ suc n = omega arith in
     rw (grown, so_far, one) (append_assoc out (rows_below p n) (row_text p n))
 
 -- one more sign, and all of them
-pub signs_more : (out done new : List ℕ) (cells : List Cell) (i : ℕ) (cell : Cell) → i < length cells → cell ≡ get_or cells i cell
-    → done ≡ out ++ map cell_sign (take i cells) → new ≡ done ++ cell_sign cell ∷ [] → new ≡ out ++ map cell_sign (take (i + 1) cells)
+pub signs_more : (out done new : List ℕ) (cells : List Cell) (i : ℕ) (cell : Cell) → i < length cells → cell
+    ≡ get_or cells i cell
+    → done ≡ out ++ map cell_sign (take i cells) → new ≡ done ++ cell_sign cell ∷ [] → new ≡ out
+    ++ map cell_sign (take (i + 1) cells)
 signs_more out done new cells i cell lt is so_far grown =
-    rw (grown, so_far, take_more cells i cell lt, ← is, map-append) (append_assoc out (map cell_sign (take i cells)) (cell_sign cell ∷ []))
+    rw (grown, so_far, take_more cells i cell lt, ← is, map-append)
+    (append_assoc out (map cell_sign (take i cells)) (cell_sign cell ∷ []))
 
-pub signs_all : (out done : List ℕ) (cells : List Cell) (i : ℕ) → length cells ≤ i → done ≡ out ++ map cell_sign (take i cells) → done ≡ out ++ map cell_sign cells
+pub signs_all : (out done : List ℕ) (cells : List Cell) (i : ℕ) → length cells ≤ i → done ≡ out
+    ++ map cell_sign (take i cells) → done ≡ out ++ map cell_sign cells
 signs_all out done cells i le so_far = so_far ∙ ap (λ xs. out ++ map cell_sign xs) (take_all i cells le)
 
 -- the lines of one more cell, and of all of them
-pub cells_more : (p : Parts) (out done new : List ℕ) (cells : List Cell) (i : ℕ) (cell : Cell) → i < length cells → cell ≡ get_or cells i cell
-    → done ≡ out ++ flat_map (cell_lines p) (take i cells) → new ≡ done ++ cell_lines p cell → new ≡ out ++ flat_map (cell_lines p) (take (i + 1) cells)
+pub cells_more : (p : Parts) (out done new : List ℕ) (cells : List Cell) (i : ℕ) (cell : Cell) → i < length cells → cell
+    ≡ get_or cells i cell
+    → done ≡ out ++ flat_map (cell_lines p) (take i cells) → new ≡ done ++ cell_lines p cell → new ≡ out
+    ++ flat_map (cell_lines p) (take (i + 1) cells)
 cells_more p out done new cells i cell lt is so_far grown =
     rw (grown, so_far, take_more cells i cell lt, ← is) (flat_map_more (cell_lines p) out (take i cells) cell)
 
-pub cells_all : (p : Parts) (out done : List ℕ) (cells : List Cell) (i : ℕ) → length cells ≤ i → done ≡ out ++ flat_map (cell_lines p) (take i cells)
+pub cells_all : (p : Parts) (out done : List ℕ) (cells : List Cell) (i : ℕ) → length cells ≤ i → done ≡ out
+    ++ flat_map (cell_lines p) (take i cells)
     → done ≡ out ++ flat_map (cell_lines p) cells
 cells_all p out done cells i le so_far = so_far ∙ ap (λ xs. out ++ flat_map (cell_lines p) xs) (take_all i cells le)

@@ -1,5 +1,7 @@
 -- A segment's log, walked block by block.
-use Rattle.std.proofs.Common.{◌≡◌, ℕ, zero, suc, ◌+◌, ◌-◌, ◌*◌, ◌<◌, ◌≤◌, Bool, true, false, List, [], ◌∷◌, ◌++◌, All, Option, Some, None, if◌then◌else◌, length, get_or, take, drop, refl, sym, ap, subst, ◌∙◌, arith}
+use Rattle.std.proofs.Common.{◌≡◌, ℕ, zero, suc, ◌+◌, ◌-◌, ◌*◌, ◌<◌, ◌≤◌, Bool, true, false, List, [], ◌∷◌, ◌++◌, All}
+use Rattle.std.proofs.Common.{Option, Some, None, if◌then◌else◌, length, get_or, take, drop, refl, sym, ap, subst, ◌∙◌}
+use Rattle.std.proofs.Common.{arith}
 use Rattle.std.specs.Prelude.{option_and_then}
 use Rattle.std.proofs.lemmas.List.{drop_all, drop_more, get_or-take, length-take, length-take-le}
 use Rattle.std.proofs.lemmas.List.Elements.{All-nil, All-append, All-cons}
@@ -20,34 +22,44 @@ abbrev pub held : List SummaryEntry → ℕ → ℕ → Bool → Option (List Su
 held entries next count ended = if ended then None else Some (drop next (take count entries))
 
 -- a walk goes on, or has ended
-going : (entries : List SummaryEntry) (next count : ℕ) (ended : Bool) → ended ≡ false → held entries next count ended ≡ Some (drop next (take count entries))
+going : (entries : List SummaryEntry) (next count : ℕ) (ended : Bool) → ended ≡ false → held entries next count ended
+    ≡ Some (drop next (take count entries))
 going entries next count true off = absurd (let bad : true ≡ false = off in cc)
 going entries next count false off = refl
 
 -- a block that an entry names is passed
-pub passed_named : (entries : List SummaryEntry) (next count : ℕ) (ended : Bool) (block : List ℕ) (now : Option (List SummaryEntry))
+pub passed_named : (entries : List SummaryEntry) (next count : ℕ) (ended : Bool) (block : List ℕ)
+    (now : Option (List SummaryEntry))
     → held entries next count ended ≡ now → ended ≡ false → next < count → count ≤ length entries
     → held entries (next + 1) count ended ≡ option_and_then (λ es. after_block es block) now
 passed_named entries next count ended block now is off below fits =
     let old : Some (get_or entries next unused ∷ drop (next + 1) (take count entries)) ≡ now =
-    ap (λ (es : List SummaryEntry). Some es) (sym (expected_more entries next count below fits)) ∙ sym (going entries next count ended off) ∙ is in
-    going entries (next + 1) count ended off ∙ ap (λ (o : Option (List SummaryEntry)). option_and_then (λ es. after_block es block) o) old
+    ap (λ (es : List SummaryEntry). Some es) (sym (expected_more entries next count below fits))
+    ∙ sym (going entries next count ended off) ∙ is in
+    going entries (next + 1) count ended off
+    ∙ ap (λ (o : Option (List SummaryEntry)). option_and_then (λ es. after_block es block) o) old
 
 -- behind the last one a summary is read
-nothing : (entries : List SummaryEntry) (next count : ℕ) (ended : Bool) (now : Option (List SummaryEntry)) → held entries next count ended ≡ now → ended ≡ false → count ≤ next
+nothing : (entries : List SummaryEntry) (next count : ℕ) (ended : Bool) (now : Option (List SummaryEntry))
+    → held entries next count ended ≡ now → ended ≡ false → count ≤ next
     → Some [] ≡ now
 nothing entries next count ended now is off past =
-    ap (λ (es : List SummaryEntry). Some es) (sym (expected_none entries next count past)) ∙ sym (going entries next count ended off) ∙ is
+    ap (λ (es : List SummaryEntry). Some es) (sym (expected_none entries next count past))
+    ∙ sym (going entries next count ended off) ∙ is
 
-pub passed_summary : (entries : List SummaryEntry) (next count : ℕ) (ended : Bool) (block : List ℕ) (now : Option (List SummaryEntry)) (s : Summary)
+pub passed_summary : (entries : List SummaryEntry) (next count : ℕ) (ended : Bool) (block : List ℕ)
+    (now : Option (List SummaryEntry)) (s : Summary)
     → held entries next count ended ≡ now → ended ≡ false → count ≤ next → Some (named_by s) ≡ summary_entries block
     → held s.entries 0 s.count ended ≡ option_and_then (λ es. after_block es block) now
 passed_summary entries next count ended block now s is off past read =
     going s.entries 0 s.count ended off ∙ read
-    ∙ ap (λ (o : Option (List SummaryEntry)). option_and_then (λ es. after_block es block) o) (nothing entries next count ended now is off past)
+    ∙ ap (λ (o : Option (List SummaryEntry)). option_and_then (λ es. after_block es block) o)
+    (nothing entries next count ended now is off past)
 
-pub stands_summary : (entries : List SummaryEntry) (next count : ℕ) (ended : Bool) (block : List ℕ) (now : Option (List SummaryEntry)) (s : Summary)
-    → held entries next count ended ≡ now → ended ≡ false → count ≤ next → Some (named_by s) ≡ summary_entries block → s.count ≤ length s.entries
+pub stands_summary : (entries : List SummaryEntry) (next count : ℕ) (ended : Bool) (block : List ℕ)
+    (now : Option (List SummaryEntry)) (s : Summary)
+    → held entries next count ended ≡ now → ended ≡ false → count ≤ next → Some (named_by s) ≡ summary_entries block
+    → s.count ≤ length s.entries
     → standing.Summary s.count ≡ standing_at now block
 stands_summary entries next count ended block now s is off past read fits =
     ap (λ (n : ℕ). standing.Summary n) (sym (length-take-le s.count s.entries fits))
@@ -55,8 +67,10 @@ stands_summary entries next count ended block now s is off past read fits =
     ∙ ap (λ (o : Option (List SummaryEntry)). standing_at o block) (nothing entries next count ended now is off past)
 
 -- the walk of a segment expects what the log expects at the next address
-pub walked_on : (m : SegmentMemory) (segment address : ℕ) (old new : Option (List SummaryEntry)) (block : List ℕ) → first_of segment ≤ address
-    → old ≡ expected (log_block m segment) (address - first_of segment) → block ≡ block_at m address → new ≡ option_and_then (λ es. after_block es block) old
+pub walked_on : (m : SegmentMemory) (segment address : ℕ) (old new : Option (List SummaryEntry)) (block : List ℕ)
+    → first_of segment ≤ address
+    → old ≡ expected (log_block m segment) (address - first_of segment) → block ≡ block_at m address → new
+    ≡ option_and_then (λ es. after_block es block) old
     → new ≡ expected (log_block m segment) (address + 1 - first_of segment)
 unfolding expected
 walked_on m segment address old new block from was at passed =
@@ -74,7 +88,8 @@ first_below zero address from some = omega arith
 first_below (suc segment) address from some = omega arith
 
 -- where a segment begins, a summary is expected
-pub walk_begins : (m : SegmentMemory) (segment : ℕ) → Some [] ≡ expected (log_block m segment) (segment * 64 - first_of segment)
+pub walk_begins : (m : SegmentMemory) (segment : ℕ) → Some []
+    ≡ expected (log_block m segment) (segment * 64 - first_of segment)
 unfolding expected
 walk_begins m segment = let none : segment * 64 - first_of segment ≡ 0 = omega arith in rw none refl
 
@@ -83,7 +98,8 @@ pub cells_none : (p : Parts) (first : ℕ) (cells : List Cell) → cells ≡ [] 
 unfolding cells_from
 cells_none p first cells empty = let none : first - first ≡ 0 = omega arith in rw (none, empty) refl
 
-pub cells_more : (p : Parts) (first address : ℕ) (cells new : List Cell) (cell : Cell) → first ≤ address → cells ≡ cells_from p first (address - first)
+pub cells_more : (p : Parts) (first address : ℕ) (cells new : List Cell) (cell : Cell) → first ≤ address → cells
+    ≡ cells_from p first (address - first)
     → cell ≡ cell_at p address → new ≡ cells ++ cell ∷ [] → new ≡ cells_from p first (address + 1 - first)
 unfolding cells_from
 cells_more p first address cells new cell from so_far is grown =
@@ -99,5 +115,8 @@ cells_more p first address cells new cell from so_far is grown =
 pub within_none : (p : Parts) (cells : List Cell) → cells ≡ [] → All (IsIn p) cells
 within_none p cells empty = subst (All (IsIn p)) (sym empty) (All-nil (IsIn p))
 
-pub within_more : (p : Parts) (cells new : List Cell) (cell : Cell) → All (IsIn p) cells → IsIn p cell → new ≡ cells ++ cell ∷ [] → All (IsIn p) new
-within_more p cells new cell all one grown = subst (All (IsIn p)) (sym grown) (All-append (IsIn p) cells (cell ∷ []) all (All-cons (IsIn p) cell [] one (All-nil (IsIn p))))
+pub within_more : (p : Parts) (cells new : List Cell) (cell : Cell) → All (IsIn p) cells → IsIn p cell → new ≡ cells
+    ++ cell ∷ [] → All (IsIn p) new
+within_more p cells new cell all one grown =
+    subst (All (IsIn p)) (sym grown) (All-append (IsIn p) cells (cell ∷ []) all
+    (All-cons (IsIn p) cell [] one (All-nil (IsIn p))))

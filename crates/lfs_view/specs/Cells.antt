@@ -1,5 +1,6 @@
 -- What stands at each address of the log, and whether it is of use.
-use Rattle.std.specs.Prelude.{ℕ, zero, suc, ◌+◌, ◌*◌, ◌/◌, ◌<◌, ◌==◌, ◌&&◌, Bool, false, List, [], ◌∷◌, ◌++◌, length, Option, None, Some, option_map, if◌then◌else◌}
+use Rattle.std.specs.Prelude.{ℕ, zero, suc, ◌+◌, ◌*◌, ◌/◌, ◌<◌, ◌==◌, ◌&&◌, Bool, false, List, [], ◌∷◌, ◌++◌, length}
+use Rattle.std.specs.Prelude.{Option, None, Some, option_map, if◌then◌else◌}
 use Rattle.lfs_types.specs.declared.limits.TheConstants.{SEGMENT_BLOCKS}
 use Rattle.lfs_segments.specs.declared.entry.LogicalBlock.{LogicalBlock}
 use Rattle.lfs_segments.specs.declared.entry.LogicalBlock.TheVariants.{Data, Single, Double, Child, Inodes}
@@ -41,7 +42,8 @@ present p number version block = address_of p number version (code_named (block_
 -- whether the inode map has a record of this version at this address, in this slot
 abbrev pub is_there : Option InodePlace → ℕ → ℕ → ℕ → Bool
 is_there None version address slot = false
-is_there (Some place) version address slot = (place.addr == address) && ((place.slot == slot) && (place.version == version))
+is_there (Some place) version address slot =
+    (place.addr == address) && ((place.slot == slot) && (place.version == version))
 
 -- a record that stands in a slot of the block at an address, and whether it is the present one of its number
 abbrev pub logged_of : Parts → ℕ → ℕ → ℕ × ℕ → LoggedRecord
@@ -68,12 +70,14 @@ live_one (Some logged) = if logged.is_live then 1 else 0
 -- how many records stand in the block at an address
 abbrev pub found_at : Parts → ℕ → ℕ
 found_at p address =
-    found_one (logged_at p address 0) + found_one (logged_at p address 1) + found_one (logged_at p address 2) + found_one (logged_at p address 3)
+    found_one (logged_at p address 0) + found_one (logged_at p address 1) + found_one (logged_at p address 2)
+    + found_one (logged_at p address 3)
 
 -- how many of them are the present ones
 abbrev pub live_at : Parts → ℕ → ℕ
 live_at p address =
-    live_one (logged_at p address 0) + live_one (logged_at p address 1) + live_one (logged_at p address 2) + live_one (logged_at p address 3)
+    live_one (logged_at p address 0) + live_one (logged_at p address 1) + live_one (logged_at p address 2)
+    + live_one (logged_at p address 3)
 
 -- what is seen of a block that an entry names: of a file's block its present address, of an inode block its records
 abbrev pub named_kind : Parts → ℕ → SummaryEntry → LogicalBlock → Kind
@@ -93,7 +97,8 @@ standing_kind p address (standing.Named e) = named_kind p address e e.block
 abbrev pub kind_at : Parts → ℕ → Kind
 kind_at p address =
     if address == 0 then Label
-    else standing_kind p address (standing_at (expected_at p.log.memory (address / SEGMENT_BLOCKS) address) (block_at p.log.memory address))
+    else standing_kind p address (standing_at (expected_at p.log.memory (address / SEGMENT_BLOCKS) address)
+    (block_at p.log.memory address))
 
 abbrev pub cell_at : Parts → ℕ → Cell
 cell_at p address = record { address = address; kind = kind_at p address }
@@ -111,7 +116,8 @@ cells_of p segment = cells_from p (segment * SEGMENT_BLOCKS) SEGMENT_BLOCKS
 abbrev pub IsIn : Parts → Cell → Type 0
 IsIn p cell = cell.address < p.log.memory.segments * SEGMENT_BLOCKS
 
--- A file's block is live where its present address is this one. Of a block of records all may be the present ones, or a part.
+-- A file's block is live where its present address is this one. Of a block of records all may be the present ones, or a
+-- part.
 abbrev pub life_among : ℕ → ℕ → Life
 life_among found live = if live == 0 then Dead else (if live == found then Live else Partly)
 

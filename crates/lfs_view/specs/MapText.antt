@@ -52,7 +52,8 @@ right width word = replicate (width - length word) 32 ++ word
 -- the number, the state and the live bytes of a segment
 abbrev pub use_text : Parts → ℕ → List ℕ
 use_text p segment =
-    right 4 (decimal segment) ++ 32 ∷ right 6 (state_word (state_of p.log.tables segment)) ++ 32 ∷ right 5 (decimal (live_of p.log.tables segment))
+    right 4 (decimal segment) ++ 32 ∷ right 6 (state_word (state_of p.log.tables segment)) ++ 32
+    ∷ right 5 (decimal (live_of p.log.tables segment))
 
 -- the line of a segment: how it is used, and a sign for each of its 64 blocks
 unfoldable pub row_text : Parts → ℕ → List ℕ
@@ -70,7 +71,8 @@ line_of first words = first ++ (spaced words ++ 10 ∷ [])
 -- how many blocks and how many records wait to be written
 abbrev pub waiting_text : Parts → List ℕ
 waiting_text p =
-    line_of (codes "waiting") (decimal (length p.cache.locked) ∷ codes "blocks" ∷ decimal (length p.waiting) ∷ codes "records" ∷ [])
+    line_of (codes "waiting") (decimal (length p.cache.locked) ∷ codes "blocks" ∷ decimal (length p.waiting)
+    ∷ codes "records" ∷ [])
 
 -- what the signs say
 unfoldable pub legend : List ℕ

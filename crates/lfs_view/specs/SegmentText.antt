@@ -28,7 +28,8 @@ block_word Double = codes "indirect"
 block_word (Child index) = codes "indirect"
 block_word Inodes = codes "records"
 
--- a block of a file: what it is, the number, the version and the logical block of its owner, its present address, live or dead
+-- a block of a file: what it is, the number, the version and the logical block of its owner, its present address, live
+-- or dead
 abbrev pub block_words : ℕ → SummaryEntry → ℕ → List (List ℕ)
 block_words address e present =
     block_word e.block ∷ decimal e.number ∷ decimal e.version ∷ decimal (block_number e.block) ∷ decimal present
@@ -51,14 +52,16 @@ records_lines p address =
     logged_line address 0 (logged_at p address 0) ++ logged_line address 1 (logged_at p address 1)
     ++ logged_line address 2 (logged_at p address 2) ++ logged_line address 3 (logged_at p address 3)
 
--- The lines of what stands at an address: none where nothing was written. A summary is told with how many blocks follow it,
+-- The lines of what stands at an address: none where nothing was written. A summary is told with how many blocks follow
+-- it,
 -- a block of records with how many of how many are the present ones, and then each of them.
 abbrev pub kind_lines : Parts → ℕ → Kind → List ℕ
 kind_lines p address Label = line_of (decimal address) (codes "label" ∷ [])
 kind_lines p address (Summary count) = line_of (decimal address) (codes "summary" ∷ decimal count ∷ [])
 kind_lines p address (Block e present) = line_of (decimal address) (block_words address e present)
 kind_lines p address (Records found live) =
-    line_of (decimal address) (codes "records" ∷ decimal live ∷ codes "of" ∷ decimal found ∷ life_word (life_among found live) ∷ [])
+    line_of (decimal address) (codes "records" ∷ decimal live ∷ codes "of" ∷ decimal found
+    ∷ life_word (life_among found live) ∷ [])
     ++ records_lines p address
 kind_lines p address Unwritten = []
 

@@ -1,5 +1,6 @@
 -- Runs of calls with one more.
-use Rattle.std.proofs.Common.{◌≡◌, ◌↔◌, ℕ, ◌<◌, List, [], ◌∷◌, ◌++◌, length, refl, sym, ap, subst, append_assoc, append-nil}
+use Rattle.std.proofs.Common.{◌≡◌, ◌↔◌, ℕ, ◌<◌, List, [], ◌∷◌, ◌++◌, length, refl, sym, ap, subst, append_assoc}
+use Rattle.std.proofs.Common.{append-nil}
 use Rattle.lfs_types.specs.Caller.{Caller}
 use Rattle.lfs_types.specs.StoreStates.{Follows, StoreState}
 use Rattle.lfs_types.specs.Tree.{World}
@@ -22,40 +23,47 @@ use Rattle.lfs_volume.specs.Journals.{Stays}
 use Rattle.lfs_volume.specs.Seen.{Seen}
 
 -- a call of a volume, as it was made on its store
-pub call_made : {F : Type 0} (state : F → StoreState) (is_settled : F → Type 0) (from : World) (old new : Seen F) (caller : Caller) (request : Request) (answer : Answer)
+pub call_made : {F : Type 0} (state : F → StoreState) (is_settled : F → Type 0) (from : World) (old new : Seen F)
+    (caller : Caller) (request : Request) (answer : Answer)
     → ((answer ≡ Refused JournalFull) ↔ (length old.journal ≡ old.limit))
     → (length old.journal ≡ old.limit → new ≡ old)
     → IsVolume (state old.store) (world_after (state old.store).shape.numbers old.journal from)
-    → (length old.journal < old.limit → IsOutcome (state old.store) (world_after (state old.store).shape.numbers old.journal from) caller request answer)
-    → OnServed answer (LeavesEntries request (state old.store).content (state new.store).content (world_after (state old.store).shape.numbers old.journal from).rows)
+    → (length old.journal < old.limit → IsOutcome (state old.store)
+    (world_after (state old.store).shape.numbers old.journal from) caller request answer)
+    → OnServed answer (LeavesEntries request (state old.store).content (state new.store).content
+    (world_after (state old.store).shape.numbers old.journal from).rows)
     → (IsUnserved answer → Stays (state old.store) (state new.store) old.level new.level)
     → LooksOn request (state old.store) (state new.store)
     → OnUnasked answer (state new.store ≡ state old.store)
     → (request ≡ Sync → answer ≡ Served Done → is_settled new.store)
     → Follows (state old.store) (state new.store)
     → IsCallMade state is_settled old.limit from old.journal old.store caller request answer new.store
-call_made {F} state is_settled from old new caller request answer full at_limit shown outcome entries unserved looks unasked synced follows = record {
-  full = full;
-  at_limit = λ h. ap (λ (v : Seen F). v.store) (at_limit h);
-  shown = shown;
-  outcome = outcome;
-  entries = entries;
-  unserved = λ h. (unserved h).content;
-  looks = looks;
-  unasked = unasked;
-  synced = synced;
-  follows = follows;
-}
+call_made {F} state is_settled from old new caller request answer full at_limit shown outcome entries unserved looks
+    unasked synced follows = record {
+      full = full;
+      at_limit = λ h. ap (λ (v : Seen F). v.store) (at_limit h);
+      shown = shown;
+      outcome = outcome;
+      entries = entries;
+      unserved = λ h. (unserved h).content;
+      looks = looks;
+      unasked = unasked;
+      synced = synced;
+      follows = follows;
+    }
 
 -- one more call was answered
-pub AreAnswers-append : {F : Type 0} (state : F → StoreState) (is_settled : F → Type 0) (limit : ℕ) (from : World) (journal : List Entry) (first last next : F) (calls : List Call)
-    (answers : List Answer) (call : Call) (answer : Answer) → AreAnswers state is_settled limit from journal first calls answers last
+pub AreAnswers-append : {F : Type 0} (state : F → StoreState) (is_settled : F → Type 0) (limit : ℕ) (from : World)
+    (journal : List Entry) (first last next : F) (calls : List Call)
+    (answers : List Answer) (call : Call) (answer : Answer)
+    → AreAnswers state is_settled limit from journal first calls answers last
     → IsCallMade state is_settled limit from (journal ++ kept calls answers) last call.cred call.request answer next
     → AreAnswers state is_settled limit from journal first (calls ++ call ∷ []) (answers ++ answer ∷ []) next
 AreAnswers-append {F} state is_settled limit from journal first last next [] [] call answer are made = (
   next,
   subst (λ (s : F). IsCallMade state is_settled limit from journal s call.cred call.request answer next) are
-      (subst (λ j. IsCallMade state is_settled limit from j last call.cred call.request answer next) (append-nil journal) made),
+      (subst (λ j. IsCallMade state is_settled limit from j last call.cred call.request answer next)
+      (append-nil journal) made),
   refl,
 )
 AreAnswers-append state is_settled limit from journal first last next [] (a ∷ answers) call answer are made = absurd are
@@ -65,5 +73,6 @@ AreAnswers-append state is_settled limit from journal first last next (c ∷ cal
       are.0,
       are.1,
       AreAnswers-append state is_settled limit from (journal ++ entry) are.0 last next calls answers call answer are.2
-          (subst (λ j. IsCallMade state is_settled limit from j last call.cred call.request answer next) (sym (append_assoc journal entry (kept calls answers))) made),
+          (subst (λ j. IsCallMade state is_settled limit from j last call.cred call.request answer next)
+          (sym (append_assoc journal entry (kept calls answers))) made),
     )

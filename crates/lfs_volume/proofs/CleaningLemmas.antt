@@ -9,7 +9,8 @@ use Rattle.lfs_types.specs.declared.cleaner.CleanerCall.TheVariants as calls
 use Rattle.lfs_types.specs.declared.level.Level.{Level}
 use Rattle.lfs_types.specs.declared.rule.Denial.{Denial}
 use Rattle.lfs_model.specs.declared.journal.CleanerAnswer.{CleanerAnswer}
-use Rattle.lfs_model.specs.declared.journal.CleanerAnswer.TheVariants.{Refused, Denied, Fault, Ifile, Infos, Bmapv, Marked, Cleaned}
+use Rattle.lfs_model.specs.declared.journal.CleanerAnswer.TheVariants.{Refused, Denied, Fault, Ifile, Infos, Bmapv}
+use Rattle.lfs_model.specs.declared.journal.CleanerAnswer.TheVariants.{Marked, Cleaned}
 use Rattle.lfs_model.specs.declared.journal.CleanerOutcome.{CleanerOutcome}
 use Rattle.lfs_model.specs.declared.journal.Entry.{Entry}
 use Rattle.lfs_model.specs.declared.journal.Event.TheVariants.{Cleaner}
@@ -32,7 +33,8 @@ shape_stays (Marked count) old new h = h.shape
 shape_stays Cleaned old new h = cc
 
 -- no call that is made is denied
-not_denied : {F : Type 0} (r : Store F) (old new : F) (call : CleanerCall) (denial : Denial) → IsDone r old call (Denied denial) new → ⊥
+not_denied : {F : Type 0} (r : Store F) (old new : F) (call : CleanerCall) (denial : Denial)
+    → IsDone r old call (Denied denial) new → ⊥
 not_denied r old new calls.Ifile denial h = h
 not_denied r old new (calls.Infos segment) denial h = h
 not_denied r old new (calls.Bmapv infos) denial h = h
@@ -40,7 +42,8 @@ not_denied r old new (calls.Markv marks) denial h = h
 not_denied r old new (calls.Segclean segment) denial h = h
 
 -- what the store's call gave is the superuser's answer
-pub answered_done : {F : Type 0} (r : Store F) (old : F) (caller : Caller) (call : CleanerCall) (answer : CleanerAnswer) (new : F)
+pub answered_done : {F : Type 0} (r : Store F) (old : F) (caller : Caller) (call : CleanerCall) (answer : CleanerAnswer)
+    (new : F)
     → caller.uid ≡ 0 → IsDone r old call answer new → IsCleanerAnswer r old caller call answer new
 answered_done r old caller call (Refused resource) new is h = (is, h)
 answered_done r old caller call (Denied denial) new is h = absurd (not_denied r old new call denial h)
@@ -51,14 +54,21 @@ answered_done r old caller call (Bmapv infos) new is h = (is, h)
 answered_done r old caller call (Marked count) new is h = (is, h)
 answered_done r old caller call Cleaned new is h = (is, h)
 
-pub IsStep-cleaned : (from : World) (old new : StoreState) (level : Level) (es : List Entry) (limit : ℕ) (caller : Caller) (call : CleanerCall) (answer : CleanerAnswer)
-    (outcome : CleanerOutcome) → IsJournal from old level es limit → IsCleaned old new caller call answer → outcome_of answer ≡ Some outcome
+pub IsStep-cleaned : (from : World) (old new : StoreState) (level : Level) (es : List Entry) (limit : ℕ)
+    (caller : Caller) (call : CleanerCall) (answer : CleanerAnswer)
+    (outcome : CleanerOutcome) → IsJournal from old level es limit → IsCleaned old new caller call answer
+    → outcome_of answer ≡ Some outcome
     → IsStep old new level (world_after old.shape.numbers es from) caller (Cleaner (kind_of call) outcome)
 IsStep-cleaned from old new level es limit caller call answer outcome j is comes = record {
-  happens = subst (λ o. IfSome o (IsCleaning old.shape.numbers old.shape.segments caller (kind_of call))) comes is.outcome;
-  leaves = record { shows = subst (λ c. Shows c (world_after old.shape.numbers es from)) (sym is.content) j.shown.shows; tree = j.shown.tree };
+  happens = subst (λ o. IfSome o (IsCleaning old.shape.numbers old.shape.segments caller (kind_of call))) comes
+      is.outcome;
+  leaves = record {
+    shows = subst (λ c. Shows c (world_after old.shape.numbers es from)) (sym is.content) j.shown.shows;
+    tree = j.shown.tree;
+  };
   leveled = j.at_level;
   space = λ no. absurd no;
-  clean = subst (λ o. IfSome o (λ (x : CleanerOutcome). new.clean ≤ old.clean + cleans (Cleaner (kind_of call) x))) comes is.told;
+  clean = subst (λ o. IfSome o (λ (x : CleanerOutcome). new.clean ≤ old.clean + cleans (Cleaner (kind_of call) x)))
+      comes is.told;
   shape = shape_stays answer old new is.leaves;
 }

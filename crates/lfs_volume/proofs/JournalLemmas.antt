@@ -1,5 +1,6 @@
 -- Journals: the opening one, and one with an entry more.
-use Rattle.std.proofs.Common.{◌≡◌, ℕ, ◌+◌, ◌<◌, ◌≤◌, List, [], ◌∷◌, ◌++◌, length, Some, inr, true, false, refl, sym, ap, subst, ◌∙◌, arith, length-append}
+use Rattle.std.proofs.Common.{◌≡◌, ℕ, ◌+◌, ◌<◌, ◌≤◌, List, [], ◌∷◌, ◌++◌, length, Some, inr, true, false, refl, sym, ap}
+use Rattle.std.proofs.Common.{subst, ◌∙◌, arith, length-append}
 use Rattle.std.specs.Prelude.{Result, Ok, Err, OnErr, OnOk}
 use Rattle.lfs_types.specs.Caller.{Caller}
 use Rattle.lfs_types.specs.Shown.{IsList, ServesList}
@@ -7,13 +8,16 @@ use Rattle.lfs_types.specs.StoreStates.{Follows, Shape, StoreState}
 use Rattle.lfs_types.specs.Tree.{World, opening_world}
 use Rattle.lfs_types.specs.declared.answer.Answer.{Answer}
 use Rattle.lfs_types.specs.declared.answer.Answer.TheVariants.{Served, Denied, Refused}
-use Rattle.lfs_types.specs.declared.answer.Resource.TheVariants.{NoMemory, NoSpace, NoInodes, DirectoryFull, JournalFull}
+use Rattle.lfs_types.specs.declared.answer.Resource.TheVariants.{NoMemory, NoSpace, NoInodes, DirectoryFull}
+use Rattle.lfs_types.specs.declared.answer.Resource.TheVariants.{JournalFull}
 use Rattle.lfs_types.specs.declared.answer.Served.{Served as Shown}
 use Rattle.lfs_types.specs.declared.answer.Served.TheVariants.{Done}
 use Rattle.lfs_types.specs.declared.level.Level.{Level}
 use Rattle.lfs_types.specs.declared.level.Level.TheVariants.{Insecure}
 use Rattle.lfs_types.specs.declared.request.Request.{Request}
-use Rattle.lfs_types.specs.declared.request.Request.TheVariants.{Stat, Read, Write, List as Names, SetLength, Create, Mkdir, Unlink, Rmdir, Rename, Chmod, Chown, Chflags, SetLevel, Sync}
+use Rattle.lfs_types.specs.declared.request.Request.TheVariants.{Stat, Read, Write, List as Names, SetLength, Create}
+use Rattle.lfs_types.specs.declared.request.Request.TheVariants.{Mkdir, Unlink, Rmdir, Rename, Chmod, Chown, Chflags}
+use Rattle.lfs_types.specs.declared.request.Request.TheVariants.{SetLevel, Sync}
 use Rattle.lfs_model.specs.declared.journal.Entry.{Entry}
 use Rattle.lfs_model.specs.declared.journal.Event.{Event}
 use Rattle.lfs_model.specs.declared.journal.Event.TheVariants.{User, Cleaner}
@@ -36,7 +40,14 @@ pub begun : (s : StoreState) (level : Level) → HasWorld s → HasBegun s level
 begun s level has = (
   record has.0 { level = level },
   record {
-    shown = record { shows = record { files = has.1.shows.files; sizes = has.1.shows.sizes; listings = has.1.shows.listings }; tree = has.1.tree };
+    shown = record {
+      shows = record {
+        files = has.1.shows.files;
+        sizes = has.1.shows.sizes;
+        listings = has.1.shows.listings;
+      };
+      tree = has.1.tree;
+    };
     at_level = refl;
   },
 )
@@ -46,7 +57,8 @@ pub opening_begins : (s : StoreState) → Shows s.content opening_world → Begi
 opening_begins s shown = record { shown = record { shows = shown; tree = opening_tree }; at_level = refl }
 
 -- the empty journal is one of the world in which it begins
-pub beginning_journal : (from : World) (s : StoreState) (level : Level) (limit : ℕ) → Begins s level from → IsJournal from s level [] limit
+pub beginning_journal : (from : World) (s : StoreState) (level : Level) (limit : ℕ) → Begins s level from
+    → IsJournal from s level [] limit
 beginning_journal from s level limit begins = record {
   legal = tt;
   shown = begins.shown;
@@ -78,25 +90,37 @@ cleans-none (Cleaner kind outcome) short = absurd short
 
 IsShort-append : (clean : ℕ) (es : List Entry) (e : Entry) → IsShort clean es → (IsNoSpace e.event → clean ≤ 2)
     → IsShort (clean + cleans e.event) (es ++ e ∷ [])
-IsShort-append clean [] e short few = ((λ no. let two = few no in let none = cleans-none e.event no in omega (arith, two, none)), tt)
-IsShort-append clean (x ∷ es) e short few =
-    ((λ no. let old = short.0 no in let more = cleaned-append es e in omega (arith, old, more)), IsShort-append clean es e short.1 few)
+IsShort-append clean [] e short few = (
+  (λ no. let two = few no in let none = cleans-none e.event no in
+      omega (arith, two, none)),
+  tt,
+)
+IsShort-append clean (x ∷ es) e short few = (
+  (λ no. let old = short.0 no in let more = cleaned-append es e in omega (arith, old, more)),
+  IsShort-append clean es e short.1 few,
+)
 
 -- the journal of a store that changed nothing but the count of its clean segments
 pub IsJournal-same : (from : World) (old new : StoreState) (level level_after : Level) (es : List Entry) (limit : ℕ)
-    → IsJournal from old level es limit → Stays old new level level_after → Follows old new → IsJournal from new level_after es limit
+    → IsJournal from old level es limit → Stays old new level level_after → Follows old new
+    → IsJournal from new level_after es limit
 IsJournal-same from old new level level_after es limit j stays follows = record {
   legal = subst (λ (s : Shape). IsLegal s.numbers s.segments es from) (sym follows.shape) j.legal;
   shown = subst (λ (s : Shape). IsVolume new (world_after s.numbers es from)) (sym follows.shape)
-      (record { shows = subst (λ c. Shows c (world_after old.shape.numbers es from)) (sym stays.content) j.shown.shows; tree = j.shown.tree });
-  at_level = subst (λ (s : Shape). (world_after s.numbers es from).level ≡ level_after) (sym follows.shape) (j.at_level ∙ sym stays.at_level);
+      (record {
+        shows = subst (λ c. Shows c (world_after old.shape.numbers es from)) (sym stays.content) j.shown.shows;
+        tree = j.shown.tree;
+      });
+  at_level = subst (λ (s : Shape). (world_after s.numbers es from).level ≡ level_after) (sym follows.shape) (j.at_level
+      ∙ sym stays.at_level);
   within = j.within;
   space = IsShort-fewer old.clean new.clean es follows.clean j.space;
 }
 
 -- an answer that is entered is one that may be
 entered_answer : (s : StoreState) (w : World) (caller : Caller) (request : Request) (answer : Answer)
-    → IsOutcome s w caller request answer → is_lack_of_memory answer ≡ false → IsAnswer s.shape.numbers w caller request answer
+    → IsOutcome s w caller request answer → is_lack_of_memory answer ≡ false
+    → IsAnswer s.shape.numbers w caller request answer
 entered_answer s w caller request (Served shown) o h = o.0
 entered_answer s w caller request (Denied denial) o h = o
 entered_answer s w caller request (Refused NoMemory) o h = absurd (cc)
@@ -107,7 +131,8 @@ entered_answer s w caller request (Refused JournalFull) o h = absurd o
 
 -- an answer that may be is entered, where memory was not wanting
 pub entered_event : (s : StoreState) (w : World) (caller : Caller) (request : Request) (answer : Answer)
-    → IsOutcome s w caller request answer → is_lack_of_memory answer ≡ false → user_event request answer ≡ Some (User request answer)
+    → IsOutcome s w caller request answer → is_lack_of_memory answer ≡ false → user_event request answer
+    ≡ Some (User request answer)
 entered_event s w caller request (Served shown) o h = refl
 entered_event s w caller request (Denied denial) o h = refl
 entered_event s w caller request (Refused NoMemory) o h = absurd (cc)
@@ -122,8 +147,10 @@ entered_space : (s : StoreState) (w : World) (caller : Caller) (request : Reques
 entered_space s w caller request answer o e = (subst (IsOutcome s w caller request) e o).2
 
 -- the journal with an entry more
-pub IsJournal-entered : (from : World) (old new : StoreState) (level level_after : Level) (es : List Entry) (limit session : ℕ) (caller : Caller) (event : Event)
-    → IsJournal from old level es limit → length es < limit → IsStep old new level_after (world_after old.shape.numbers es from) caller event
+pub IsJournal-entered : (from : World) (old new : StoreState) (level level_after : Level) (es : List Entry)
+    (limit session : ℕ) (caller : Caller) (event : Event)
+    → IsJournal from old level es limit → length es < limit
+    → IsStep old new level_after (world_after old.shape.numbers es from) caller event
     → IsJournal from new level_after (es ++ record { session = session; cred = caller; event = event } ∷ []) limit
 IsJournal-entered from old new level level_after es limit session caller event j room step =
     let entry : Entry = record { session = session; cred = caller; event = event } in
@@ -134,7 +161,8 @@ IsJournal-entered from old new level level_after es limit session caller event j
           (IsLegal-append numbers old.shape.segments es entry from j.legal step.happens);
       shown = subst (λ (s : Shape). IsVolume new (world_after s.numbers (es ++ entry ∷ []) from)) (sym step.shape)
           (subst (IsVolume new) (sym leads) step.leaves);
-      at_level = subst (λ (s : Shape). (world_after s.numbers (es ++ entry ∷ []) from).level ≡ level_after) (sym step.shape)
+      at_level = subst (λ (s : Shape). (world_after s.numbers (es ++ entry ∷ []) from).level ≡ level_after)
+          (sym step.shape)
           (ap (λ (v : World). v.level) leads ∙ step.leveled);
       within = simp length-append (omega arith);
       space = IsShort-fewer (old.clean + cleans event) new.clean (es ++ entry ∷ []) step.clean
@@ -142,8 +170,10 @@ IsJournal-entered from old new level level_after es limit session caller event j
     }
 
 -- an answered call is a step, where memory was not wanting
-pub IsStep-answered : (from : World) (old new : StoreState) (level level_after : Level) (es : List Entry) (limit : ℕ) (caller : Caller) (request : Request) (answer : Answer)
-    → IsJournal from old level es limit → IsAnswered old new level level_after caller request answer → is_lack_of_memory answer ≡ false
+pub IsStep-answered : (from : World) (old new : StoreState) (level level_after : Level) (es : List Entry) (limit : ℕ)
+    (caller : Caller) (request : Request) (answer : Answer)
+    → IsJournal from old level es limit → IsAnswered old new level level_after caller request answer
+    → is_lack_of_memory answer ≡ false
     → IsStep old new level_after (world_after old.shape.numbers es from) caller (User request answer)
 IsStep-answered from old new level level_after es limit caller request answer j a entered =
     let w = world_after old.shape.numbers es from in
@@ -160,7 +190,8 @@ IsStep-answered from old new level level_after es limit caller request answer j 
 -- a call whose answer wanted memory for its copy
 copy_outcome : (s : StoreState) (w : World) (caller : Caller) (request : Request) (answer : Answer)
     → IsOutcome s w caller request answer → ServesList answer → IsOutcome s w caller request (Refused NoMemory)
-copy_outcome s w caller request (Served shown) o h = (o.0.0, o.0.1, o.1, inr (list_copies w request (subst IsList o.0.2 h)))
+copy_outcome s w caller request (Served shown) o h =
+    (o.0.0, o.0.1, o.1, inr (list_copies w request (subst IsList o.0.2 h)))
 copy_outcome s w caller request (Denied denial) o h = absurd h
 copy_outcome s w caller request (Refused resource) o h = absurd h
 
@@ -175,14 +206,16 @@ lack_is (Refused DirectoryFull) h = absurd (cc)
 lack_is (Refused JournalFull) h = absurd (cc)
 
 -- a call whose answer tells of the want of memory
-pub IsAnswered-lack : (old new : StoreState) (level level_after : Level) (caller : Caller) (request : Request) (answer : Answer)
+pub IsAnswered-lack : (old new : StoreState) (level level_after : Level) (caller : Caller) (request : Request)
+    (answer : Answer)
     → IsAnswered old new level level_after caller request answer → is_lack_of_memory answer ≡ true
     → IsAnswered old new level level_after caller request (Refused NoMemory)
 IsAnswered-lack old new level level_after caller request answer a h =
     subst (IsAnswered old new level level_after caller request) (lack_is answer h) a
 
 -- a call whose answer wanted memory for its copy
-pub IsAnswered-copy : (old new : StoreState) (level level_after : Level) (caller : Caller) (request : Request) (answer : Answer)
+pub IsAnswered-copy : (old new : StoreState) (level level_after : Level) (caller : Caller) (request : Request)
+    (answer : Answer)
     → IsAnswered old new level level_after caller request answer → ServesList answer
     → IsAnswered old new level level_after caller request (Refused NoMemory)
 IsAnswered-copy old new level level_after caller request answer a list =
@@ -201,25 +234,39 @@ IsAnswered-copy old new level level_after caller request answer a list =
 
 -- ---- from what a call comes to, to its answer
 
-served_level : (numbers : ℕ) (w : World) (caller : Caller) (level : Level) (request : Request) (shown : Shown) → w.level ≡ level
+served_level : (numbers : ℕ) (w : World) (caller : Caller) (level : Level) (request : Request) (shown : Shown) → w.level
+    ≡ level
     → (after_answer numbers w caller request (Served shown)).level ≡ level_left level request (Served shown)
 served_level numbers w caller level (Stat path) shown e = level_after numbers w caller (Stat path) (Served shown) tt ∙ e
-served_level numbers w caller level (Read path off len) shown e = level_after numbers w caller (Read path off len) (Served shown) tt ∙ e
-served_level numbers w caller level (Names path) shown e = level_after numbers w caller (Names path) (Served shown) tt ∙ e
-served_level numbers w caller level (Write path place bytes) shown e = level_after numbers w caller (Write path place bytes) (Served shown) tt ∙ e
-served_level numbers w caller level (SetLength path len) shown e = level_after numbers w caller (SetLength path len) (Served shown) tt ∙ e
-served_level numbers w caller level (Create path mode) shown e = level_after numbers w caller (Create path mode) (Served shown) tt ∙ e
-served_level numbers w caller level (Mkdir path mode) shown e = level_after numbers w caller (Mkdir path mode) (Served shown) tt ∙ e
-served_level numbers w caller level (Unlink path) shown e = level_after numbers w caller (Unlink path) (Served shown) tt ∙ e
-served_level numbers w caller level (Rmdir path) shown e = level_after numbers w caller (Rmdir path) (Served shown) tt ∙ e
-served_level numbers w caller level (Rename from to) shown e = level_after numbers w caller (Rename from to) (Served shown) tt ∙ e
-served_level numbers w caller level (Chmod path mode) shown e = level_after numbers w caller (Chmod path mode) (Served shown) tt ∙ e
-served_level numbers w caller level (Chown path uid gid) shown e = level_after numbers w caller (Chown path uid gid) (Served shown) tt ∙ e
-served_level numbers w caller level (Chflags path flags) shown e = level_after numbers w caller (Chflags path flags) (Served shown) tt ∙ e
+served_level numbers w caller level (Read path off len) shown e =
+    level_after numbers w caller (Read path off len) (Served shown) tt ∙ e
+served_level numbers w caller level (Names path) shown e = level_after numbers w caller (Names path) (Served shown) tt
+    ∙ e
+served_level numbers w caller level (Write path place bytes) shown e =
+    level_after numbers w caller (Write path place bytes) (Served shown) tt ∙ e
+served_level numbers w caller level (SetLength path len) shown e =
+    level_after numbers w caller (SetLength path len) (Served shown) tt ∙ e
+served_level numbers w caller level (Create path mode) shown e =
+    level_after numbers w caller (Create path mode) (Served shown) tt ∙ e
+served_level numbers w caller level (Mkdir path mode) shown e =
+    level_after numbers w caller (Mkdir path mode) (Served shown) tt ∙ e
+served_level numbers w caller level (Unlink path) shown e = level_after numbers w caller (Unlink path) (Served shown) tt
+    ∙ e
+served_level numbers w caller level (Rmdir path) shown e = level_after numbers w caller (Rmdir path) (Served shown) tt
+    ∙ e
+served_level numbers w caller level (Rename from to) shown e =
+    level_after numbers w caller (Rename from to) (Served shown) tt ∙ e
+served_level numbers w caller level (Chmod path mode) shown e =
+    level_after numbers w caller (Chmod path mode) (Served shown) tt ∙ e
+served_level numbers w caller level (Chown path uid gid) shown e =
+    level_after numbers w caller (Chown path uid gid) (Served shown) tt ∙ e
+served_level numbers w caller level (Chflags path flags) shown e =
+    level_after numbers w caller (Chflags path flags) (Served shown) tt ∙ e
 served_level numbers w caller level (SetLevel new) shown e = refl
 served_level numbers w caller level Sync shown e = level_after numbers w caller Sync (Served shown) tt ∙ e
 
-unserved_level : (level : Level) (request : Request) (answer : Answer) → IsUnserved answer → level_left level request answer ≡ level
+unserved_level : (level : Level) (request : Request) (answer : Answer) → IsUnserved answer
+    → level_left level request answer ≡ level
 unserved_level level request (Served shown) h = absurd h
 unserved_level level request (Denied denial) h = refl
 unserved_level level request (Refused resource) h = refl
@@ -249,7 +296,8 @@ listed_level s w caller level request (Served shown) o h = list_level s w caller
 listed_level s w caller level request (Denied denial) o h = absurd h
 listed_level s w caller level request (Refused resource) o h = absurd h
 
-answer_level : (numbers : ℕ) (w : World) (caller : Caller) (level : Level) (request : Request) (answer : Answer) → w.level ≡ level
+answer_level : (numbers : ℕ) (w : World) (caller : Caller) (level : Level) (request : Request) (answer : Answer)
+    → w.level ≡ level
     → (after_answer numbers w caller request answer).level ≡ level_left level request answer
 answer_level numbers w caller level request (Served shown) e = served_level numbers w caller level request shown e
 answer_level numbers w caller level request (Denied denial) e = e
@@ -261,32 +309,49 @@ unserved_content (Err (reasons.Denied denial)) p h = p
 unserved_content (Err (reasons.Refused resource)) p h = p
 
 -- what a call comes to is its answer
-pub of_call : (old new : StoreState) (level left : Level) (caller : Caller) (request : Request) (result : Result Shown NotServed) (answer : Answer)
-    → HasWorld old → IsCallAt level old new caller request result → answer ≡ answered result → left ≡ level_left level request answer
+pub of_call : (old new : StoreState) (level left : Level) (caller : Caller) (request : Request)
+    (result : Result Shown NotServed) (answer : Answer)
+    → HasWorld old → IsCallAt level old new caller request result → answer ≡ answered result → left
+    ≡ level_left level request answer
     → IsAnswered old new level left caller request answer
 of_call old new level left caller request result answer has call is sets =
     let here : World = record has.0 { level = level } in
-    let shown : IsVolume old here = record { shows = record { files = has.1.shows.files; sizes = has.1.shows.sizes; listings = has.1.shows.listings }; tree = has.1.tree } in
+    let shown : IsVolume old here = record {
+      shows =
+          record { files = has.1.shows.files; sizes = has.1.shows.sizes; listings = has.1.shows.listings };
+      tree = has.1.tree;
+    } in
     subst (IsAnswered old new level left caller request) (sym is) (record {
       outcome = call.outcome;
       leaves = call.leaves;
-      leveled = λ w e. answer_level old.shape.numbers w caller level request (answered result) e ∙ sym (sets ∙ ap (level_left level request) is);
+      leveled = λ w e. answer_level old.shape.numbers w caller level request (answered result) e
+          ∙ sym (sets ∙ ap (level_left level request) is);
       entries = call.entries;
-      unserved = λ h. record { content = unserved_content result call.halted h; at_level = sets ∙ ap (level_left level request) is ∙ unserved_level level request (answered result) h };
-      listed = λ h. record { content = call.listed h; at_level = sets ∙ ap (level_left level request) is ∙ listed_level old here caller level request (answered result) (call.outcome here shown refl) h };
+      unserved = λ h. record {
+        content = unserved_content result call.halted h;
+        at_level = sets
+            ∙ ap (level_left level request) is ∙ unserved_level level request (answered result) h;
+      };
+      listed = λ h. record {
+        content = call.listed h;
+        at_level = sets ∙ ap (level_left level request) is
+            ∙ listed_level old here caller level request (answered result) (call.outcome here shown refl) h;
+      };
       looks = call.looks;
       unasked = call.unasked;
       follows = call.follows;
     })
 
 -- what holds of the world of a journal where a call is served
-pub entries_at : (P : World → Type 0) (s : StoreState) (answer : Answer) (w : World) → IsVolume s w → OnServed answer (InWorld s P) → OnServed answer (P w)
+pub entries_at : (P : World → Type 0) (s : StoreState) (answer : Answer) (w : World) → IsVolume s w
+    → OnServed answer (InWorld s P) → OnServed answer (P w)
 entries_at P s (Served shown) w v h = h w v
 entries_at P s (Denied denial) w v h = tt
 entries_at P s (Refused resource) w v h = tt
 
 -- where a call came to an answer that it is done, what holds of each call that did holds
-pub on_done : (result : Result Shown NotServed) (answer : Answer) (P : Type 0) → answer ≡ answered result → answer ≡ Served Done → OnOk result P → P
+pub on_done : (result : Result Shown NotServed) (answer : Answer) (P : Type 0) → answer ≡ answered result → answer
+    ≡ Served Done → OnOk result P → P
 on_done (Ok shown) answer P is done p = p
 on_done (Err (reasons.Denied denial)) answer P is done p = let no = sym is ∙ done in absurd (cc)
 on_done (Err (reasons.Refused resource)) answer P is done p = let no = sym is ∙ done in absurd (cc)

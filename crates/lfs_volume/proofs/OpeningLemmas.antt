@@ -17,20 +17,26 @@ unfolding entries_below
 nothing_listed = record {
   blocks = λ k h. absurd (omega arith);
   distinct = tt;
-  names = λ name. number_in-nil name ∙ sym (child-answer opening_rows opening_tree.unique root name None (no_child root name));
+  names = λ name. number_in-nil name ∙ sym
+      (child-answer opening_rows opening_tree.unique root name None (no_child root name));
 }
 
 opening_shows : Shows opening_content opening_world
 opening_shows = record {
   files = λ n. ⊎_elim
-      (λ same. subst (λ k. option_map visible (map.get opening_content k) ≡ option_map (λ (r : Row). r.file) (map.get opening_rows k)) (sym same)
-      (ap (option_map visible) (get-insert_same map.empty root fresh_root) ∙ sym (ap (option_map (λ (r : Row). r.file)) (get-insert_same map.empty root root_row))))
+      (λ same. subst (λ k. option_map visible (map.get opening_content k)
+      ≡ option_map (λ (r : Row). r.file) (map.get opening_rows k)) (sym same)
+      (ap (option_map visible) (get-insert_same map.empty root fresh_root)
+      ∙ sym (ap (option_map (λ (r : Row). r.file)) (get-insert_same map.empty root root_row))))
       (λ other. ap (option_map visible) (get-insert_other map.empty root fresh_root n other ∙ map.get-empty _ n)
-      ∙ sym (ap (option_map (λ (r : Row). r.file)) (get-insert_other map.empty root root_row n other ∙ map.get-empty _ n)))
+      ∙ sym (ap (option_map (λ (r : Row). r.file)) (get-insert_other map.empty root root_row n other
+      ∙ map.get-empty _ n)))
       (cases_eq n root);
-  sizes = λ n f e. let is = only_fresh n f e in subst (λ (x : File). IsLength x.kind (length x.bytes)) is.1 (omega arith, omega arith);
+  sizes = λ n f e. let is = only_fresh n f e in
+      subst (λ (x : File). IsLength x.kind (length x.bytes)) is.1 (omega arith, omega arith);
   listings = λ n f e k. let is = only_fresh n f e in
-      subst (λ m. ListsRows opening_rows m f.bytes) (sym is.0) (subst (λ (x : File). ListsRows opening_rows root x.bytes) is.1 nothing_listed);
+      subst (λ m. ListsRows opening_rows m f.bytes) (sym is.0)
+      (subst (λ (x : File). ListsRows opening_rows root x.bytes) is.1 nothing_listed);
 }
 
 -- a store with the content of a fresh volume's
@@ -38,5 +44,6 @@ pub shows_opening : (s : StoreState) → s.content ≡ opening_content → Shows
 shows_opening s same = subst (λ c. Shows c opening_world) (sym same) opening_shows
 
 -- a store in this state, whose content is that of a fresh volume's
-pub shows_opening_state : (s opening : StoreState) → s ≡ opening → opening.content ≡ opening_content → Shows s.content opening_world
+pub shows_opening_state : (s opening : StoreState) → s ≡ opening → opening.content ≡ opening_content
+    → Shows s.content opening_world
 shows_opening_state s opening same content = shows_opening s (ap (λ (t : StoreState). t.content) same ∙ content)

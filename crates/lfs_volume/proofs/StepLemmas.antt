@@ -1,5 +1,6 @@
 -- Runs of steps with one more, and what they are without the cleaner's.
-use Rattle.std.proofs.Common.{◌≡◌, ℕ, List, [], ◌∷◌, ◌++◌, length, refl, sym, ap, subst, ◌∙◌, arith, append_assoc, append-nil}
+use Rattle.std.proofs.Common.{◌≡◌, ℕ, List, [], ◌∷◌, ◌++◌, length, refl, sym, ap, subst, ◌∙◌, arith, append_assoc}
+use Rattle.std.proofs.Common.{append-nil}
 use Rattle.lfs_types.specs.StoreStates.{Shape}
 use Rattle.lfs_types.specs.Tree.{World}
 use Rattle.lfs_model.specs.declared.journal.Entry.{Entry}
@@ -14,7 +15,8 @@ use Rattle.lfs_volume.specs.Cleanings.{Cleaner}
 use Rattle.lfs_volume.specs.StepRuns.{AreLegalAlone, AreSteps, IsActMade}
 
 -- what a step more keeps
-pub kept_steps-append : (steps : List Step) (answers : List StepAnswer) (step : Step) (answer : StepAnswer) → length answers ≡ length steps
+pub kept_steps-append : (steps : List Step) (answers : List StepAnswer) (step : Step) (answer : StepAnswer)
+    → length answers ≡ length steps
     → kept_steps (steps ++ step ∷ []) (answers ++ answer ∷ []) ≡ kept_steps steps answers ++ kept_step step answer
 kept_steps-append [] [] step answer h = append-nil (kept_step step answer)
 kept_steps-append [] (a ∷ answers) step answer h = absurd (omega (arith, h))
@@ -24,8 +26,10 @@ kept_steps-append (s ∷ steps) (a ∷ answers) step answer h =
     ∙ sym (append_assoc (kept_step s a) (kept_steps steps answers) (kept_step step answer))
 
 -- one more step was answered
-pub AreSteps-append : {F : Type 0} (r : Cleaner F) (limit : ℕ) (from : World) (journal : List Entry) (first last next : F) (steps : List Step)
-    (answers : List StepAnswer) (step : Step) (answer : StepAnswer) → AreSteps r limit from journal first steps answers last
+pub AreSteps-append : {F : Type 0} (r : Cleaner F) (limit : ℕ) (from : World) (journal : List Entry)
+    (first last next : F) (steps : List Step)
+    (answers : List StepAnswer) (step : Step) (answer : StepAnswer)
+    → AreSteps r limit from journal first steps answers last
     → IsVolume (r.state last) (world_after (r.state last).shape.numbers (journal ++ kept_steps steps answers) from)
     → IsActMade r limit from (journal ++ kept_steps steps answers) last step.cred step.act answer next
     → AreSteps r limit from journal first (steps ++ step ∷ []) (answers ++ answer ∷ []) next
@@ -54,10 +58,12 @@ AreSteps-append r limit from journal first last next (s ∷ steps) (a ∷ answer
 IsLegal-later : (numbers segments : ℕ) (es fs : List Entry) (w : World) → IsLegal numbers segments (es ++ fs) w
     → IsLegal numbers segments fs (world_after numbers es w)
 IsLegal-later numbers segments [] fs w legal = legal
-IsLegal-later numbers segments (e ∷ es) fs w legal = IsLegal-later numbers segments es fs (after_event numbers w e.cred e.event) legal.1
+IsLegal-later numbers segments (e ∷ es) fs w legal =
+    IsLegal-later numbers segments es fs (after_event numbers w e.cred e.event) legal.1
 
 -- the entries behind a journal are legal, with the cleaner's and without them
-pub AreLegalAlone-behind : (from : World) (shape : Shape) (es fs : List Entry) → IsLegal shape.numbers shape.segments (es ++ fs) from
+pub AreLegalAlone-behind : (from : World) (shape : Shape) (es fs : List Entry)
+    → IsLegal shape.numbers shape.segments (es ++ fs) from
     → AreLegalAlone shape fs (world_after shape.numbers es from) (world_after shape.numbers (es ++ fs) from)
 AreLegalAlone-behind from shape es fs legal =
     let later = IsLegal-later shape.numbers shape.segments es fs from legal in

@@ -18,30 +18,40 @@ use Rattle.lfs_calls.specs.Entries.{LeavesEntries, OnServed}
 use Rattle.lfs_calls.specs.Outcomes.{IsOutcome}
 use Rattle.lfs_calls.specs.Volumes.{IsVolume}
 
--- A user's call was answered so behind a journal that began in this world, and led from one store to another: JournalFull
--- exactly where the journal has its limit, and then the store is as before; else the answer has its cause over the store as
--- it was, which shows the journal's world. A call that is served leaves the entries of directories in their places, and a
--- Sync nothing waiting; one that isn't leaves the content; one that looks, that a rule denies or that wants a number, room
+-- A user's call was answered so behind a journal that began in this world, and led from one store to another:
+-- JournalFull
+-- exactly where the journal has its limit, and then the store is as before; else the answer has its cause over the
+-- store as
+-- it was, which shows the journal's world. A call that is served leaves the entries of directories in their places, and
+-- a
+-- Sync nothing waiting; one that isn't leaves the content; one that looks, that a rule denies or that wants a number,
+-- room
 -- for a name or the journal's room leaves the whole state of the store as it was; and no more segments are clean.
-pub record IsCallMade {F : Type 0} (state : F → StoreState) (is_settled : F → Type 0) (limit : ℕ) (from : World) (journal : List Entry) (old : F) (caller : Caller) (request : Request) (answer : Answer) (new : F) : Type 0 where
+pub record IsCallMade {F : Type 0} (state : F → StoreState) (is_settled : F → Type 0) (limit : ℕ) (from : World)
+    (journal : List Entry) (old : F) (caller : Caller) (request : Request) (answer : Answer) (new : F) : Type 0 where
   pub full : (answer ≡ Refused JournalFull) ↔ (length journal ≡ limit)
   pub at_limit : length journal ≡ limit → new ≡ old
   pub shown : IsVolume (state old) (world_after (state old).shape.numbers journal from)
-  pub outcome : length journal < limit → IsOutcome (state old) (world_after (state old).shape.numbers journal from) caller request answer
-  pub entries : OnServed answer (LeavesEntries request (state old).content (state new).content (world_after (state old).shape.numbers journal from).rows)
+  pub outcome : length journal < limit → IsOutcome (state old)
+      (world_after (state old).shape.numbers journal from) caller request answer
+  pub entries : OnServed answer (LeavesEntries request (state old).content (state new).content
+      (world_after (state old).shape.numbers journal from).rows)
   pub unserved : IsUnserved answer → (state new).content ≡ (state old).content
   pub looks : LooksOn request (state old) (state new)
   pub unasked : OnUnasked answer (state new ≡ state old)
   pub synced : request ≡ Sync → answer ≡ Served Done → is_settled new
   pub follows : Follows (state old) (state new)
 
--- Calls were answered so behind a journal, one after another, and led from one store to another: each is made on the store
+-- Calls were answered so behind a journal, one after another, and led from one store to another: each is made on the
+-- store
 -- that the one before it left.
-abbrev pub AreAnswers : {F : Type 0} → (F → StoreState) → (F → Type 0) → ℕ → World → List Entry → F → List Call → List Answer → F → Type 0
+abbrev pub AreAnswers : {F : Type 0} → (F → StoreState) → (F → Type 0) → ℕ → World → List Entry → F → List Call
+    → List Answer → F → Type 0
 AreAnswers state is_settled limit from journal old [] [] new = new ≡ old
 AreAnswers state is_settled limit from journal old [] (answer ∷ answers) new = ⊥
 AreAnswers state is_settled limit from journal old (call ∷ calls) [] new = ⊥
 AreAnswers {F} state is_settled limit from journal old (call ∷ calls) (answer ∷ answers) new =
     (next : F)
     × IsCallMade state is_settled limit from journal old call.cred call.request answer next
-    × AreAnswers state is_settled limit from (journal ++ kept_entry call.session call.cred call.request answer) next calls answers new
+    × AreAnswers state is_settled limit from (journal
+    ++ kept_entry call.session call.cred call.request answer) next calls answers new

@@ -11,7 +11,8 @@ use Rattle.lfs_types.specs.declared.cleaner.CleanerCall.TheVariants as call
 use Rattle.lfs_types.specs.declared.rule.Denial.{Denial}
 use Rattle.lfs_types.specs.declared.rule.Rule.TheVariants.{IsSuperuser}
 use Rattle.lfs_model.specs.declared.journal.CleanerAnswer.{CleanerAnswer}
-use Rattle.lfs_model.specs.declared.journal.CleanerAnswer.TheVariants.{Refused, Denied, Fault, Ifile, Infos, Bmapv, Marked, Cleaned}
+use Rattle.lfs_model.specs.declared.journal.CleanerAnswer.TheVariants.{Refused, Denied, Fault, Ifile, Infos, Bmapv}
+use Rattle.lfs_model.specs.declared.journal.CleanerAnswer.TheVariants.{Marked, Cleaned}
 use Rattle.lfs_model.specs.declared.journal.Event.TheVariants.{Cleaner as Cleaning}
 use Rattle.lfs_model.specs.Cleaning.{IsCleaning}
 use Rattle.lfs_model.specs.Runs.{cleans, kind_of, outcome_of}
@@ -36,7 +37,8 @@ abbrev pub IsDone : {F : Type 0} → Cleaner F → F → CleanerCall → Cleaner
 IsDone r old call.Ifile (Ifile bytes) new = r.calls.gives_ifile old bytes × (new ≡ old)
 IsDone r old call.Ifile (Refused NoMemory) new = new ≡ old
 IsDone r old (call.Infos segment) (Infos infos) new = r.calls.gives_infos old segment (Ok tt) infos × (new ≡ old)
-IsDone r old (call.Infos segment) (Fault fault) new = ((infos : List BlockInfo) × r.calls.gives_infos old segment (Err fault) infos) × (new ≡ old)
+IsDone r old (call.Infos segment) (Fault fault) new =
+    ((infos : List BlockInfo) × r.calls.gives_infos old segment (Err fault) infos) × (new ≡ old)
 IsDone r old (call.Bmapv infos) (Bmapv given) new = r.calls.gives_addresses old infos given × (new ≡ old)
 IsDone r old (call.Markv marks) (Marked count) new = r.calls.writes_again old marks (Ok count) new
 IsDone r old (call.Markv marks) (Fault fault) new = r.calls.writes_again old marks (Err fault) new
@@ -61,7 +63,8 @@ IsCounted answer = Unit {0}
 
 -- a cleaner's call was answered so over a store: its outcome may come, the content stays, and no more segments became
 -- clean than its event tells
-pub record IsCleaned (old new : StoreState) (caller : Caller) (call : CleanerCall) (answer : CleanerAnswer) : Type 0 where
+pub record IsCleaned (old new : StoreState) (caller : Caller) (call : CleanerCall)
+    (answer : CleanerAnswer) : Type 0 where
   pub outcome : IfSome (outcome_of answer) (IsCleaning old.shape.numbers old.shape.segments caller (kind_of call))
   pub content : new.content ≡ old.content
   pub leaves : CleansOnly answer old new

@@ -37,8 +37,10 @@ abbrev pub AtPresent : {F : Type 0} → (F → StoreState) → Seen F → (World
 AtPresent state v P =
     Since (state v.since) v.since_level (λ from. P (world_after (state v.store).shape.numbers v.journal from))
 
--- The journal of a volume over a store in this state, at this level, that began in this world: it is a legal run from there
--- to the world that store and level show, which is a tree; it is no longer than its limit; and a call refused for want of
+-- The journal of a volume over a store in this state, at this level, that began in this world: it is a legal run from
+-- there
+-- to the world that store and level show, which is a tree; it is no longer than its limit; and a call refused for want
+-- of
 -- space stands in it only where at most two of the segments that are clean now weren't made clean after it.
 pub record IsJournal (from : World) (s : StoreState) (level : Level) (entries : List Entry) (limit : ℕ) : Type 0 where
   pub legal : IsLegal s.shape.numbers s.shape.segments entries from
@@ -47,9 +49,11 @@ pub record IsJournal (from : World) (s : StoreState) (level : Level) (entries : 
   pub within : length entries ≤ limit
   pub space : IsShort s.clean entries
 
--- A step over a store that shows this world: it may happen there, store and level show the world that it leaves, NoSpace
+-- A step over a store that shows this world: it may happen there, store and level show the world that it leaves,
+-- NoSpace
 -- comes only with at most two clean segments, and no more segments become clean than the event tells.
-pub record IsStep (old new : StoreState) (level_after : Level) (w : World) (caller : Caller) (event : Event) : Type 0 where
+pub record IsStep (old new : StoreState) (level_after : Level) (w : World) (caller : Caller)
+    (event : Event) : Type 0 where
   pub happens : IsEvent old.shape.numbers old.shape.segments w caller event
   pub leaves : IsVolume new (after_event old.shape.numbers w caller event)
   pub leveled : (after_event old.shape.numbers w caller event).level ≡ level_after
@@ -57,12 +61,15 @@ pub record IsStep (old new : StoreState) (level_after : Level) (w : World) (call
   pub clean : new.clean ≤ old.clean + cleans event
   pub shape : new.shape ≡ old.shape
 
--- A journal became this one by an entry of this event: from wherever it began, over each store and level whose journal it
+-- A journal became this one by an entry of this event: from wherever it began, over each store and level whose journal
+-- it
 -- was, with room for one more, it is the journal of those that the step leaves.
 abbrev pub StaysJournal : List Entry → List Entry → Caller → Event → Type 0
 StaysJournal before after caller event =
-    (from : World) (old new : StoreState) (level level_after : Level) (limit : ℕ) → IsJournal from old level before limit → length before < limit
-    → IsStep old new level_after (world_after old.shape.numbers before from) caller event → IsJournal from new level_after after limit
+    (from : World) (old new : StoreState) (level level_after : Level) (limit : ℕ)
+    → IsJournal from old level before limit → length before < limit
+    → IsStep old new level_after (world_after old.shape.numbers before from) caller event
+    → IsJournal from new level_after after limit
 
 -- content and level are as before
 pub record Stays (old new : StoreState) (level level_after : Level) : Type 0 where
@@ -81,12 +88,15 @@ level_left level request (Refused resource) = level
 
 -- A user's call was answered so over a store and a level: the answer has its cause, store and level show the world that
 -- it leaves, a served call leaves the entries of directories in their places, a call that isn't served or lists changes
--- neither content nor level, one that looks or asks the store for no changes leaves the whole state as it was, and no more
+-- neither content nor level, one that looks or asks the store for no changes leaves the whole state as it was, and no
+-- more
 -- segments are clean.
-pub record IsAnswered (old new : StoreState) (level level_after : Level) (caller : Caller) (request : Request) (answer : Answer) : Type 0 where
+pub record IsAnswered (old new : StoreState) (level level_after : Level) (caller : Caller) (request : Request)
+    (answer : Answer) : Type 0 where
   pub outcome : InWorld old (λ w. w.level ≡ level → IsOutcome old w caller request answer)
   pub leaves : InWorld old (λ w. IsVolume new (after_answer old.shape.numbers w caller request answer))
-  pub leveled : (w : World) → w.level ≡ level → (after_answer old.shape.numbers w caller request answer).level ≡ level_after
+  pub leveled : (w : World) → w.level ≡ level → (after_answer old.shape.numbers w caller request answer).level
+      ≡ level_after
   pub entries : OnServed answer (InWorld old (λ w. LeavesEntries request old.content new.content w.rows))
   pub unserved : IsUnserved answer → Stays old new level level_after
   pub listed : ServesList answer → Stays old new level level_after

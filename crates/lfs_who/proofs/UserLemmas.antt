@@ -1,5 +1,6 @@
 -- Users told apart.
-use Rattle.std.proofs.Common.{◌≡◌, ℕ, ◌==◌, ◌||◌, Bool, true, false, cond, List, [], ◌∷◌, ◌++◌, refl, sym, ap, subst, ◌∙◌}
+use Rattle.std.proofs.Common.{◌≡◌, ℕ, ◌==◌, ◌||◌, Bool, true, false, cond, List, [], ◌∷◌, ◌++◌, refl, sym, ap, subst}
+use Rattle.std.proofs.Common.{◌∙◌}
 use Rattle.std.specs.List.{list_any}
 use Rattle.std.proofs.lemmas.Bool.{eq-eqb, eqb-true, eqb-false, ne_eqb}
 use Rattle.std.proofs.lemmas.List.Folds.{list_any-append}
@@ -20,59 +21,72 @@ turned x y = sym (turned_case (x == y) x y refl)
 
 pub among_turned : (u : ℕ) (users : List ℕ) → list_any (λ v. v == u) users ≡ is_among u users
 among_turned u [] = refl
-among_turned u (v ∷ users) = ap (λ b. b || list_any (λ w. w == u) users) (turned v u) ∙ ap (λ b. (u == v) || b) (among_turned u users)
+among_turned u (v ∷ users) = ap (λ b. b || list_any (λ w. w == u) users) (turned v u)
+    ∙ ap (λ b. (u == v) || b) (among_turned u users)
 
 or_none : (b : Bool) → (b || false) ≡ b
 or_none true = refl
 or_none false = refl
 
 pub among_more : (u uid : ℕ) (users : List ℕ) → is_among u (users ++ uid ∷ []) ≡ (is_among u users || (u == uid))
-among_more u uid users = list_any-append (λ v. u == v) users (uid ∷ []) ∙ ap (λ b. is_among u users || b) (or_none (u == uid))
+among_more u uid users = list_any-append (λ v. u == v) users (uid ∷ [])
+    ∙ ap (λ b. is_among u users || b) (or_none (u == uid))
 
-there_case : (b : Bool) (u uid : ℕ) (users : List ℕ) → (u == uid) ≡ b → is_among uid users ≡ true → is_among u users ≡ (is_among u users || b)
+there_case : (b : Bool) (u uid : ℕ) (users : List ℕ) → (u == uid) ≡ b → is_among uid users ≡ true → is_among u users
+    ≡ (is_among u users || b)
 there_case true u uid users e there =
     let here : is_among u users ≡ true = ap (λ v. is_among v users) (eqb-true u uid e) ∙ there in
     here ∙ sym (ap (λ b. b || true) here)
 there_case false u uid users e there = sym (or_none (is_among u users))
 
 -- who is among users already adds nobody
-pub among_same : (u uid : ℕ) (users : List ℕ) → is_among uid users ≡ true → is_among u users ≡ (is_among u users || (u == uid))
+pub among_same : (u uid : ℕ) (users : List ℕ) → is_among uid users ≡ true → is_among u users
+    ≡ (is_among u users || (u == uid))
 among_same u uid users there = there_case (u == uid) u uid users refl there
 
 -- ---- lines of users
 
-pub lines_append : (ns : List Named) (n : Named) (others : List Told) (u : ℕ) → lines_for (ns ++ n ∷ []) others u ≡ lines_for ns (cond (n.uid == u) n.lines.items others) u
+pub lines_append : (ns : List Named) (n : Named) (others : List Told) (u : ℕ) → lines_for (ns ++ n ∷ []) others u
+    ≡ lines_for ns (cond (n.uid == u) n.lines.items others) u
 lines_append [] n others u = refl
 lines_append (m ∷ ns) n others u = ap (λ l. cond (m.uid == u) m.lines.items l) (lines_append ns n others u)
 
-either_case : (P : List Told → Type 0) (b : Bool) (own some others : List Told) → P (cond b own some) → (P some → P others) → P (cond b own others)
+either_case : (P : List Told → Type 0) (b : Bool) (own some others : List Told) → P (cond b own some)
+    → (P some → P others) → P (cond b own others)
 either_case P true own some others so on = so
 either_case P false own some others so on = on so
 
 -- what holds of a user's lines, and of other lines, holds where those take the place of everybody else's
-pub for_either : (P : List Told → Type 0) (ns : List Named) (some others : List Told) (u : ℕ) → P (lines_for ns some u) → P others → P (lines_for ns others u)
+pub for_either : (P : List Told → Type 0) (ns : List Named) (some others : List Told) (u : ℕ) → P (lines_for ns some u)
+    → P others → P (lines_for ns others u)
 for_either P [] some others u so other = other
 for_either P (n ∷ ns) some others u so other =
-    either_case P (n.uid == u) n.lines.items (lines_for ns some u) (lines_for ns others u) so (λ on. for_either P ns some others u on other)
+    either_case P (n.uid == u) n.lines.items (lines_for ns some u) (lines_for ns others u) so
+    (λ on. for_either P ns some others u on other)
 
 -- ---- one user more
 
-module _ (questions : List Question) (old : List Named) (others : List Told) (users : List ℕ) (uid : ℕ) (lines : List Told)
+module _ (questions : List Question) (old : List Named) (others : List Told) (users : List ℕ) (uid : ℕ)
+    (lines : List Told)
     (own : (c : Caller) → c.uid ≡ uid → IsToldTo questions c lines) (so : AreNamed questions old others users) where
   Apart : ℕ → Type 0
   Apart u = (is_among u users || (u == uid)) ≡ true
 
-  module _ (new : List Named) (put : (u : ℕ) (some : List Told) → lines_for new some u ≡ lines_for old (cond (uid == u) lines some) u) where
+  module _ (new : List Named) (put : (u : ℕ) (some : List Told) → lines_for new some u
+      ≡ lines_for old (cond (uid == u) lines some) u) where
     -- a caller who is the user
-    mine : (c : Caller) → c.uid ≡ uid → (b : Bool) → is_among c.uid users ≡ b → IsToldTo questions c (lines_for old lines c.uid)
+    mine : (c : Caller) → c.uid ≡ uid → (b : Bool) → is_among c.uid users ≡ b
+        → IsToldTo questions c (lines_for old lines c.uid)
     mine c same true among = for_either (IsToldTo questions c) old others lines c.uid (so.told c among) (own c same)
     mine c same false among = subst (λ ls. IsToldTo questions c ls) (sym (so.free c.uid among lines)) (own c same)
 
-    told_case : (c : Caller) (b : Bool) → (c.uid == uid) ≡ b → (is_among c.uid users || b) ≡ true → IsToldTo questions c (lines_for old (cond b lines others) c.uid)
+    told_case : (c : Caller) (b : Bool) → (c.uid == uid) ≡ b → (is_among c.uid users || b) ≡ true
+        → IsToldTo questions c (lines_for old (cond b lines others) c.uid)
     told_case c true e among = mine c (eqb-true c.uid uid e) (is_among c.uid users) refl
     told_case c false e among = so.told c (sym (or_none (is_among c.uid users)) ∙ among)
 
-    free_case : (u : ℕ) (some : List Told) (b d : Bool) → is_among u users ≡ b → (u == uid) ≡ d → (b || d) ≡ false → lines_for old (cond d lines some) u ≡ some
+    free_case : (u : ℕ) (some : List Told) (b d : Bool) → is_among u users ≡ b → (u == uid) ≡ d → (b || d) ≡ false
+        → lines_for old (cond d lines some) u ≡ some
     free_case u some true d among e none = absurd (cc)
     free_case u some false true among e none = absurd (cc)
     free_case u some false false among e none = so.free u among some
@@ -91,9 +105,11 @@ module _ (questions : List Question) (old : List Named) (others : List Told) (us
 
   -- one whose lines are everybody else's
   module _ (alike : lines ≡ others) where
-    alike_case : (c : Caller) (b d : Bool) → is_among c.uid users ≡ b → (c.uid == uid) ≡ d → (b || d) ≡ true → IsToldTo questions c (lines_for old others c.uid)
+    alike_case : (c : Caller) (b d : Bool) → is_among c.uid users ≡ b → (c.uid == uid) ≡ d → (b || d) ≡ true
+        → IsToldTo questions c (lines_for old others c.uid)
     alike_case c true d among e some = so.told c among
-    alike_case c false true among e some = subst (λ ls. IsToldTo questions c ls) (alike ∙ sym (so.free c.uid among others)) (own c (eqb-true c.uid uid e))
+    alike_case c false true among e some = subst (λ ls. IsToldTo questions c ls) (alike
+        ∙ sym (so.free c.uid among others)) (own c (eqb-true c.uid uid e))
     alike_case c false false among e some = absurd (cc)
 
     fewer_case : (u : ℕ) (b d : Bool) → is_among u users ≡ b → (b || d) ≡ false → is_among u users ≡ false
@@ -102,6 +118,8 @@ module _ (questions : List Question) (old : List Named) (others : List Told) (us
 
     pub named_same : AreNamed questions old others (users ++ uid ∷ [])
     named_same = record {
-      told = λ c among. alike_case c (is_among c.uid users) (c.uid == uid) refl refl (sym (among_more c.uid uid users) ∙ among);
-      free = λ u none some. so.free u (fewer_case u (is_among u users) (u == uid) refl (sym (among_more u uid users) ∙ none)) some;
+      told = λ c among. alike_case c (is_among c.uid users) (c.uid == uid) refl refl (sym (among_more c.uid uid users)
+          ∙ among);
+      free = λ u none some. so.free u (fewer_case u (is_among u users) (u == uid) refl (sym (among_more u uid users)
+          ∙ none)) some;
     }

@@ -7,10 +7,12 @@ use Rattle.lfs_types.specs.declared.request.Place.TheVariants.{At, End}
 use Rattle.lfs_types.specs.declared.request.Request.{Request}
 use Rattle.lfs_types.specs.declared.request.Request.TheVariants as requests
 use Rattle.lfs_types.specs.declared.rule.Denial.{Denial}
-use Rattle.lfs_model.specs.Rules.{Check, first_failing, list_tests, reaching, read_tests, rmdir_tests, rule_table, searching_tests, unlink_tests, write_tests}
+use Rattle.lfs_model.specs.Rules.{Check, first_failing, list_tests, reaching, read_tests, rmdir_tests, rule_table}
+use Rattle.lfs_model.specs.Rules.{searching_tests, unlink_tests, write_tests}
 use Rattle.lfs_explain.specs.Tables.{Path, last_row, making_by, reaching_by, removing_by}
 use Rattle.lfs_who.specs.declared.act.Act.{Act}
-use Rattle.lfs_who.specs.declared.act.Act.TheVariants.{Stat, Search, Read, Write, Append, List as Names, Create, Unlink, Rmdir}
+use Rattle.lfs_who.specs.declared.act.Act.TheVariants.{Stat, Search, Read, Write, Append, List as Names, Create, Unlink}
+use Rattle.lfs_who.specs.declared.act.Act.TheVariants.{Rmdir}
 
 -- the call that does it; going through a directory is no call of its own, and asks what a Stat asks and more
 abbrev pub request_of : Act → List (List ℕ) → Request

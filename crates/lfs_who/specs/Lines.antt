@@ -26,7 +26,8 @@ told_to c (line ∷ lines) = if fits c line.inside line.outside then line.denial
 abbrev pub left : Caller → List ℕ → List ℕ → Option Denial → List (Option Denial)
 left c inside outside decision = if fits c inside outside then decision ∷ [] else []
 
--- The callers who fit some groups are told apart by an outcome: whatever the decision of those for whom it is met, the lines and
+-- The callers who fit some groups are told apart by an outcome: whatever the decision of those for whom it is met, the
+-- lines and
 -- those who are left tell each caller what the old ones told him; or nobody is left.
 abbrev pub IsSplit : Outcome → Denial → List Told → List ℕ → List ℕ → List Told → List ℕ → List ℕ → Bool → Type 0
 IsSplit outcome denial lines inside outside now within without ends =

@@ -17,10 +17,12 @@ abbrev pub lines_for : List Named → List Told → ℕ → List Told
 lines_for [] others u = others
 lines_for (named ∷ more) others u = if named.uid == u then named.lines.items else lines_for more others u
 
--- Every caller there can be, whoever he is and whatever groups he is in, fits one line of his user and no other, and it has
+-- Every caller there can be, whoever he is and whatever groups he is in, fits one line of his user and no other, and it
+-- has
 -- the denial of his call, or that the rules allow it.
 abbrev pub IsWho : World → Act → List (List ℕ) → Who → Type 0
-IsWho w act path who = (c : Caller) → told_to c (lines_for who.named.items who.others.items c.uid) ≡ act_denial w c act path ∷ []
+IsWho w act path who = (c : Caller) → told_to c (lines_for who.named.items who.others.items c.uid)
+    ≡ act_denial w c act path ∷ []
 
 -- whether a user is among some
 abbrev pub is_among : ℕ → List ℕ → Bool
@@ -35,6 +37,7 @@ abbrev pub IsToldTo : List Question → Caller → List Told → Type 0
 IsToldTo questions c lines = told_to c lines ≡ first_failing (all_posed c questions) ∷ []
 
 -- these users' lines are told, and no other user is named
-pub record AreNamed (questions : List Question) (named : List Named) (others : List Told) (users : List ℕ) : Type 0 where
+pub record AreNamed (questions : List Question) (named : List Named) (others : List Told)
+    (users : List ℕ) : Type 0 where
   pub told : (c : Caller) → is_among c.uid users ≡ true → IsToldTo questions c (lines_for named others c.uid)
   pub free : (u : ℕ) → is_among u users ≡ false → (lines : List Told) → lines_for named lines u ≡ lines

@@ -1,5 +1,6 @@
 -- The lines of checks, one by one; what stands at a place of a list.
-use Rattle.std.proofs.Common.{◌≡◌, ℕ, zero, suc, ◌+◌, ◌<◌, ◌≤◌, List, [], ◌∷◌, length, drop, get_or, None, Some, refl, sym, ap, ◌∙◌, arith}
+use Rattle.std.proofs.Common.{◌≡◌, ℕ, zero, suc, ◌+◌, ◌<◌, ◌≤◌, List, [], ◌∷◌, length, drop, get_or, None, Some, refl}
+use Rattle.std.proofs.Common.{sym, ap, ◌∙◌, arith}
 use Rattle.std.specs.Prelude.{slice_get}
 use Rattle.std.proofs.lemmas.List.{drop_all}
 use Rattle.lfs_types.specs.Caller.{Caller}
@@ -23,19 +24,28 @@ not_got (y ∷ xs) zero over = absurd (omega (arith, over))
 not_got (y ∷ xs) (suc k) over = not_got xs k (omega (arith, over))
 
 module _ (caller : Caller) (paths : Paths) where
-  pub line_next : (out : List ℕ) (checks : List Check) (at : ℕ) (check : Check) → at < length checks → check ≡ get_or checks at check
-      → with_checks out caller paths (drop at checks) ≡ with_checks (with_check out caller paths check) caller paths (drop (at + 1) checks)
+  pub line_next : (out : List ℕ) (checks : List Check) (at : ℕ) (check : Check) → at < length checks → check
+      ≡ get_or checks at check
+      → with_checks out caller paths (drop at checks)
+      ≡ with_checks (with_check out caller paths check) caller paths (drop (at + 1) checks)
   line_next out checks at check long is = ap (with_checks out caller paths) (left_from checks at check long is)
 
-  pub lines_all : (out : List ℕ) (checks : List Check) (at : ℕ) → length checks ≤ at → with_checks out caller paths (drop at checks) ≡ out
+  pub lines_all : (out : List ℕ) (checks : List Check) (at : ℕ) → length checks ≤ at
+      → with_checks out caller paths (drop at checks) ≡ out
   lines_all out checks at over = ap (with_checks out caller paths) (drop_all at checks over)
 
 -- the text of an explanation of a call in a world is why the call would be allowed or denied there
-pub why_told : (w : World) (caller : Caller) (request : Request) (e : Explanation) → e.checks.items ≡ asked (rule_table w caller request)
+pub why_told : (w : World) (caller : Caller) (request : Request) (e : Explanation) → e.checks.items
+    ≡ asked (rule_table w caller request)
     → IsTrail w.rows (first_names request) e.first → IsTrail w.rows (second_names request) e.second
     → told_text caller (paths_of request e) e.checks.items ≡ why_text w caller request
 unfolding why_text
 why_told w caller request e checks first second =
     let same : paths_of request e ≡ paths_in w.rows request =
-    λ i. record { names = first_names request; rows = first.rows_are i; second_names = second_names request; second_rows = second.rows_are i } in
+    λ i. record {
+      names = first_names request;
+      rows = first.rows_are i;
+      second_names = second_names request;
+      second_rows = second.rows_are i;
+    } in
     ap (λ (p : Paths). told_text caller p e.checks.items) same ∙ ap (told_text caller (paths_in w.rows request)) checks

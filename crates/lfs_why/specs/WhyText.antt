@@ -1,5 +1,6 @@
 -- An explanation as lines of text. A text is given with what was told before it.
-use Rattle.std.specs.Prelude.{ℕ, ◌-◌, Bool, true, false, List, [], ◌∷◌, ◌++◌, codes, decimal, ◌==◌, Option, None, Some, slice_get, if◌then◌else◌}
+use Rattle.std.specs.Prelude.{ℕ, ◌-◌, Bool, true, false, List, [], ◌∷◌, ◌++◌, codes, decimal, ◌==◌, Option, None, Some}
+use Rattle.std.specs.Prelude.{slice_get, if◌then◌else◌}
 use Rattle.lfs_types.specs.Caller.{Caller}
 use Rattle.lfs_types.specs.Kinds.{is_directory_kind}
 use Rattle.lfs_types.specs.RuleCodes.{error_name, rule_code, rule_error}
@@ -9,7 +10,11 @@ use Rattle.lfs_types.specs.declared.attrs.Bit.TheVariants as bits
 use Rattle.lfs_types.specs.declared.request.Request.{Request}
 use Rattle.lfs_types.specs.declared.rule.Denial.{Denial}
 use Rattle.lfs_types.specs.declared.rule.Rule.{Rule}
-use Rattle.lfs_types.specs.declared.rule.Rule.TheVariants.{IsDirectory, GrantsSearch, NameThere, NameFree, IsNoDirectory, IsEmpty, IsNotRoot, IsNotBeneathItself, IsMutable, IsNotAppendOnly, GrantsRead, GrantsWrite, PassesSticky, IsOwner, MaySetOwner, IsSuperuser, MaySetFlags, KeepsSystemLocks, MaySetLevel, FitsFile}
+use Rattle.lfs_types.specs.declared.rule.Rule.TheVariants.{IsDirectory, GrantsSearch, NameThere, NameFree}
+use Rattle.lfs_types.specs.declared.rule.Rule.TheVariants.{IsNoDirectory, IsEmpty, IsNotRoot, IsNotBeneathItself}
+use Rattle.lfs_types.specs.declared.rule.Rule.TheVariants.{IsMutable, IsNotAppendOnly, GrantsRead, GrantsWrite}
+use Rattle.lfs_types.specs.declared.rule.Rule.TheVariants.{PassesSticky, IsOwner, MaySetOwner, IsSuperuser, MaySetFlags}
+use Rattle.lfs_types.specs.declared.rule.Rule.TheVariants.{KeepsSystemLocks, MaySetLevel, FitsFile}
 use Rattle.lfs_rules.specs.Grants.{grants_of}
 use Rattle.lfs_model.specs.Rules.{Check, first_failing, rule_table}
 use Rattle.lfs_model.specs.World.{Rows}
@@ -99,7 +104,8 @@ with_row out row =
 abbrev pub with_class : List ℕ → Caller → Attrs → List ℕ
 with_class out caller attrs =
     with_word (with_word out (class_word (class_of caller attrs)))
-    (sign (grants_of caller attrs bits.Read) 114 ∷ sign (grants_of caller attrs bits.Write) 119 ∷ sign (grants_of caller attrs bits.Search) 120 ∷ [])
+    (sign (grants_of caller attrs bits.Read) 114 ∷ sign (grants_of caller attrs bits.Write) 119
+    ∷ sign (grants_of caller attrs bits.Search) 120 ∷ [])
 
 -- a name, if there is one
 abbrev pub with_name : List ℕ → Option (List ℕ) → List ℕ
@@ -138,7 +144,8 @@ with_head out check =
 abbrev pub with_subject : List ℕ → Caller → Rule → ℕ → List (List ℕ) → List ShownRow → List ℕ
 with_subject out caller rule at names rows =
     if asks_name rule then (if at == 0 then out else with_name out (slice_get names (at - 1))) else
-    with_caller (with_directory (with_asked out caller rule (slice_get rows at)) rule (slice_get rows (at - 1))) caller rule
+    with_caller (with_directory (with_asked out caller rule (slice_get rows at)) rule (slice_get rows (at - 1))) caller
+    rule
 
 -- the paths of a call: the names of each, and the rows that they lead through
 pub record Paths : Type 0 where
@@ -161,7 +168,8 @@ abbrev pub with_check : List ℕ → Caller → Paths → Check → List ℕ
 with_check out caller paths check =
     (if check.denial.path == 0
     then with_subject (with_head out check) caller check.denial.rule check.denial.at paths.names paths.rows
-    else with_subject (with_head out check) caller check.denial.rule check.denial.at paths.second_names paths.second_rows)
+    else with_subject (with_head out check) caller check.denial.rule check.denial.at paths.second_names
+    paths.second_rows)
     ++ 10 ∷ []
 
 abbrev pub with_checks : List ℕ → Caller → Paths → List Check → List ℕ

@@ -1,5 +1,7 @@
 -- A credential is read back from its words.
-use Rattle.std.proofs.Common.{◌≡◌, ℕ, zero, suc, ◌-◌, ◌^◌, ◌<◌, ◌≤◌, ◌==◌, Bool, true, false, List, [], ◌∷◌, ◌++◌, length, map, get_or, take, drop, None, Ok, refl, ap, sym, subst, ◌∙◌, arith, append_assoc, rules, tests}
+use Rattle.std.proofs.Common.{◌≡◌, ℕ, zero, suc, ◌-◌, ◌^◌, ◌<◌, ◌≤◌, ◌==◌, Bool, true, false, List, [], ◌∷◌, ◌++◌}
+use Rattle.std.proofs.Common.{length, map, get_or, take, drop, None, Ok, refl, ap, sym, subst, ◌∙◌, arith, append_assoc}
+use Rattle.std.proofs.Common.{rules, tests}
 use Rattle.std.specs.Prelude.{decimal, nat_lt}
 use Rattle.std.specs.Char.{digit_value}
 use Rattle.std.specs.List.{All, flat_map, list_all}
@@ -13,7 +15,8 @@ use Rattle.lfs_types.specs.Credentials.{cred_fault}
 use Rattle.lfs_words.proofs.GroupLists.{caller_fine, decimals_pass}
 use Rattle.lfs_words.proofs.ReadBack.{digits_pass}
 use Rattle.lfs_words.specs.CallerText.{AreShort, caller_words, groups_text}
-use Rattle.lfs_words.specs.Callers.{caller_fault, caller_of, caller_said, decimal_value, decimals_fault, groups_of, is_decimal, is_short}
+use Rattle.lfs_words.specs.Callers.{caller_fault, caller_of, caller_said, decimal_value, decimals_fault, groups_of}
+use Rattle.lfs_words.specs.Callers.{is_decimal, is_short}
 
 abbrev the_caller : ℕ → List ℕ → Bool → Caller
 the_caller uid groups init = record { uid = uid; groups = groups; init = init }
@@ -46,9 +49,11 @@ no_commas cs h = λ k d lt. no_comma cs h k d lt
 
 decimals_split : (g : ℕ) (gs : List ℕ) → AreShort (g ∷ gs) → groups_of (groups_text (g ∷ gs)) ≡ map decimal (g ∷ gs)
 decimals_split g [] short =
-    slice_split_none (λ b. b == 44) (decimal g) (no_commas (decimal g) (decimal_is_IsNumeral g (omega (arith, short 0))).0.1)
+    slice_split_none (λ b. b == 44) (decimal g)
+    (no_commas (decimal g) (decimal_is_IsNumeral g (omega (arith, short 0))).0.1)
 decimals_split g (h ∷ gs) short =
-    slice_split_at (λ b. b == 44) (decimal g) 44 (groups_text (h ∷ gs)) (no_commas (decimal g) (decimal_is_IsNumeral g (omega (arith, short 0))).0.1) refl
+    slice_split_at (λ b. b == 44) (decimal g) 44 (groups_text (h ∷ gs))
+    (no_commas (decimal g) (decimal_is_IsNumeral g (omega (arith, short 0))).0.1) refl
     ∙ ap (λ xs. decimal g ∷ xs) (decimals_split h gs (λ k. short (suc k)))
 
 all_decimals : (gs : List ℕ) → AreShort gs → list_all is_decimal (map decimal gs) ≡ true
@@ -80,7 +85,8 @@ pub record IsFine (cred : Caller) : Type 0 where
   pub few : length cred.groups ≤ 16
   pub root : cred.init ≡ true → cred.uid ≡ 0
 
-no_fault : (uid : ℕ) (groups : List ℕ) (init : Bool) → 1 ≤ length groups → length groups ≤ 16 → (init ≡ true → uid ≡ 0) → cred_fault uid groups init ≡ None
+no_fault : (uid : ℕ) (groups : List ℕ) (init : Bool) → 1 ≤ length groups → length groups ≤ 16 → (init ≡ true → uid ≡ 0)
+    → cred_fault uid groups init ≡ None
 no_fault uid groups true some few root =
     let full : (length groups == 0) ≡ false = ne_eqb (length groups) 0 (λ e. omega arith) in
     let fits : nat_lt 16 (length groups) ≡ false = le-ltb 16 (length groups) few in
@@ -92,66 +98,85 @@ no_fault uid groups false some few root =
     rw (full, fits) refl
 
 -- groups as a word are read as they were
-pub groups_back : (gs : List ℕ) → 1 ≤ length gs → AreShort gs → (decimals_fault (groups_of (groups_text gs)) ≡ None) × (map decimal_value (groups_of (groups_text gs)) ≡ gs)
+pub groups_back : (gs : List ℕ) → 1 ≤ length gs → AreShort gs → (decimals_fault (groups_of (groups_text gs)) ≡ None)
+    × (map decimal_value (groups_of (groups_text gs)) ≡ gs)
 groups_back [] some short = absurd (omega arith)
 groups_back (g ∷ gs) some short =
     let split : groups_of (groups_text (g ∷ gs)) ≡ map decimal (g ∷ gs) = decimals_split g gs short in (
-      ap decimals_fault split ∙ decimals_pass (map decimal (g ∷ gs)) (all_decimals (g ∷ gs) short) (all_short (g ∷ gs) short),
+      ap decimals_fault split ∙ decimals_pass (map decimal (g ∷ gs)) (all_decimals (g ∷ gs) short)
+          (all_short (g ∷ gs) short),
       ap (map decimal_value) split ∙ all_values (g ∷ gs) short,
     )
 
-fine_words : (uid : ℕ) (groups : List ℕ) (init : Bool) → uid < 2 ^ 32 → 1 ≤ length groups → length groups ≤ 16 → AreShort groups → (init ≡ true → uid ≡ 0)
-    → (caller_fault (decimal uid) (groups_text groups) init ≡ None) × (decimal_value (decimal uid) ≡ uid) × (map decimal_value (groups_of (groups_text groups)) ≡ groups)
+fine_words : (uid : ℕ) (groups : List ℕ) (init : Bool) → uid < 2 ^ 32 → 1 ≤ length groups → length groups ≤ 16
+    → AreShort groups → (init ≡ true → uid ≡ 0)
+    → (caller_fault (decimal uid) (groups_text groups) init ≡ None) × (decimal_value (decimal uid) ≡ uid)
+    × (map decimal_value (groups_of (groups_text groups)) ≡ groups)
 fine_words uid groups init lt some few short root =
     let back = groups_back groups some short in
-    let user : decimals_fault (decimal uid ∷ []) ≡ None = decimals_pass (decimal uid ∷ []) (rw (decimal_is uid lt) refl) (rw (short_is uid lt) refl) in
+    let user : decimals_fault (decimal uid ∷ [])
+    ≡ None = decimals_pass (decimal uid ∷ []) (rw (decimal_is uid lt) refl) (rw (short_is uid lt) refl) in
     let value : decimal_value (decimal uid) ≡ uid = value_is uid lt in
-    let cred : cred_fault (decimal_value (decimal uid)) (map decimal_value (groups_of (groups_text groups))) init ≡ None =
+    let cred : cred_fault (decimal_value (decimal uid)) (map decimal_value (groups_of (groups_text groups))) init
+    ≡ None =
     ap (λ u. cred_fault u (map decimal_value (groups_of (groups_text groups))) init) value
     ∙ ap (λ gs. cred_fault uid gs init) back.1 ∙ no_fault uid groups init some few root in
     (caller_fine (decimal uid) (groups_text groups) init user back.0 cred, value, back.1)
 
-same : (uid : ℕ) (groups : List ℕ) (init : Bool) (u : ℕ) (gs : List ℕ) → u ≡ uid → gs ≡ groups → the_caller u gs init ≡ the_caller uid groups init
+same : (uid : ℕ) (groups : List ℕ) (init : Bool) (u : ℕ) (gs : List ℕ) → u ≡ uid → gs ≡ groups → the_caller u gs init
+    ≡ the_caller uid groups init
 same uid groups init u gs e f = ap (λ v. the_caller v gs init) e ∙ ap (λ xs. the_caller uid xs init) f
 
-caller_there_of : (user groups : List ℕ) (init : Bool) → caller_fault user groups init ≡ None → caller_of user groups init ≡ Ok (the_caller (decimal_value user) (map decimal_value (groups_of groups)) init)
+caller_there_of : (user groups : List ℕ) (init : Bool) → caller_fault user groups init ≡ None
+    → caller_of user groups init ≡ Ok (the_caller (decimal_value user) (map decimal_value (groups_of groups)) init)
 caller_there_of user groups init fine = rw fine refl
 
-caller_back_of : (uid : ℕ) (groups : List ℕ) (init : Bool) → uid < 2 ^ 32 → 1 ≤ length groups → length groups ≤ 16 → AreShort groups → (init ≡ true → uid ≡ 0)
-    → caller_said (caller_words (record { uid = uid; groups = groups; init = init })) ≡ Ok (record { uid = uid; groups = groups; init = init })
+caller_back_of : (uid : ℕ) (groups : List ℕ) (init : Bool) → uid < 2 ^ 32 → 1 ≤ length groups → length groups ≤ 16
+    → AreShort groups → (init ≡ true → uid ≡ 0)
+    → caller_said (caller_words (record { uid = uid; groups = groups; init = init }))
+    ≡ Ok (record { uid = uid; groups = groups; init = init })
 caller_back_of uid groups true lt some few short root =
     let fine = fine_words uid groups true lt some few short root in
     let said = caller_there_of (decimal uid) (groups_text groups) true fine.0 in
-    said ∙ ap Ok (same uid groups true (decimal_value (decimal uid)) (map decimal_value (groups_of (groups_text groups))) fine.1 fine.2)
+    said ∙ ap Ok (same uid groups true (decimal_value (decimal uid))
+    (map decimal_value (groups_of (groups_text groups))) fine.1 fine.2)
 caller_back_of uid groups false lt some few short root =
     let fine = fine_words uid groups false lt some few short root in
     let said = caller_there_of (decimal uid) (groups_text groups) false fine.0 in
-    said ∙ ap Ok (same uid groups false (decimal_value (decimal uid)) (map decimal_value (groups_of (groups_text groups))) fine.1 fine.2)
+    said ∙ ap Ok (same uid groups false (decimal_value (decimal uid))
+    (map decimal_value (groups_of (groups_text groups))) fine.1 fine.2)
 
 -- a credential is read back
 pub caller_read_back : (cred : Caller) → IsFine cred → caller_said (caller_words cred) ≡ Ok cred
-caller_read_back cred fine = caller_back_of cred.uid cred.groups cred.init fine.user fine.some fine.few fine.groups fine.root
+caller_read_back cred fine = caller_back_of cred.uid cred.groups cred.init fine.user fine.some fine.few fine.groups
+    fine.root
 
 -- groups, one behind another
-pub groups_joined : (g : ℕ) (gs : List ℕ) → groups_text (g ∷ gs) ≡ decimal g ++ flat_map (λ group. 44 ∷ decimal group) gs
+pub groups_joined : (g : ℕ) (gs : List ℕ) → groups_text (g ∷ gs) ≡ decimal g
+    ++ flat_map (λ group. 44 ∷ decimal group) gs
 groups_joined g [] = sym (append-nil (decimal g))
 groups_joined g (h ∷ gs) = ap (λ xs. decimal g ++ 44 ∷ xs) (groups_joined h gs)
 
-pub groups_added : (out middle new groups rest : List ℕ) (g number : ℕ) → groups ≡ g ∷ rest → number ≡ g → middle ≡ out ++ decimal number
+pub groups_added : (out middle new groups rest : List ℕ) (g number : ℕ) → groups ≡ g ∷ rest → number ≡ g → middle ≡ out
+    ++ decimal number
     → new ≡ middle ++ flat_map (λ group. 44 ∷ decimal group) rest → new ≡ out ++ groups_text groups
 groups_added out middle new groups rest g number whole same first then =
-    rw whole (then ∙ ap (λ xs. xs ++ flat_map (λ group. 44 ∷ decimal group) rest) (first ∙ ap (λ n. out ++ decimal n) same)
+    rw whole (then ∙ ap (λ xs. xs ++ flat_map (λ group. 44 ∷ decimal group) rest) (first
+    ∙ ap (λ n. out ++ decimal n) same)
     ∙ append_assoc out (decimal g) (flat_map (λ group. 44 ∷ decimal group) rest)
     ∙ ap (λ xs. out ++ xs) (sym (groups_joined g rest)))
 
 -- groups are the first and those behind it
-pub first_and_rest : (groups : List ℕ) → 1 ≤ length groups → groups ≡ get_or groups 0 0 ∷ take (length groups - 1) (drop 1 groups)
+pub first_and_rest : (groups : List ℕ) → 1 ≤ length groups → groups ≡ get_or groups 0 0
+    ∷ take (length groups - 1) (drop 1 groups)
 first_and_rest [] some = absurd (omega arith)
 first_and_rest (g ∷ gs) some = ap (λ xs. g ∷ xs) (sym (take_all (length (g ∷ gs) - 1) gs (omega arith)))
 
 -- a credential whose parts were read is read back
-pub caller_back : (cred : Caller) (uid : ℕ) (groups : List ℕ) → uid ≡ cred.uid → uid < 2 ^ 32 → groups ≡ cred.groups → AreShort groups
-    → 1 ≤ length groups → length groups ≤ 16 → (cred.init ≡ true → cred.uid ≡ 0) → caller_said (caller_words cred) ≡ Ok cred
+pub caller_back : (cred : Caller) (uid : ℕ) (groups : List ℕ) → uid ≡ cred.uid → uid < 2 ^ 32 → groups ≡ cred.groups
+    → AreShort groups
+    → 1 ≤ length groups → length groups ≤ 16 → (cred.init ≡ true → cred.uid ≡ 0) → caller_said (caller_words cred)
+    ≡ Ok cred
 caller_back cred uid groups user lt same short some few root =
     caller_read_back cred
     (record {

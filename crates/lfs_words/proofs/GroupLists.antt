@@ -1,5 +1,6 @@
 -- The groups of a word, of which seventeen are kept.
-use Rattle.std.proofs.Common.{◌≡◌, ℕ, ◌+◌, ◌<◌, ◌≤◌, Bool, true, false, List, [], ◌∷◌, ◌++◌, length, take, get_or, map, refl, sym, ◌∙◌, ap, subst, inl, inr, cond, arith, length-take, None, Some, Ok, Err}
+use Rattle.std.proofs.Common.{◌≡◌, ℕ, ◌+◌, ◌<◌, ◌≤◌, Bool, true, false, List, [], ◌∷◌, ◌++◌, length, take, get_or, map}
+use Rattle.std.proofs.Common.{refl, sym, ◌∙◌, ap, subst, inl, inr, cond, arith, length-take, None, Some, Ok, Err}
 use Rattle.std.specs.Prelude.{◌&&◌}
 use Rattle.std.specs.List.{list_all}
 use Rattle.std.proofs.Math.ListN.{set}
@@ -22,16 +23,19 @@ ok_parts true false v w e = absurd (cc)
 ok_parts false s v w e = absurd (cc)
 
 -- a decimal that is read is one, is short, and has its value
-pub short_read : (word : List ℕ) (v : ℕ) → number_of 10 20 4294967295 word ≡ Ok v → (is_decimal word ≡ true) × (is_short word ≡ true) × (v ≡ decimal_value word)
+pub short_read : (word : List ℕ) (v : ℕ) → number_of 10 20 4294967295 word ≡ Ok v → (is_decimal word ≡ true)
+    × (is_short word ≡ true) × (v ≡ decimal_value word)
 short_read word v e = ok_parts (is_decimal word) (is_short word) (decimal_value word) v e
 
-one_fault : (n s : Bool) (v : ℕ) (kind : FaultKind) → the_number n s v ≡ Err kind → cond (n && true) (cond (s && true) None (Some Range)) (Some Number) ≡ Some kind
+one_fault : (n s : Bool) (v : ℕ) (kind : FaultKind) → the_number n s v ≡ Err kind
+    → cond (n && true) (cond (s && true) None (Some Range)) (Some Number) ≡ Some kind
 one_fault true true v kind e = absurd (cc)
 one_fault true false v kind e = cc
 one_fault false s v kind e = cc
 
 -- a lone decimal that is refused
-pub short_refused : (word : List ℕ) (kind : FaultKind) → number_of 10 20 4294967295 word ≡ Err kind → decimals_fault (word ∷ []) ≡ Some kind
+pub short_refused : (word : List ℕ) (kind : FaultKind) → number_of 10 20 4294967295 word ≡ Err kind
+    → decimals_fault (word ∷ []) ≡ Some kind
 short_refused word kind e = one_fault (is_decimal word) (is_short word) (decimal_value word) kind e
 
 pub short_alone : (word : List ℕ) → is_decimal word ≡ true → is_short word ≡ true → decimals_fault (word ∷ []) ≡ None
@@ -42,14 +46,19 @@ long_parts true v kind e = absurd (cc)
 long_parts false v kind e = (refl, cc)
 
 -- a decimal among decimals that is refused is out of range
-pub long_refused : (all : List (List ℕ)) (i : ℕ) (word : List ℕ) (kind : FaultKind) → list_all is_decimal all ≡ true → i < length all → word ≡ get_or all i word → number_of 10 20 4294967295 word ≡ Err kind → decimals_fault all ≡ Some kind
+pub long_refused : (all : List (List ℕ)) (i : ℕ) (word : List ℕ) (kind : FaultKind) → list_all is_decimal all ≡ true
+    → i < length all → word ≡ get_or all i word → number_of 10 20 4294967295 word ≡ Err kind → decimals_fault all
+    ≡ Some kind
 long_refused all i word kind decimals within here e =
-    let decimal : is_decimal word ≡ true = subst (λ w. is_decimal w ≡ true) (sym here) (passes_at is_decimal all i word decimals within) in
+    let decimal : is_decimal word ≡ true = subst (λ w. is_decimal w ≡ true) (sym here)
+    (passes_at is_decimal all i word decimals within) in
     let parts = long_parts (is_short word) (decimal_value word) kind (rw decimal at e) in
-    let fails : list_all is_short all ≡ false = list_all_at is_short all i word within (subst (λ w. is_short w ≡ false) here parts.0) in
+    let fails : list_all is_short all ≡ false =
+    list_all_at is_short all i word within (subst (λ w. is_short w ≡ false) here parts.0) in
     rw (decimals, fails, parts.1) refl
 
-pub decimals_pass : (all : List (List ℕ)) → list_all is_decimal all ≡ true → list_all is_short all ≡ true → decimals_fault all ≡ None
+pub decimals_pass : (all : List (List ℕ)) → list_all is_decimal all ≡ true → list_all is_short all ≡ true
+    → decimals_fault all ≡ None
 decimals_pass all decimals short = rw (decimals, short) refl
 
 pub decimals_fail : (all : List (List ℕ)) → list_all is_decimal all ≡ false → decimals_fault all ≡ Some Number
@@ -76,7 +85,8 @@ pub kept_whole : (uid : ℕ) (gs : List ℕ) (init : Bool) → cred_fault uid gs
 kept_whole uid gs init fine =
     whole_or_many gs _ (λ e. e) (λ many kept. let fault = many_fault uid gs init many in absurd (cc))
 
-pushed : (all : List (List ℕ)) (i v : ℕ) (word : List ℕ) → i < length all → v ≡ decimal_value word → word ≡ get_or all i word → map decimal_value (take (i + 1) all) ≡ map decimal_value (take i all) ++ v ∷ []
+pushed : (all : List (List ℕ)) (i v : ℕ) (word : List ℕ) → i < length all → v ≡ decimal_value word → word
+    ≡ get_or all i word → map decimal_value (take (i + 1) all) ≡ map decimal_value (take i all) ++ v ∷ []
 pushed all i v word within value here =
     rw (take_more all i word within, map-append, ← here, value) refl
 
@@ -92,32 +102,46 @@ take_twice xs ys =
     ]
 
 -- one more group is read
-pub group_more : (all : List (List ℕ)) (i v : ℕ) (word : List ℕ) → i < length all → v ≡ decimal_value word → word ≡ get_or all i word → take 17 (take 17 (map decimal_value (take i all)) ++ v ∷ []) ≡ take 17 (map decimal_value (take (i + 1) all))
+pub group_more : (all : List (List ℕ)) (i v : ℕ) (word : List ℕ) → i < length all → v ≡ decimal_value word → word
+    ≡ get_or all i word → take 17 (take 17 (map decimal_value (take i all)) ++ v ∷ [])
+    ≡ take 17 (map decimal_value (take (i + 1) all))
 group_more all i v word within value here =
-    take_twice (map decimal_value (take i all)) (v ∷ []) ∙ ap (λ xs. take 17 xs) (sym (pushed all i v word within value here))
+    take_twice (map decimal_value (take i all)) (v ∷ [])
+    ∙ ap (λ xs. take 17 xs) (sym (pushed all i v word within value here))
 
 -- what a group that is pushed leaves
-pub push_kept : (kept : List ℕ) (count v : ℕ) → length kept ≡ 17 → count < 17 → take (count + 1) (set kept count v) ≡ take 17 (take count kept ++ v ∷ [])
+pub push_kept : (kept : List ℕ) (count v : ℕ) → length kept ≡ 17 → count < 17 → take (count + 1) (set kept count v)
+    ≡ take 17 (take count kept ++ v ∷ [])
 push_kept kept count v room lt =
     let more = take_more_set kept count v (omega arith) in
-    let fits : length (take count kept ++ v ∷ []) ≤ 17 = omega (arith, length_push (take count kept) v, length-take count kept) in
+    let fits : length (take count kept ++ v ∷ []) ≤ 17 =
+    omega (arith, length_push (take count kept) v, length-take count kept) in
     more ∙ sym (take_all 17 (take count kept ++ v ∷ []) fits)
 
-pub push_full : (kept : List ℕ) (count v : ℕ) → length kept ≡ 17 → count ≤ 17 → 17 ≤ count → take count kept ≡ take 17 (take count kept ++ v ∷ [])
+pub push_full : (kept : List ℕ) (count v : ℕ) → length kept ≡ 17 → count ≤ 17 → 17 ≤ count → take count kept
+    ≡ take 17 (take count kept ++ v ∷ [])
 push_full kept count v room le full =
     let whole : take count kept ≡ kept = take_all count kept (omega arith) in
     let long : 17 ≤ length kept = omega arith in
     let fits : length kept ≤ 17 = omega arith in
     rw whole (sym (take-append-le 17 kept (v ∷ []) long ∙ take_all 17 kept fits))
 
-pub caller_fine : (user groups : List ℕ) (init : Bool) → decimals_fault (user ∷ []) ≡ None → decimals_fault (groups_of groups) ≡ None → cred_fault (decimal_value user) (map decimal_value (groups_of groups)) init ≡ None → caller_fault user groups init ≡ None
+pub caller_fine : (user groups : List ℕ) (init : Bool) → decimals_fault (user ∷ []) ≡ None
+    → decimals_fault (groups_of groups) ≡ None
+    → cred_fault (decimal_value user) (map decimal_value (groups_of groups)) init ≡ None → caller_fault user groups init
+    ≡ None
 caller_fine user groups init first second third = rw (first, second, third) refl
 
-pub caller_refused : (user groups : List ℕ) (init : Bool) (fault : BadCred) → decimals_fault (user ∷ []) ≡ None → decimals_fault (groups_of groups) ≡ None → cred_fault (decimal_value user) (map decimal_value (groups_of groups)) init ≡ Some fault → caller_fault user groups init ≡ Some (Cred fault)
+pub caller_refused : (user groups : List ℕ) (init : Bool) (fault : BadCred) → decimals_fault (user ∷ []) ≡ None
+    → decimals_fault (groups_of groups) ≡ None
+    → cred_fault (decimal_value user) (map decimal_value (groups_of groups)) init ≡ Some fault
+    → caller_fault user groups init ≡ Some (Cred fault)
 caller_refused user groups init fault first second third = rw (first, second, third) refl
 
-pub user_refused : (user groups : List ℕ) (init : Bool) (kind : FaultKind) → decimals_fault (user ∷ []) ≡ Some kind → caller_fault user groups init ≡ Some kind
+pub user_refused : (user groups : List ℕ) (init : Bool) (kind : FaultKind) → decimals_fault (user ∷ []) ≡ Some kind
+    → caller_fault user groups init ≡ Some kind
 user_refused user groups init kind first = rw first refl
 
-pub groups_refused : (user groups : List ℕ) (init : Bool) (kind : FaultKind) → decimals_fault (user ∷ []) ≡ None → decimals_fault (groups_of groups) ≡ Some kind → caller_fault user groups init ≡ Some kind
+pub groups_refused : (user groups : List ℕ) (init : Bool) (kind : FaultKind) → decimals_fault (user ∷ []) ≡ None
+    → decimals_fault (groups_of groups) ≡ Some kind → caller_fault user groups init ≡ Some kind
 groups_refused user groups init kind first second = rw (first, second) refl

@@ -1,5 +1,6 @@
 -- Bytes are read from their digits.
-use Rattle.std.proofs.Common.{◌≡◌, ℕ, ◌≤◌, Ok, false, ◌+◌, ◌*◌, ◌/◌, ◌%◌, ◌<◌, List, [], ◌∷◌, ◌++◌, length, take, get_or, refl, ap, sym, ◌∙◌, arith, append_assoc, true, ◌==◌, nat_lt}
+use Rattle.std.proofs.Common.{◌≡◌, ℕ, ◌≤◌, Ok, false, ◌+◌, ◌*◌, ◌/◌, ◌%◌, ◌<◌, List, [], ◌∷◌, ◌++◌, length, take}
+use Rattle.std.proofs.Common.{get_or, refl, ap, sym, ◌∙◌, arith, append_assoc, true, ◌==◌, nat_lt}
 use Rattle.std.specs.Prelude.{◌&&◌}
 use Rattle.std.specs.Char.{digit_char, digit_value}
 use Rattle.std.specs.List.{list_all}
@@ -9,11 +10,13 @@ use Rattle.std.proofs.lemmas.Str.{digit_value-digit_char}
 use Rattle.std.proofs.lemmas.Bool.{ltb-true, le-ltb, eqb-true, and_parts}
 use Rattle.lfs_words.specs.BytesText.{hex_text, hex_bytes, bytes_of, is_dash, is_hex, is_hex_digit}
 
-pub hex_text-push : (bs : List ℕ) (b : ℕ) → hex_text (bs ++ b ∷ []) ≡ hex_text bs ++ (digit_char (b / 16) ∷ digit_char (b % 16) ∷ [])
+pub hex_text-push : (bs : List ℕ) (b : ℕ) → hex_text (bs ++ b ∷ []) ≡ hex_text bs
+    ++ (digit_char (b / 16) ∷ digit_char (b % 16) ∷ [])
 hex_text-push [] b = refl
 hex_text-push (x ∷ bs) b = ap (λ xs. digit_char (x / 16) ∷ digit_char (x % 16) ∷ xs) (hex_text-push bs b)
 
-take_two : (digits : List ℕ) (j : ℕ) → j + 1 < length digits → take (j + 2) digits ≡ take j digits ++ (get_or digits j 0 ∷ get_or digits (j + 1) 0 ∷ [])
+take_two : (digits : List ℕ) (j : ℕ) → j + 1 < length digits → take (j + 2) digits ≡ take j digits
+    ++ (get_or digits j 0 ∷ get_or digits (j + 1) 0 ∷ [])
 take_two digits j lt =
     let first = take_more digits j 0 (omega arith) in
     let second = take_more digits (j + 1) 0 lt in
@@ -21,14 +24,17 @@ take_two digits j lt =
     rw (both, second, first, append_assoc) refl
 
 -- a byte is spelled by the digits of its halves
-pub byte_spelled : (high low h l : ℕ) → h < 16 → l < 16 → digit_char h ≡ high → digit_char l ≡ low → hex_text ((16 * h + l) ∷ []) ≡ high ∷ low ∷ []
+pub byte_spelled : (high low h l : ℕ) → h < 16 → l < 16 → digit_char h ≡ high → digit_char l ≡ low
+    → hex_text ((16 * h + l) ∷ []) ≡ high ∷ low ∷ []
 byte_spelled high low h l few less first second =
     let top : (16 * h + l) / 16 ≡ h = omega arith in
     let bottom : (16 * h + l) % 16 ≡ l = omega arith in
     rw (top, bottom, first, second) refl
 
 -- one more byte has its two digits
-pub hex_step : (digits bs : List ℕ) (k b : ℕ) → 2 * k + 1 < length digits → hex_text bs ≡ take (2 * k) digits → hex_text (b ∷ []) ≡ get_or digits (2 * k) 0 ∷ get_or digits (2 * k + 1) 0 ∷ [] → hex_text (bs ++ b ∷ []) ≡ take (2 * (k + 1)) digits
+pub hex_step : (digits bs : List ℕ) (k b : ℕ) → 2 * k + 1 < length digits → hex_text bs ≡ take (2 * k) digits
+    → hex_text (b ∷ []) ≡ get_or digits (2 * k) 0 ∷ get_or digits (2 * k + 1) 0 ∷ [] → hex_text (bs ++ b ∷ [])
+    ≡ take (2 * (k + 1)) digits
 hex_step digits bs k b lt so_far spelled =
     let two = take_two digits (2 * k) lt in
     let there : 2 * (k + 1) ≡ 2 * k + 2 = omega arith in
@@ -38,19 +44,23 @@ hex_step digits bs k b lt so_far spelled =
     ∙ ap (λ (xs : List ℕ). xs ++ (get_or digits (2 * k) 0 ∷ get_or digits (2 * k + 1) 0 ∷ [])) so_far
     ∙ sym (taken ∙ two)
 
-pub hex_parts : (digits : List ℕ) → is_hex digits ≡ true → (0 < length digits) × (length digits % 2 ≡ 0) × (list_all is_hex_digit digits ≡ true)
+pub hex_parts : (digits : List ℕ) → is_hex digits ≡ true → (0 < length digits) × (length digits % 2 ≡ 0)
+    × (list_all is_hex_digit digits ≡ true)
 hex_parts digits h =
     let outer = and_parts (nat_lt 0 (length digits) && (length digits % 2 == 0)) (list_all is_hex_digit digits) h in
     let inner = and_parts (nat_lt 0 (length digits)) (length digits % 2 == 0) outer.0 in
     (ltb-true 0 (length digits) inner.0, eqb-true (length digits % 2) 0 inner.1, outer.1)
 
-hex_bytes-hex_push : (bs : List ℕ) (b : ℕ) → hex_bytes (hex_text (bs ++ b ∷ [])) ≡ hex_bytes (hex_text bs) ++ (16 * digit_value (digit_char (b / 16)) + digit_value (digit_char (b % 16))) ∷ []
+hex_bytes-hex_push : (bs : List ℕ) (b : ℕ) → hex_bytes (hex_text (bs ++ b ∷ [])) ≡ hex_bytes (hex_text bs)
+    ++ (16 * digit_value (digit_char (b / 16)) + digit_value (digit_char (b % 16))) ∷ []
 hex_bytes-hex_push [] b = refl
 hex_bytes-hex_push (x ∷ bs) b =
-    ap (λ xs. (16 * digit_value (digit_char (x / 16)) + digit_value (digit_char (x % 16))) ∷ xs) (hex_bytes-hex_push bs b)
+    ap (λ xs. (16 * digit_value (digit_char (x / 16)) + digit_value (digit_char (x % 16))) ∷ xs)
+    (hex_bytes-hex_push bs b)
 
 -- one more byte is read from its two digits
-pub hex_read : (bs : List ℕ) (b : ℕ) → b < 256 → hex_bytes (hex_text bs) ≡ bs → hex_bytes (hex_text (bs ++ b ∷ [])) ≡ bs ++ b ∷ []
+pub hex_read : (bs : List ℕ) (b : ℕ) → b < 256 → hex_bytes (hex_text bs) ≡ bs → hex_bytes (hex_text (bs ++ b ∷ [])) ≡ bs
+    ++ b ∷ []
 hex_read bs b lt so_far =
     let first : digit_value (digit_char (b / 16)) ≡ b / 16 = digit_value-digit_char (b / 16) (omega arith) in
     let second : digit_value (digit_char (b % 16)) ≡ b % 16 = digit_value-digit_char (b % 16) (omega arith) in
@@ -58,7 +68,8 @@ hex_read bs b lt so_far =
     hex_bytes-hex_push bs b ∙ rw (first, second, whole, so_far) refl
 
 -- the bytes of digits that are as they are to be
-pub bytes_read : (word bs : List ℕ) → is_dash word ≡ false → length word ≤ 8192 → is_hex word ≡ true → hex_bytes word ≡ bs → bytes_of word ≡ Ok bs
+pub bytes_read : (word bs : List ℕ) → is_dash word ≡ false → length word ≤ 8192 → is_hex word ≡ true → hex_bytes word
+    ≡ bs → bytes_of word ≡ Ok bs
 bytes_read word bs dash few hex read = rw (dash, le-ltb 8192 (length word) few, hex, read) refl
 
 -- each byte has two digits
@@ -67,10 +78,12 @@ length-hex_text [] = refl
 length-hex_text (b ∷ bs) = omega (arith, length-hex_text bs)
 
 -- one more byte is spelled
-pub hex_text_more : (bytes : List ℕ) (i d : ℕ) → i < length bytes → hex_text (take (i + 1) bytes) ≡ hex_text (take i bytes) ++ (digit_char (get_or bytes i d / 16) ∷ digit_char (get_or bytes i d % 16) ∷ [])
+pub hex_text_more : (bytes : List ℕ) (i d : ℕ) → i < length bytes → hex_text (take (i + 1) bytes)
+    ≡ hex_text (take i bytes) ++ (digit_char (get_or bytes i d / 16) ∷ digit_char (get_or bytes i d % 16) ∷ [])
 hex_text_more bytes i d lt = rw (take_more bytes i d lt) (hex_text-push (take i bytes) (get_or bytes i d))
 
-set_two : (xs : List ℕ) (j h l : ℕ) → j + 1 < length xs → take (j + 2) (slice_set (slice_set xs j h) (j + 1) l) ≡ take j xs ++ (h ∷ l ∷ [])
+set_two : (xs : List ℕ) (j h l : ℕ) → j + 1 < length xs → take (j + 2) (slice_set (slice_set xs j h) (j + 1) l)
+    ≡ take j xs ++ (h ∷ l ∷ [])
 set_two xs j h l lt =
     let first = take_more_set xs j h (omega arith) in
     let second = take_more_set (slice_set xs j h) (j + 1) l (rw (length-set xs j h) lt) in
@@ -78,7 +91,10 @@ set_two xs j h l lt =
     rw (both, second, first, append_assoc) refl
 
 -- one more byte has its two digits written at their place
-pub hex_written : (digits bytes : List ℕ) (k high low : ℕ) → k < length bytes → length digits ≡ 2 * length bytes → take (2 * k) digits ≡ hex_text (take k bytes) → high ≡ digit_char (get_or bytes k 0 / 16) → low ≡ digit_char (get_or bytes k 0 % 16) → take (2 * (k + 1)) (slice_set (slice_set digits (2 * k) high) (2 * k + 1) low) ≡ hex_text (take (k + 1) bytes)
+pub hex_written : (digits bytes : List ℕ) (k high low : ℕ) → k < length bytes → length digits ≡ 2 * length bytes
+    → take (2 * k) digits ≡ hex_text (take k bytes) → high ≡ digit_char (get_or bytes k 0 / 16) → low
+    ≡ digit_char (get_or bytes k 0 % 16) → take (2 * (k + 1))
+    (slice_set (slice_set digits (2 * k) high) (2 * k + 1) low) ≡ hex_text (take (k + 1) bytes)
 hex_written digits bytes k high low lt room so_far first second =
     let there : 2 * (k + 1) ≡ 2 * k + 2 = omega arith in
     ap (λ n. take n (slice_set (slice_set digits (2 * k) high) (2 * k + 1) low)) there

@@ -1,5 +1,6 @@
 -- A text is cut at its first line feed, and printable bytes are text.
-use Rattle.std.proofs.Common.{◌≡◌, ℕ, ◌+◌, ◌<◌, ◌≤◌, ◌==◌, nat_lt, Bool, true, false, List, [], ◌∷◌, ◌++◌, length, take, drop, get_or, None, Some, refl, sym, ap, ◌∙◌, inl, inr, arith, length-take}
+use Rattle.std.proofs.Common.{◌≡◌, ℕ, ◌+◌, ◌<◌, ◌≤◌, ◌==◌, nat_lt, Bool, true, false, List, [], ◌∷◌, ◌++◌, length, take}
+use Rattle.std.proofs.Common.{drop, get_or, None, Some, refl, sym, ap, ◌∙◌, inl, inr, arith, length-take}
 use Rattle.std.specs.Prelude.{nat_le, ◌&&◌}
 use Rattle.std.specs.List.{position, position_or_len}
 use Rattle.std.specs.Str.{IsUtf8}
@@ -16,7 +17,8 @@ abbrev feed : ℕ → Bool
 feed b = b == 10
 
 -- a text is cut around the byte at an index
-pub cut_at : (text : List ℕ) (at b : ℕ) → at < length text → get_or text at 0 ≡ b → text ≡ take at text ++ b ∷ drop (at + 1) text
+pub cut_at : (text : List ℕ) (at b : ℕ) → at < length text → get_or text at 0 ≡ b → text ≡ take at text ++ b
+    ∷ drop (at + 1) text
 cut_at text at b lt e = grind (arith, common_steps)
 
 before : (text : List ℕ) (at : ℕ) → ((k : ℕ) → k < at → feed (get_or text k 0) ≡ false) → HasNoLineFeed (take at text)
@@ -25,7 +27,8 @@ before text at earlier k d lt =
     let here : get_or (take at text) k d ≡ get_or text k 0 = grind (arith, common_steps) in
     λ e. eqb-false _ _ (earlier k below) (sym here ∙ e)
 
-pub cut_some : (text : List ℕ) (at : ℕ) → position feed text ≡ Some at → IsFirstLine text (take at text) (drop (at + 1) text)
+pub cut_some : (text : List ℕ) (at : ℕ) → position feed text ≡ Some at
+    → IsFirstLine text (take at text) (drop (at + 1) text)
 cut_some text at e =
     let found = position-Some feed text at 0 e in
     record {
@@ -33,7 +36,8 @@ cut_some text at e =
       first = before text at (found.2);
     }
 
-cut_none_at : (text : List ℕ) (b : Bool) → nat_lt (position_or_len feed text) (length text) ≡ b → position feed text ≡ None → HasNoLineFeed text
+cut_none_at : (text : List ℕ) (b : Bool) → nat_lt (position_or_len feed text) (length text) ≡ b → position feed text
+    ≡ None → HasNoLineFeed text
 cut_none_at text true h e = absurd (cc)
 cut_none_at text false h e =
     let le : length text ≤ position_or_len feed text = ltb-false _ _ h in
@@ -46,7 +50,8 @@ ascii_at : (line : List ℕ) (k : ℕ) → is_printable line ≡ true → get_or
 ascii_at line k all =
     elim (cases_lt k (length line)) [
       | inl lt ↦
-          let within = and_parts (nat_le 32 (get_or line k 0)) (nat_le (get_or line k 0) 126) (passes_at (λ b. nat_le 32 b && nat_le b 126) line k 0 all lt) in
+          let within = and_parts (nat_le 32 (get_or line k 0)) (nat_le (get_or line k 0) 126)
+          (passes_at (λ b. nat_le 32 b && nat_le b 126) line k 0 all lt) in
           let le : get_or line k 0 ≤ 126 = leb-true (get_or line k 0) 126 within.1 in omega arith
       | inr le ↦ rw (get_or_past line k 0 le) (omega arith)
     ]

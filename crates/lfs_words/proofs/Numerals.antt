@@ -1,5 +1,6 @@
 -- What std reads of a word of digits alone.
-use Rattle.std.proofs.Common.{◌≡◌, ℕ, ◌^◌, ◌<◌, ◌≤◌, nat_lt, true, false, List, [], ◌∷◌, length, get_or, Ok, Err, refl, subst, arith, ◌≢◌, inl, inr}
+use Rattle.std.proofs.Common.{◌≡◌, ℕ, ◌^◌, ◌<◌, ◌≤◌, nat_lt, true, false, List, [], ◌∷◌, length, get_or, Ok, Err, refl}
+use Rattle.std.proofs.Common.{subst, arith, ◌≢◌, inl, inr}
 use Rattle.std.specs.Prelude.{nat_le, ◌&&◌}
 use Rattle.std.specs.Char.{is_digit, digit_value}
 use Rattle.std.specs.List.{list_all}
@@ -30,26 +31,35 @@ plain radix word low digits = without_leading_plus_none word (no_plus radix word
 same : (radix : ℕ) (word : List ℕ) → radix ≤ 10 → AreDigits radix word → without_leading_plus word ≡ word
 same radix word low alone = plain radix word (omega arith) (all_digits radix word alone)
 
-pub reads_ok : (E : Type 0) (radix : ℕ) (word : List ℕ) (v : ℕ) → radix ≤ 10 → AreDigits radix word → ParsesUnsigned {E = E} 64 radix word (Ok v) → v ≡ digits_value radix word
+pub reads_ok : (E : Type 0) (radix : ℕ) (word : List ℕ) (v : ℕ) → radix ≤ 10 → AreDigits radix word
+    → ParsesUnsigned {E = E} 64 radix word (Ok v) → v ≡ digits_value radix word
 reads_ok E radix word v low alone h = subst (λ bs. v ≡ digits_value radix bs) (same radix word low alone) h.1
 
-pub reads_err : (E : Type 0) (radix : ℕ) (word : List ℕ) (e : E) → radix ≤ 10 → 0 < length word → AreDigits radix word → ParsesUnsigned {E = E} 64 radix word (Err e) → 2 ^ 64 ≤ digits_value radix word
+pub reads_err : (E : Type 0) (radix : ℕ) (word : List ℕ) (e : E) → radix ≤ 10 → 0 < length word → AreDigits radix word
+    → ParsesUnsigned {E = E} 64 radix word (Err e) → 2 ^ 64 ≤ digits_value radix word
 reads_err E radix word e low some alone h =
     let plain = same radix word low alone in
-    let clash : digits_value radix word < 2 ^ 64 → ⊥ = λ lt. subst (λ bs. (IsNumeral radix bs × (digits_value radix bs < 2 ^ 64)) → ⊥) plain h ((some, all_digits radix word alone), lt) in
+    let clash : digits_value radix word < 2 ^ 64
+    → ⊥ = λ lt. subst (λ bs. (IsNumeral radix bs × (digits_value radix bs < 2 ^ 64)) → ⊥) plain h
+    ((some, all_digits radix word alone), lt) in
     elim (cases_lt (digits_value radix word) (2 ^ 64)) [ inl lt ↦ absurd (clash lt) | inr le ↦ le ]
 
-pub numeral_parts : (radix most : ℕ) (word : List ℕ) → is_numeral radix most word ≡ true → (0 < length word) × AreDigits radix word
+pub numeral_parts : (radix most : ℕ) (word : List ℕ) → is_numeral radix most word ≡ true → (0 < length word)
+    × AreDigits radix word
 numeral_parts radix most word h =
-    let outer = and_parts (nat_lt 0 (length word) && nat_le (length word) most) (list_all (λ c. is_digit c radix) word) h in
+    let outer = and_parts (nat_lt 0 (length word) && nat_le (length word) most)
+    (list_all (λ c. is_digit c radix) word) h in
     let inner = and_parts (nat_lt 0 (length word)) (nat_le (length word) most) outer.0 in
     (ltb-true 0 (length word) inner.0, outer.1)
 
-pub number_within : (radix most limit : ℕ) (word : List ℕ) → is_numeral radix most word ≡ true → digits_value radix word ≤ limit → number_of radix most limit word ≡ Ok (digits_value radix word)
+pub number_within : (radix most limit : ℕ) (word : List ℕ) → is_numeral radix most word ≡ true
+    → digits_value radix word ≤ limit → number_of radix most limit word ≡ Ok (digits_value radix word)
 number_within radix most limit word numeral le = rw (numeral, le-leb (digits_value radix word) limit le) refl
 
-pub number_past : (radix most limit : ℕ) (word : List ℕ) → is_numeral radix most word ≡ true → limit < digits_value radix word → number_of radix most limit word ≡ Err Range
+pub number_past : (radix most limit : ℕ) (word : List ℕ) → is_numeral radix most word ≡ true
+    → limit < digits_value radix word → number_of radix most limit word ≡ Err Range
 number_past radix most limit word numeral lt = rw (numeral, lt-leb (digits_value radix word) limit lt) refl
 
-pub number_malformed : (radix most limit : ℕ) (word : List ℕ) → is_numeral radix most word ≡ false → number_of radix most limit word ≡ Err Number
+pub number_malformed : (radix most limit : ℕ) (word : List ℕ) → is_numeral radix most word ≡ false
+    → number_of radix most limit word ≡ Err Number
 number_malformed radix most limit word malformed = rw malformed refl

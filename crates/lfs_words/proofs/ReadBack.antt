@@ -1,5 +1,6 @@
 -- What is spelled is read back.
-use Rattle.std.proofs.Common.{◌≡◌, ℕ, zero, suc, ◌+◌, ◌-◌, ◌*◌, ◌/◌, ◌%◌, ◌^◌, ◌<◌, ◌≤◌, ◌==◌, true, false, List, [], ◌∷◌, length, get_or, Some, Ok, refl, ap, sym, ◌∙◌, arith, rules, tests}
+use Rattle.std.proofs.Common.{◌≡◌, ℕ, zero, suc, ◌+◌, ◌-◌, ◌*◌, ◌/◌, ◌%◌, ◌^◌, ◌<◌, ◌≤◌, ◌==◌, true, false, List, []}
+use Rattle.std.proofs.Common.{◌∷◌, length, get_or, Some, Ok, refl, ap, sym, ◌∙◌, arith, rules, tests}
 use Rattle.std.specs.Prelude.{decimal, nat_le, nat_lt}
 use Rattle.std.specs.Char.{digit_char, digit_value, is_digit}
 use Rattle.std.specs.Int.{w32, to_be_bytes}
@@ -24,7 +25,8 @@ digits_pass radix [] h = refl
 digits_pass radix (c ∷ cs) h = rw (lt-ltb (digit_value c) radix h.0, digits_pass radix cs h.1) refl
 
 -- digits are read as their number, where it is within the limit
-pub number_read : (radix most limit n : ℕ) (word : List ℕ) → IsNumeral radix word → length word ≤ most → digits_value radix word ≡ n → n ≤ limit → number_of radix most limit word ≡ Ok n
+pub number_read : (radix most limit n : ℕ) (word : List ℕ) → IsNumeral radix word → length word ≤ most
+    → digits_value radix word ≡ n → n ≤ limit → number_of radix most limit word ≡ Ok n
 number_read radix most limit n word numeral short value le =
     let some : nat_lt 0 (length word) ≡ true = lt-ltb 0 (length word) numeral.0 in
     let few : nat_le (length word) most ≡ true = le-leb (length word) most short in
@@ -52,7 +54,8 @@ mode_read m lt =
     let b : digit_value (digit_char (m / 64 % 8)) ≡ m / 64 % 8 = digit_read (m / 64 % 8) (omega arith) in
     let c : digit_value (digit_char (m / 8 % 8)) ≡ m / 8 % 8 = digit_read (m / 8 % 8) (omega arith) in
     let d : digit_value (digit_char (m % 8)) ≡ m % 8 = digit_read (m % 8) (omega arith) in
-    number_read 8 6 4095 m (mode_text m) (omega arith, (omega arith, (omega arith, (omega arith, (omega arith, tt))))) (omega arith) (omega arith) (omega arith)
+    number_read 8 6 4095 m (mode_text m) (omega arith, (omega arith, (omega arith, (omega arith, (omega arith, tt)))))
+    (omega arith) (omega arith) (omega arith)
 
 hex_char : (d : ℕ) → d < 16 → is_hex_digit (digit_char d) ≡ true
 hex_char d lt = search (rules, tests)
@@ -88,7 +91,8 @@ pub bytes_read_back : (bs : List ℕ) → AreBytes bs → length bs ≤ 4096 →
 bytes_read_back [] are few = refl
 bytes_read_back (b ∷ bs) are few =
     let long : length (hex_text (b ∷ bs)) ≡ 2 * length (b ∷ bs) = length-hex_text (b ∷ bs) in
-    let fits : nat_lt 8192 (length (hex_text (b ∷ bs))) ≡ false = le-ltb 8192 (length (hex_text (b ∷ bs))) (omega arith) in
+    let fits : nat_lt 8192 (length (hex_text (b ∷ bs)))
+    ≡ false = le-ltb 8192 (length (hex_text (b ∷ bs))) (omega arith) in
     let some : nat_lt 0 (length (hex_text (b ∷ bs))) ≡ true = lt-ltb 0 (length (hex_text (b ∷ bs))) (omega arith) in
     let even : (length (hex_text (b ∷ bs)) % 2 == 0) ≡ true = eq-eqb (length (hex_text (b ∷ bs)) % 2) 0 (omega arith) in
     let hex : is_hex (hex_text (b ∷ bs)) ≡ true = rw (some, even, hex_digits_all (b ∷ bs) are) refl in
@@ -101,7 +105,9 @@ level_read_back Secure = refl
 level_read_back HighlySecure = refl
 
 -- two digits of a byte
-byte_digits : (n b : ℕ) (rest : List ℕ) → b < 256 → digits_value_after 16 n (digit_char (b / 16) ∷ digit_char (b % 16) ∷ rest) ≡ digits_value_after 16 (n * 256 + b) rest
+byte_digits : (n b : ℕ) (rest : List ℕ) → b < 256
+    → digits_value_after 16 n (digit_char (b / 16) ∷ digit_char (b % 16) ∷ rest)
+    ≡ digits_value_after 16 (n * 256 + b) rest
 byte_digits n b rest lt =
     let high : digit_value (digit_char (b / 16)) ≡ b / 16 = digit_value-digit_char (b / 16) (omega arith) in
     let low : digit_value (digit_char (b % 16)) ≡ b % 16 = digit_value-digit_char (b % 16) (omega arith) in
@@ -127,17 +133,20 @@ are_four a b c d p q r s (suc (suc (suc zero))) = s
 are_four a b c d p q r s (suc (suc (suc (suc k)))) = omega arith
 
 pub flags_bytes : (f : ℕ) → AreBytes (to_be_bytes w32 f)
-flags_bytes f = are_four (f / 256 ^ 3 % 256) (f / 256 ^ 2 % 256) (f / 256 ^ 1 % 256) (f % 256) (omega arith) (omega arith) (omega arith) (omega arith)
+flags_bytes f = are_four (f / 256 ^ 3 % 256) (f / 256 ^ 2 % 256) (f / 256 ^ 1 % 256) (f % 256) (omega arith)
+    (omega arith) (omega arith) (omega arith)
 
 flags_value : (f : ℕ) → f < 2 ^ 32 → digits_value 16 (hex_text (to_be_bytes w32 f)) ≡ f
 flags_value f lt =
-    four_bytes (f / 256 ^ 3 % 256) (f / 256 ^ 2 % 256) (f / 256 ^ 1 % 256) (f % 256) (omega arith) (omega arith) (omega arith) (omega arith)
+    four_bytes (f / 256 ^ 3 % 256) (f / 256 ^ 2 % 256) (f / 256 ^ 1 % 256) (f % 256) (omega arith) (omega arith)
+    (omega arith) (omega arith)
     ∙ omega arith
 
 pub flags_read_back : (f : ℕ) → f < 2 ^ 32 → IsKnown f → flags_of (flags_text f) ≡ Ok f
 unfolding flags_text
 flags_read_back f lt known =
     let value : digits_value 16 (hex_text (to_be_bytes w32 f)) ≡ f = flags_value f lt in
-    let digits : list_all is_hex_digit (hex_text (to_be_bytes w32 f)) ≡ true = hex_digits_all (to_be_bytes w32 f) (flags_bytes f) in
+    let digits : list_all is_hex_digit (hex_text (to_be_bytes w32 f))
+    ≡ true = hex_digits_all (to_be_bytes w32 f) (flags_bytes f) in
     let is : is_flags (hex_text (to_be_bytes w32 f)) ≡ true = digits in
     sym (flags_there (hex_text (to_be_bytes w32 f)) f (Some f) is (sym value) (known, refl))

@@ -1,5 +1,6 @@
 -- Which texts may be words.
-use Rattle.std.proofs.Common.{◌≡◌, ℕ, ◌/◌, ◌%◌, ◌^◌, ◌<◌, ◌≤◌, ◌==◌, true, false, List, [], ◌∷◌, length, refl, arith, rules, tests}
+use Rattle.std.proofs.Common.{◌≡◌, ℕ, ◌/◌, ◌%◌, ◌^◌, ◌<◌, ◌≤◌, ◌==◌, true, false, List, [], ◌∷◌, length, refl, arith}
+use Rattle.std.proofs.Common.{rules, tests}
 use Rattle.std.specs.Prelude.{decimal}
 use Rattle.std.specs.Char.{digit_char, digit_value}
 use Rattle.std.specs.Int.{w32, to_be_bytes}
@@ -61,7 +62,8 @@ hex_all (c ∷ cs) h =
 
 pub bytes_word : (bs : List ℕ) → AreBytes bs → is_word (bytes_text bs) ≡ true
 bytes_word [] are = refl
-bytes_word (b ∷ bs) are = word_there (hex_text (b ∷ bs)) (omega arith) (hex_all (hex_text (b ∷ bs)) (hex_digits_all (b ∷ bs) are))
+bytes_word (b ∷ bs) are = word_there (hex_text (b ∷ bs)) (omega arith)
+    (hex_all (hex_text (b ∷ bs)) (hex_digits_all (b ∷ bs) are))
 
 pub flags_word : (f : ℕ) → is_word (flags_text f) ≡ true
 unfolding flags_text

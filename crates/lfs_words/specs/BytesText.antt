@@ -1,5 +1,6 @@
 -- Bytes as digits of 0-9 a-f.
-use Rattle.std.specs.Prelude.{ℕ, ◌+◌, ◌*◌, ◌/◌, ◌%◌, ◌==◌, Bool, false, ◌&&◌, ◌||◌, nat_lt, nat_le, List, [], ◌∷◌, length, Result, Ok, Err, if◌then◌else◌}
+use Rattle.std.specs.Prelude.{ℕ, ◌+◌, ◌*◌, ◌/◌, ◌%◌, ◌==◌, Bool, false, ◌&&◌, ◌||◌, nat_lt, nat_le, List, [], ◌∷◌}
+use Rattle.std.specs.Prelude.{length, Result, Ok, Err, if◌then◌else◌}
 use Rattle.std.specs.Char.{digit_char, digit_value}
 use Rattle.std.specs.List.{list_all}
 use Rattle.lfs_words.specs.declared.fault.FaultKind.{FaultKind}

@@ -8,7 +8,8 @@ use Rattle.lfs_words.specs.declared.fault.FaultKind.TheVariants.{Number, Range}
 
 -- 1 to `most` digits, counted as they are written
 abbrev pub is_numeral : ℕ → ℕ → List ℕ → Bool
-is_numeral radix most word = nat_lt 0 (length word) && nat_le (length word) most && list_all (λ c. is_digit c radix) word
+is_numeral radix most word = nat_lt 0 (length word) && nat_le (length word) most && list_all
+    (λ c. is_digit c radix) word
 
 -- the number that a word spells, or why it spells none
 abbrev pub number_of : ℕ → ℕ → ℕ → List ℕ → Result ℕ FaultKind

@@ -14,7 +14,8 @@ returns g c =
     let e = c.call-answer.ensures in
     let step = call_step c.args.session c.args.cred.now c.args.request in
     let ran = runs_one r old new step (User c.call-answer.result) e.shown
-    (λ from begins. call_made r.state r.is_settled from old new c.args.cred.now c.args.request c.call-answer.result e.full e.at_limit (e.shown from begins)
+    (λ from begins. call_made r.state r.is_settled from old new c.args.cred.now c.args.request c.call-answer.result
+    e.full e.at_limit (e.shown from begins)
     (λ room. e.outcome room from begins) (e.entries from begins) e.unserved e.looks e.unasked e.synced e.follows)
     e.entered e.limit e.follows.shape e.since e.since_level in
     on_ok c.append_answer.result c.append_answer.ensures

@@ -8,12 +8,16 @@ pub returns-in-Ok-clause-plan : goal.returns-in-Ok-clause-plan
 returns-in-Ok-clause-plan g c =
     let script = c.in_ok-script.script in
     let short : length script.items ≤ 1048576 = omega (arith, c.in_ok-script.ensures.bounded, script.ok.0) in
-    let parsed : plan_of script.items ≡ Ok c.in-Ok.plan = subst (λ (l : List ℕ). plan_of l ≡ Ok c.in-Ok.plan) c.as_slice.ensures.value c.in-Ok.ensures in
-    read_whole (g.R.Read.remaining c.args.reader.now) script.items c.in-Ok.plan c.in_ok-script.ensures.whole short parsed
+    let parsed : plan_of script.items ≡ Ok c.in-Ok.plan =
+    subst (λ (l : List ℕ). plan_of l ≡ Ok c.in-Ok.plan) c.as_slice.ensures.value c.in-Ok.ensures in
+    read_whole (g.R.Read.remaining c.args.reader.now) script.items c.in-Ok.plan c.in_ok-script.ensures.whole short
+    parsed
 
 pub returns-clause-fault : goal.returns-clause-fault
 returns-clause-fault g c =
     let script = c.in_ok-script.script in
     let short : length script.items ≤ 1048576 = omega (arith, c.in_ok-script.ensures.bounded, script.ok.0) in
-    let parses : ParsesScript script.items (Err c.in-Err.fault) = subst (λ (l : List ℕ). ParsesScript l (Err c.in-Err.fault)) c.as_slice.ensures.value c.in-Err.ensures in
-    fault_of_line (g.R.Read.remaining c.args.reader.now) script.items c.in-Err.fault c.in_ok-script.ensures.whole short parses
+    let parses : ParsesScript script.items (Err c.in-Err.fault) =
+    subst (λ (l : List ℕ). ParsesScript l (Err c.in-Err.fault)) c.as_slice.ensures.value c.in-Err.ensures in
+    fault_of_line (g.R.Read.remaining c.args.reader.now) script.items c.in-Err.fault c.in_ok-script.ensures.whole short
+    parses

@@ -7,23 +7,28 @@ use Rattle.lfs_audit.proofs.run.run_script.Goals as goal
 pub returns-clause-written : goal.returns-clause-written
 returns-clause-written g c =
     on_ok c.run_plan.result c.run_plan.ensures.written
-    (λ run. log_run (g.R.Read.remaining c.args.reader.now) c.in_ok-plan.plan c.into_steps.result.items _ _ _ _ _ _ _ _ _ _
-    c.in_ok-volume.ensures.begins c.in_ok-plan.ensures.plan c.into_steps.ensures c.in_ok-volume.ensures.fresh.1 c.in_ok-volume.ensures.fresh.2 run)
+    (λ run. log_run (g.R.Read.remaining c.args.reader.now) c.in_ok-plan.plan c.into_steps.result.items _ _ _ _ _ _ _ _ _
+    _
+    c.in_ok-volume.ensures.begins c.in_ok-plan.ensures.plan c.into_steps.ensures c.in_ok-volume.ensures.fresh.1
+    c.in_ok-volume.ensures.fresh.2 run)
 
 pub returns-clause-fault : goal.returns-clause-fault
 returns-clause-fault g c =
-    late_script_faults _ _ _ _ c.run_plan.result (has_plan _ c.in_ok-plan.plan c.in_ok-plan.ensures.plan) c.in_ok-volume.ensures.ranges c.run_plan.ensures.fault
+    late_script_faults _ _ _ _ c.run_plan.result
+    (has_plan _ c.in_ok-plan.plan c.in_ok-plan.ensures.plan) c.in_ok-volume.ensures.ranges c.run_plan.ensures.fault
 
 pub returns-in_err-plan-clause-fault : goal.returns-in_err-plan-clause-fault
 returns-in_err-plan-clause-fault g c =
     let p = c.args.params in
-    let fault = reading_script_fault (g.R.Read.remaining c.args.reader.now) p.segments p.inodes p.frames c.in_err-plan.field-0.0 c.in_err-plan.ensures.fault in search rules
+    let fault = reading_script_fault (g.R.Read.remaining c.args.reader.now) p.segments p.inodes p.frames
+    c.in_err-plan.field-0.0 c.in_err-plan.ensures.fault in search rules
 
 pub returns-in_err-volume-clause-fault : goal.returns-in_err-volume-clause-fault
 returns-in_err-volume-clause-fault g c =
     let p = c.args.params in
     let known = g.R.Read.remaining c.args.reader.now in
-    let fault = layout_fault known p.segments p.inodes p.frames c.in_err-volume.field-0.0 (has_plan known c.in_ok-plan.plan c.in_ok-plan.ensures.plan) c.in_err-volume.ensures.fault in search rules
+    let fault = layout_fault known p.segments p.inodes p.frames c.in_err-volume.field-0.0
+    (has_plan known c.in_ok-plan.plan c.in_ok-plan.ensures.plan) c.in_err-volume.ensures.fault in search rules
 
 pub returns-clause-unwritten : goal.returns-clause-unwritten
 returns-clause-unwritten g c = late_silence _ c.run_plan.result c.run_plan.ensures.fault

@@ -12,8 +12,10 @@ returns-clause-written g c =
     let sessions = subst (λ (ts : List (Vec Answer)).
     Appends (append_known (g.W.Write.contents c.print_transcript.new.writer) c.print_transcript.new.text.items)
     (append_known (g.W.Write.contents c.print_transcripts.new.writer) c.print_transcripts.new.text.items)
-    (transcripts_text 1 (map (λ (t : Vec Answer). t.items) ts))) c.as_slice-2.ensures.value c.in_ok-print_transcripts.ensures.written in
+    (transcripts_text 1 (map (λ (t : Vec Answer). t.items) ts))) c.as_slice-2.ensures.value
+    c.in_ok-print_transcripts.ensures.written in
     let told = c.in_ok-print_report.ensures.written in
-    closed_written closed.volume.journal closed.setup.items c.as_slice.result.now (map (λ (t : Vec Answer). t.items) closed.transcripts.items) _ _ _ _ _
+    closed_written closed.volume.journal closed.setup.items c.as_slice.result.now
+    (map (λ (t : Vec Answer). t.items) closed.transcripts.items) _ _ _ _ _
     c.print_transcript.new.text.items c.print_transcripts.new.text.items _
     c.as_slice.ensures.value c.new-text.ensures.items c.in_ok-print_transcript.ensures.written refl sessions told.1

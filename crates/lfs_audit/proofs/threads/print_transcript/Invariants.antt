@@ -6,4 +6,5 @@ use Rattle.lfs_audit.proofs.threads.print_transcript.Given as goal
 abbrev pub invariant-loop-answer : goal.invariant-loop-answer
 invariant-loop-answer g l =
     Appends (append_known (g.W.Write.contents l.fn.writer) l.fn.text.items)
-    (append_known (g.W.Write.contents l.writer) l.text.items) (transcript_text l.session (take l.answer-index l.answers))
+    (append_known (g.W.Write.contents l.writer) l.text.items)
+    (transcript_text l.session (take l.answer-index l.answers))

@@ -8,4 +8,5 @@ returns-clause-split g c =
     let split = c.in_ok-split.ensures in
     let scripts = c.in_ok-split.field-0.1 in
     let count : length scripts.items ≡ plan.sessions = omega (arith, split.1, scripts.ok.0) in
-    plan_split (g.R.Read.remaining c.args.reader.now) plan c.in_ok-split.field-0.0 scripts.items c.in_ok-plan.ensures.plan split.0 count split.2
+    plan_split (g.R.Read.remaining c.args.reader.now) plan c.in_ok-split.field-0.0 scripts.items
+    c.in_ok-plan.ensures.plan split.0 count split.2

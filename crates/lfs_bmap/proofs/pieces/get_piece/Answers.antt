@@ -9,4 +9,5 @@ returns-then-from-to c =
     let first = 512 * c.from.result + from - c.args.start in
     let same : first + many - first ≡ many = omega arith in
     rw (same, c.copy_from_slice.ensures.after)
-    (got_copied c.args.index c.args.start from many first c.args.block.now c.args.buffer.now (omega arith) c.piece_of-from.ensures.from (omega arith) (omega arith) (omega arith))
+    (got_copied c.args.index c.args.start from many first c.args.block.now c.args.buffer.now
+    (omega arith) c.piece_of-from.ensures.from (omega arith) (omega arith) (omega arith))

@@ -9,4 +9,5 @@ returns-then-from-to c =
     let first = 512 * c.from.result + from - c.args.start in
     let same : first + many - first ≡ many = omega arith in
     rw (c.copy_from_slice.ensures.after, same)
-    (put_copied c.args.index c.args.start from many first c.args.bytes.now c.args.block.now (omega arith) c.piece_of-from.ensures.from (omega arith) (omega arith) (omega arith))
+    (put_copied c.args.index c.args.start from many first c.args.bytes.now c.args.block.now
+    (omega arith) c.piece_of-from.ensures.from (omega arith) (omega arith) (omega arith))

@@ -17,40 +17,57 @@ use Rattle.lfs_calls.proofs.attributes.chflags.Goals.{In_ok-may_chflags}
 pub returns-in_err-file-clause-call : goal.returns-in_err-file-clause-call
 returns-in_err-file-clause-call g c =
     let p = err_from_is_err_and c.from_residual.result c.from_residual.ensures.1 in
-    rw (p.1, p.2) (not_reached (chflags_path c.args.level c.args.cred.now c.args.path.now c.args.flags) c.find.ensures.state c.in_err-file.field-0.0 c.in_err-file.ensures.reach)
+    rw (p.1, p.2) (not_reached (chflags_path c.args.level c.args.cred.now c.args.path.now c.args.flags)
+    c.find.ensures.state c.in_err-file.field-0.0 c.in_err-file.ensures.reach)
 
 pub returns-in_err-may_chflags-clause-call : goal.returns-in_err-may_chflags-clause-call
 returns-in_err-may_chflags-clause-call g c =
-    let p = err_from_is_err_and c.from_residual-in_err-may_chflags.result c.from_residual-in_err-may_chflags.ensures.1 in
-    rw (p.1, p.2) (barred (chflags_path c.args.level c.args.cred.now c.args.path.now c.args.flags) c.in_ok-file.file c.in_ok-file.ensures.reach c.find.ensures.state c.depth.result c.depth.ensures c.in_err-may_chflags.field-0.0 c.in_err-may_chflags.ensures)
+    let p = err_from_is_err_and c.from_residual-in_err-may_chflags.result c.from_residual-in_err-may_chflags.ensures.1
+    in
+    rw (p.1, p.2) (barred (chflags_path c.args.level c.args.cred.now c.args.path.now c.args.flags) c.in_ok-file.file
+    c.in_ok-file.ensures.reach c.find.ensures.state c.depth.result c.depth.ensures c.in_err-may_chflags.field-0.0
+    c.in_err-may_chflags.ensures)
 
 pub set_attrs-requires : goal.set_attrs-requires
 set_attrs-requires g c =
     let t = c.requires in
-    record { kind = kind_stored c.args.cred.now c.args.path.now c.find.ensures.state c.in_ok-file.file c.in_ok-file.ensures.reach t.0 t.1 }
+    record {
+      kind = kind_stored c.args.cred.now c.args.path.now c.find.ensures.state c.in_ok-file.file
+          c.in_ok-file.ensures.reach t.0 t.1;
+    }
 
 pub returns-in_err-set_attrs-clause-call : goal.returns-in_err-set_attrs-clause-call
 returns-in_err-set_attrs-clause-call g c =
     let p = err_from_is_err_and c.from_residual-in_err-set_attrs.result c.from_residual-in_err-set_attrs.ensures.1 in
     rw (p.1, p.2) (refused c.args.level c.find.ensures.state c.in_err-set_attrs.field-0.0 tt
-    (serves (chflags_path c.args.level c.args.cred.now c.args.path.now c.args.flags) c.in_ok-file.file c.in_ok-file.ensures.reach c.depth.result c.depth.ensures c.in_ok-may_chflags.ensures (λ w h. h) (λ w h. h))
+    (serves (chflags_path c.args.level c.args.cred.now c.args.path.now c.args.flags) c.in_ok-file.file
+    c.in_ok-file.ensures.reach c.depth.result c.depth.ensures c.in_ok-may_chflags.ensures (λ w h. h) (λ w h. h))
     c.in_err-set_attrs.ensures.changes)
 
 pub returns-clause-call : goal.returns-clause-call
 returns-clause-call g c =
     done c.args.level c.find.ensures.state tt
-    (serves (chflags_path c.args.level c.args.cred.now c.args.path.now c.args.flags) c.in_ok-file.file c.in_ok-file.ensures.reach c.depth.result c.depth.ensures c.in_ok-may_chflags.ensures (λ w h. h) (λ w h. h))
+    (serves (chflags_path c.args.level c.args.cred.now c.args.path.now c.args.flags) c.in_ok-file.file
+    c.in_ok-file.ensures.reach c.depth.result c.depth.ensures c.in_ok-may_chflags.ensures (λ w h. h) (λ w h. h))
     (λ w. refl)
-    (attrs_set c.args.cred.now c.args.path.now c.find.ensures.state c.in_ok-file.file c.in_ok-file.ensures.reach (g.F.FileStore.state c.set_attrs.new.store) (record c.in_ok-file.file.attrs { flags = c.args.flags }) refl (λ (f : File). record f { flags = c.args.flags }) (λ bytes. refl) c.in_ok-set_attrs.ensures.changes.ok)
-    (attrs_keep c.args.cred.now c.args.path.now c.find.ensures.state c.in_ok-file.file c.in_ok-file.ensures.reach (g.F.FileStore.state c.set_attrs.new.store) _ c.in_ok-set_attrs.ensures.changes.ok)
+    (attrs_set c.args.cred.now c.args.path.now c.find.ensures.state c.in_ok-file.file c.in_ok-file.ensures.reach
+    (g.F.FileStore.state c.set_attrs.new.store) (record c.in_ok-file.file.attrs { flags = c.args.flags }) refl
+    (λ (f : File). record f { flags = c.args.flags }) (λ bytes. refl) c.in_ok-set_attrs.ensures.changes.ok)
+    (attrs_keep c.args.cred.now c.args.path.now c.find.ensures.state c.in_ok-file.file c.in_ok-file.ensures.reach
+    (g.F.FileStore.state c.set_attrs.new.store) _ c.in_ok-set_attrs.ensures.changes.ok)
     c.in_ok-set_attrs.ensures.changes.follows
 
 -- the changes make the call
 makes : (g : _) (c : In_ok-may_chflags g) (s : StoreState)
-    → SetsAttrs (g.F.FileStore.state c.find.new.store).content s.content c.in_ok-file.file.number (record c.in_ok-file.file.attrs { flags = c.args.flags })
-    → InWorld (g.F.FileStore.state c.args.store.now) (λ w. IsVolume s (effect (g.F.FileStore.state c.args.store.now).shape.numbers w c.args.cred.now (Chflags c.args.path.now c.args.flags)))
+    → SetsAttrs (g.F.FileStore.state c.find.new.store).content s.content c.in_ok-file.file.number
+    (record c.in_ok-file.file.attrs { flags = c.args.flags })
+    → InWorld (g.F.FileStore.state c.args.store.now)
+    (λ w. IsVolume s (effect (g.F.FileStore.state c.args.store.now).shape.numbers w c.args.cred.now
+    (Chflags c.args.path.now c.args.flags)))
 makes g c s sets =
-    attrs_set c.args.cred.now c.args.path.now c.find.ensures.state c.in_ok-file.file c.in_ok-file.ensures.reach s (record c.in_ok-file.file.attrs { flags = c.args.flags }) refl (λ (f : File). record f { flags = c.args.flags }) (λ bytes. refl) sets
+    attrs_set c.args.cred.now c.args.path.now c.find.ensures.state c.in_ok-file.file c.in_ok-file.ensures.reach s
+    (record c.in_ok-file.file.attrs { flags = c.args.flags }) refl (λ (f : File). record f { flags = c.args.flags })
+    (λ bytes. refl) sets
 
 pub returns-in_err-file-clause-asked : goal.returns-in_err-file-clause-asked
 returns-in_err-file-clause-asked g c =
@@ -59,16 +76,21 @@ returns-in_err-file-clause-asked g c =
 
 pub returns-in_err-may_chflags-clause-asked : goal.returns-in_err-may_chflags-clause-asked
 returns-in_err-may_chflags-clause-asked g c =
-    let p = err_from_is_err_and c.from_residual-in_err-may_chflags.result c.from_residual-in_err-may_chflags.ensures.1 in
+    let p = err_from_is_err_and c.from_residual-in_err-may_chflags.result c.from_residual-in_err-may_chflags.ensures.1
+    in
     rw (p.1, p.2) tt
 
 pub returns-in_err-set_attrs-clause-asked : goal.returns-in_err-set_attrs-clause-asked
 returns-in_err-set_attrs-clause-asked g c =
     let k = (goal.at.returns-in_err-set_attrs-clause-asked g c).In_ok-may_chflags in
     let p = err_from_is_err_and c.from_residual-in_err-set_attrs.result c.from_residual-in_err-set_attrs.ensures.1 in
-    rw (p.1, p.2) (asked_refused g.F.FileStore.state g.F.FileStore.made (Chflags c.args.path.now c.args.flags) c.args.cred.now c.find.ensures.state c.of-by.ensures (makes g k) c.in_err-set_attrs.field-0.0 c.in_err-set_attrs.ensures.asked)
+    rw (p.1, p.2) (asked_refused g.F.FileStore.state g.F.FileStore.made
+    (Chflags c.args.path.now c.args.flags) c.args.cred.now c.find.ensures.state c.of-by.ensures
+    (makes g k) c.in_err-set_attrs.field-0.0 c.in_err-set_attrs.ensures.asked)
 
 pub returns-clause-asked : goal.returns-clause-asked
 returns-clause-asked g c =
     let k = (goal.at.returns-clause-asked g c).In_ok-may_chflags in
-    asked_served g.F.FileStore.state g.F.FileStore.made (Chflags c.args.path.now c.args.flags) c.args.cred.now c.find.ensures.state c.of-by.ensures (makes g k) c.in_ok-set_attrs.ensures.asked
+    asked_served g.F.FileStore.state g.F.FileStore.made
+    (Chflags c.args.path.now c.args.flags) c.args.cred.now c.find.ensures.state c.of-by.ensures
+    (makes g k) c.in_ok-set_attrs.ensures.asked

@@ -10,13 +10,17 @@ use Rattle.lfs_calls.proofs.cutting.cut.Goals as goal
 
 pub apply-requires-clause-can : goal.apply-requires-clause-can
 apply-requires-clause-can g c =
-    can_cut (g.F.FileStore.state c.args.store.now).content c.args.file.now.number c.args.file.now.attrs c.requires.shown c.args.cred.now c.args.len
+    can_cut (g.F.FileStore.state c.args.store.now).content c.args.file.now.number c.args.file.now.attrs c.requires.shown
+    c.args.cred.now c.args.len
     c.requires.regular c.requires.fits (g.F.FileStore.state c.args.store.now).shape.numbers c.mode_after-mode.result
 
 pub returns-clause-changes : goal.returns-clause-changes
 returns-clause-changes g c = record {
-  ok = IfOk-weaker c.apply.result _ _ (λ _ h. changes_bytes (g.F.FileStore.state c.args.store.now).content c.args.file.now.number c.args.file.now.attrs c.requires.shown c.args.cred.now
-      (λ (old : List ℕ). resized old c.args.len) c.mode_after-mode.result c.mode_after-mode.ensures (g.F.FileStore.state c.apply.new.self).content h) c.apply.ensures.applies.ok;
+  ok = IfOk-weaker c.apply.result _ _ (λ _ h. changes_bytes
+      (g.F.FileStore.state c.args.store.now).content c.args.file.now.number c.args.file.now.attrs c.requires.shown
+      c.args.cred.now
+      (λ (old : List ℕ). resized old c.args.len) c.mode_after-mode.result c.mode_after-mode.ensures
+      (g.F.FileStore.state c.apply.new.self).content h) c.apply.ensures.applies.ok;
   err = c.apply.ensures.applies.err;
   refused = c.apply.ensures.applies.refused;
   follows = c.apply.ensures.applies.follows;
@@ -26,13 +30,17 @@ pub apply-requires-clause-keeps : goal.apply-requires-clause-keeps
 apply-requires-clause-keeps g c =
     let before = (g.F.FileStore.state c.args.store.now).content in
     let file = c.args.file.now in
-    bytes_keep_names before _ file.number file.attrs c.requires.shown c.requires.regular c.args.cred.now (λ (old : List ℕ). resized old c.args.len)
-    (changes_bytes before file.number file.attrs c.requires.shown c.args.cred.now (λ (old : List ℕ). resized old c.args.len) c.mode_after-mode.result c.mode_after-mode.ensures _ refl)
+    bytes_keep_names before _ file.number file.attrs c.requires.shown c.requires.regular c.args.cred.now
+    (λ (old : List ℕ). resized old c.args.len)
+    (changes_bytes before file.number file.attrs c.requires.shown c.args.cred.now
+    (λ (old : List ℕ). resized old c.args.len) c.mode_after-mode.result c.mode_after-mode.ensures _ refl)
 
 pub returns-clause-asked : goal.returns-clause-asked
 returns-clause-asked g c =
     let before = (g.F.FileStore.state c.args.store.now).content in
     let file = c.args.file.now in
     let attrs = record file.attrs { mode = c.mode_after-mode.result } in
-    asks_now g.F.FileStore.state g.F.FileStore.made (SetLength file.number c.args.len) (SetAttrs file.number attrs ∷ []) c.of.ensures refl c.apply.ensures.made
-    (changes_bytes before file.number file.attrs c.requires.shown c.args.cred.now (λ (old : List ℕ). resized old c.args.len) c.mode_after-mode.result c.mode_after-mode.ensures _ refl)
+    asks_now g.F.FileStore.state g.F.FileStore.made (SetLength file.number c.args.len) (SetAttrs file.number attrs
+    ∷ []) c.of.ensures refl c.apply.ensures.made
+    (changes_bytes before file.number file.attrs c.requires.shown c.args.cred.now
+    (λ (old : List ℕ). resized old c.args.len) c.mode_after-mode.result c.mode_after-mode.ensures _ refl)

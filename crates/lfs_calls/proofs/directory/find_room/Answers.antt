@@ -18,53 +18,73 @@ loop-k-init g c = record { full = c.first_to_try-first.ensures.full; state = ref
 pub keep_hint-requires : goal.keep_hint-requires
 keep_hint-requires g c =
     let stored = bytes_of (g.F.FileStore.state c.args.store.now).content c.args.dir in
-    let size : length (with_block stored c.args.taken) ≡ c.args.size = length-with_block stored c.args.taken c.args.size c.requires.stands c.requires.stored.sized c.requires.stored.whole in
+    let size : length (with_block stored c.args.taken)
+    ≡ c.args.size = length-with_block stored c.args.taken c.args.size c.requires.stands c.requires.stored.sized
+    c.requires.stored.whole in
     let within = c.loop-k-test.true in
-    subst (λ x. IsFullBefore (with_block (bytes_of x c.args.dir) c.args.taken) (record { block = c.loop-k.k; length = length c.args.name.now }))
+    subst (λ x. IsFullBefore (with_block (bytes_of x c.args.dir) c.args.taken)
+    (record { block = c.loop-k.k; length = length c.args.name.now }))
     (sym (same_content (c.seen_block-block.ensures.state ∙ c.loop-k.invariant.state)))
-    (full_before (with_block stored c.args.taken) c.loop-k.k c.args.size (length c.args.name.now) size (omega arith) c.loop-k.invariant.full)
+    (full_before (with_block stored c.args.taken) c.loop-k.k c.args.size (length c.args.name.now) size
+    (omega arith) c.loop-k.invariant.full)
 
 pub keep_hint-requires-2 : goal.keep_hint-requires-2
 keep_hint-requires-2 g c =
     let stored = bytes_of (g.F.FileStore.state c.args.store.now).content c.args.dir in
-    let size : length (with_block stored c.args.taken) ≡ c.args.size = length-with_block stored c.args.taken c.args.size c.requires.stands c.requires.stored.sized c.requires.stored.whole in
-    subst (λ x. IsFullBefore (with_block (bytes_of x c.args.dir) c.args.taken) (record { block = c.args.size / 512; length = length c.args.name.now }))
+    let size : length (with_block stored c.args.taken)
+    ≡ c.args.size = length-with_block stored c.args.taken c.args.size c.requires.stands c.requires.stored.sized
+    c.requires.stored.whole in
+    subst (λ x. IsFullBefore (with_block (bytes_of x c.args.dir) c.args.taken)
+    (record { block = c.args.size / 512; length = length c.args.name.now }))
     (sym (same_content c.loop-k.invariant.state))
-    (full_before (with_block stored c.args.taken) (c.args.size / 512) c.args.size (length c.args.name.now) size (omega arith) (λ j before. c.loop-k.invariant.full j (omega (arith, before, c.loop-k-test.false))))
+    (full_before (with_block stored c.args.taken) (c.args.size / 512) c.args.size (length c.args.name.now) size
+    (omega arith) (λ j before. c.loop-k.invariant.full j (omega (arith, before, c.loop-k-test.false))))
 
 pub added-requires-clause-new_name : goal.added-requires-clause-new_name
 added-requires-clause-new_name g c =
     let stored = bytes_of (g.F.FileStore.state c.args.store.now).content c.args.dir in
     let bytes = with_block stored c.args.taken in
-    let size : length bytes ≡ c.args.size = length-with_block stored c.args.taken c.args.size c.requires.stands c.requires.stored.sized c.requires.stored.whole in
-    let block : c.seen_block-block.result ≡ block_at bytes c.loop-k.k = c.seen_block-block.ensures.block ∙ ap (λ x. block_at (with_block (bytes_of x c.args.dir) c.args.taken) c.loop-k.k) (same_content c.loop-k.invariant.state) in
+    let size : length bytes ≡ c.args.size = length-with_block stored c.args.taken c.args.size c.requires.stands
+    c.requires.stored.sized c.requires.stored.whole in
+    let block : c.seen_block-block.result ≡ block_at bytes c.loop-k.k = c.seen_block-block.ensures.block
+    ∙ ap (λ x. block_at (with_block (bytes_of x c.args.dir) c.args.taken) c.loop-k.k)
+    (same_content c.loop-k.invariant.state) in
     let within : c.loop-k.k < length bytes / 512 = subst (λ n. c.loop-k.k < n / 512) (sym size) c.loop-k-test.true in
-    ap (λ b. number_in c.args.name.now (entries_of b)) block ∙ absent_in_block c.args.name.now bytes c.loop-k.k within c.requires.free
+    ap (λ b. number_in c.args.name.now (entries_of b)) block
+    ∙ absent_in_block c.args.name.now bytes c.loop-k.k within c.requires.free
 
 pub returns-clause-room : goal.returns-clause-room
 returns-clause-room g c =
     let stored = bytes_of (g.F.FileStore.state c.args.store.now).content c.args.dir in
     let bytes = with_block stored c.args.taken in
-    let size : length bytes ≡ c.args.size = length-with_block stored c.args.taken c.args.size c.requires.stands c.requires.stored.sized c.requires.stored.whole in
+    let size : length bytes ≡ c.args.size = length-with_block stored c.args.taken c.args.size c.requires.stands
+    c.requires.stored.sized c.requires.stored.whole in
     let whole : length bytes % 512 ≡ 0 = ap (λ n. n % 512) size ∙ c.requires.stored.whole in (
       length bytes / 512,
       record {
         off = omega (arith, size, whole);
         within = omega arith;
-        fits = let apart = c.if-size-eq-FILE_BYTES.false in omega (arith, size, c.requires.bounded, c.requires.stored.whole);
-        block = subst (IsDirectoryBlock c.lone_entry-block.result) (sym c.lone_entry-block.ensures.listed) c.lone_entry-block.ensures.block;
-        adds = c.lone_entry-block.ensures.listed ∙ ap (λ es. es ++ (c.args.number, c.args.name.now) ∷ []) (sym (none_at_end bytes whole));
-        first = λ j before. let within : j < c.args.size / 512 = subst (λ n. j < n / 512) size before in c.loop-k.invariant.full j (omega (arith, within, c.loop-k-test.false));
+        fits = let apart = c.if-size-eq-FILE_BYTES.false in
+            omega (arith, size, c.requires.bounded, c.requires.stored.whole);
+        block = subst (IsDirectoryBlock c.lone_entry-block.result)
+            (sym c.lone_entry-block.ensures.listed) c.lone_entry-block.ensures.block;
+        adds = c.lone_entry-block.ensures.listed
+            ∙ ap (λ es. es ++ (c.args.number, c.args.name.now) ∷ []) (sym (none_at_end bytes whole));
+        first = λ j before. let within : j < c.args.size / 512 = subst (λ n. j < n / 512) size before in
+            c.loop-k.invariant.full j (omega (arith, within, c.loop-k-test.false));
       },
     )
 
 pub returns-then-size-eq-FILE_BYTES-clause-room : goal.returns-then-size-eq-FILE_BYTES-clause-room
 returns-then-size-eq-FILE_BYTES-clause-room g c =
     let stored = bytes_of (g.F.FileStore.state c.args.store.now).content c.args.dir in
-    let size : length (with_block stored c.args.taken) ≡ c.args.size = length-with_block stored c.args.taken c.args.size c.requires.stands c.requires.stored.sized c.requires.stored.whole in
+    let size : length (with_block stored c.args.taken)
+    ≡ c.args.size = length-with_block stored c.args.taken c.args.size c.requires.stands c.requires.stored.sized
+    c.requires.stored.whole in
     record {
       whole = size ∙ c.if-size-eq-FILE_BYTES.true;
-      full = λ j before. let whole = c.if-size-eq-FILE_BYTES.true in c.loop-k.invariant.full j (omega (arith, before, whole, c.loop-k-test.false));
+      full = λ j before. let whole = c.if-size-eq-FILE_BYTES.true in
+          c.loop-k.invariant.full j (omega (arith, before, whole, c.loop-k-test.false));
     }
 
 pub added-requires-clause-directory : goal.added-requires-clause-directory

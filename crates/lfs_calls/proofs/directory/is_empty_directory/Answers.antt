@@ -1,4 +1,5 @@
-use Rattle.std.proofs.Common.{◌≡◌, ◌<◌, ◌/◌, ℕ, true, false, List, [], ◌∷◌, length, Option, None, Some, is_some, refl, sym, ap, subst, ◌∙◌}
+use Rattle.std.proofs.Common.{◌≡◌, ◌<◌, ◌/◌, ℕ, true, false, List, [], ◌∷◌, length, Option, None, Some, is_some, refl}
+use Rattle.std.proofs.Common.{sym, ap, subst, ◌∙◌}
 use Rattle.lfs_calls.proofs.StateLemmas.{same_content}
 use Rattle.std.specs.Prelude.{MatchOption}
 use Rattle.std.specs.Borrow.{Bor}
@@ -27,10 +28,13 @@ loop-k-init g c = record { nothing = nothing_at_first _; state = refl }
 pub returns-then-is_some-clause-empty : goal.returns-then-is_some-clause-empty
 returns-then-is_some-clause-empty g c =
     let bytes = bytes_of (g.F.FileStore.state c.args.store.now).content c.args.dir in
-    let block : c.read_block-block.result ≡ block_at bytes c.loop-k.k = c.read_block-block.ensures.block ∙ ap (λ x. block_at (bytes_of x c.args.dir) c.loop-k.k) (same_content c.loop-k.invariant.state) in
-    let within : c.loop-k.k < length bytes / 512 = subst (λ n. c.loop-k.k < n / 512) c.requires.sized c.loop-k-test.true in (
+    let block : c.read_block-block.result ≡ block_at bytes c.loop-k.k = c.read_block-block.ensures.block
+    ∙ ap (λ x. block_at (bytes_of x c.args.dir) c.loop-k.k) (same_content c.loop-k.invariant.state) in
+    let within : c.loop-k.k < length bytes / 512 =
+    subst (λ n. c.loop-k.k < n / 512) c.requires.sized c.loop-k-test.true in (
       λ h. absurd (cc),
-      λ none. absurd (some_first c.next.result c.entries.result c.next.new.self c.next.ensures.steps (sym c.is_some.ensures ∙ c.if-is_some.true)
+      λ none. absurd (some_first c.next.result c.entries.result c.next.new.self c.next.ensures.steps
+          (sym c.is_some.ensures ∙ c.if-is_some.true)
           (c.entries.ensures.value ∙ ap entries_of block ∙ nothing_in_block bytes c.loop-k.k within none)),
     )
 
@@ -38,8 +42,11 @@ pub loop-k-preserved : goal.loop-k-preserved
 loop-k-preserved g c = record {
   nothing =
       let bytes = bytes_of (g.F.FileStore.state c.args.store.now).content c.args.dir in
-      let block : c.read_block-block.result ≡ block_at bytes c.loop-k.k = c.read_block-block.ensures.block ∙ ap (λ x. block_at (bytes_of x c.args.dir) c.loop-k.k) (same_content c.loop-k.invariant.state) in
+      let block : c.read_block-block.result ≡ block_at bytes c.loop-k.k = c.read_block-block.ensures.block
+      ∙ ap (λ x. block_at (bytes_of x c.args.dir) c.loop-k.k) (same_content c.loop-k.invariant.state) in
       nothing_further bytes c.loop-k.k c.loop-k.invariant.nothing
-      (ap entries_of (sym block) ∙ sym c.entries.ensures.value ∙ no_first c.next.result c.entries.result c.next.new.self c.next.ensures.steps (sym c.is_some.ensures ∙ c.if-is_some.false));
+      (ap entries_of (sym block) ∙ sym c.entries.ensures.value
+      ∙ no_first c.next.result c.entries.result c.next.new.self c.next.ensures.steps (sym c.is_some.ensures
+      ∙ c.if-is_some.false));
   state = c.read_block-block.ensures.state ∙ c.loop-k.invariant.state;
 }

@@ -12,12 +12,15 @@ added-requires-clause-new_name c = ap (number_in c.args.name.now) (entries_of-ze
 
 pub unreachable-requires : goal.unreachable-requires
 unreachable-requires c =
-    let room = subst (λ es. used_of es + 5 + length c.args.name.now ≤ 512) (sym (entries_of-zeros 512)) (omega (arith, c.as_bytes.ensures.bounded)) in
+    let room = subst (λ es. used_of es + 5 + length c.args.name.now ≤ 512) (sym (entries_of-zeros 512))
+    (omega (arith, c.as_bytes.ensures.bounded)) in
     let some = c.in-None.ensures.fits.1 room in
     absurd (cc)
 
 pub returns-clause-block : goal.returns-clause-block
-returns-clause-block c = subst (λ es. IsDirectoryBlock c.in-Some.block (es ++ (c.args.number, c.args.name.now) ∷ [])) (entries_of-zeros 512) c.in-Some.ensures.block
+returns-clause-block c = subst (λ es. IsDirectoryBlock c.in-Some.block (es ++ (c.args.number, c.args.name.now) ∷ []))
+    (entries_of-zeros 512) c.in-Some.ensures.block
 
 pub returns-clause-listed : goal.returns-clause-listed
-returns-clause-listed c = c.in-Some.ensures.listed ∙ ap (λ es. es ++ (c.args.number, c.args.name.now) ∷ []) (entries_of-zeros 512)
+returns-clause-listed c = c.in-Some.ensures.listed
+    ∙ ap (λ es. es ++ (c.args.number, c.args.name.now) ∷ []) (entries_of-zeros 512)

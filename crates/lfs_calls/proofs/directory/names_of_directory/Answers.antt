@@ -14,7 +14,8 @@ pub loop-k-preserved : goal.loop-k-preserved
 loop-k-preserved g c = record {
   names =
       let bytes = bytes_of (g.F.FileStore.state c.args.store.now).content c.args.dir in
-      let block : c.read_block-block.result ≡ block_at bytes c.loop-k.k = c.read_block-block.ensures.block ∙ ap (λ x. block_at (bytes_of x c.args.dir) c.loop-k.k) (same_content c.loop-k.invariant.state) in
+      let block : c.read_block-block.result ≡ block_at bytes c.loop-k.k = c.read_block-block.ensures.block
+      ∙ ap (λ x. block_at (bytes_of x c.args.dir) c.loop-k.k) (same_content c.loop-k.invariant.state) in
       c.in_ok-push_names.ensures ∙ ap (λ b. c.loop-k.names.items ++ map (λ (e : Entry). e.1) (entries_of b)) block
       ∙ ap (λ ns. ns ++ map (λ (e : Entry). e.1) (entries_of (block_at bytes c.loop-k.k))) c.loop-k.invariant.names
       ∙ sym (names_further bytes c.loop-k.k);

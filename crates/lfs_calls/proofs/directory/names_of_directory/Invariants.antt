@@ -6,6 +6,7 @@ use Rattle.lfs_calls.proofs.directory.names_of_directory.Given as goal
 
 abbrev pub invariant-loop-k : goal.invariant-loop-k
 invariant-loop-k g l = record {
-  names : l.names.items ≡ map (λ (e : Entry). e.1) (entries_below (bytes_of (g.F.FileStore.state l.fn.store).content l.dir) l.k);
+  names : l.names.items ≡ map (λ (e : Entry). e.1)
+      (entries_below (bytes_of (g.F.FileStore.state l.fn.store).content l.dir) l.k);
   state : g.F.FileStore.state l.store ≡ g.F.FileStore.state l.fn.store;
 }

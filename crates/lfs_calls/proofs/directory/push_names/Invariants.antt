@@ -8,5 +8,6 @@ invariant-loop-bytes l = record {
   can_next : (goal.iterator-loop-bytes).can_next l.bytes-iterator;
   is_finite : (goal.iterator-loop-bytes).is_finite l.bytes-iterator;
   left : AreEntries l.bytes-iterator;
-  pushed : l.names.items ++ map (λ (e : Entry). e.1) l.bytes-iterator ≡ l.fn.names.items ++ map (λ (e : Entry). e.1) (entries_of l.block);
+  pushed : l.names.items ++ map (λ (e : Entry). e.1) l.bytes-iterator ≡ l.fn.names.items
+      ++ map (λ (e : Entry). e.1) (entries_of l.block);
 }

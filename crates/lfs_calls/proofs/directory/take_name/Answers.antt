@@ -17,12 +17,14 @@ loop-k-preserved g c =
     let same = same_content c.loop-k.invariant.state in
     record {
       absent = absent_further c.args.name.now bytes c.loop-k.k c.loop-k.invariant.absent
-          (ap (λ x. number_in c.args.name.now (entries_of (block_at (bytes_of x c.args.dir) c.loop-k.k))) (sym same) ∙ c.in_default-take_from.ensures.room);
+          (ap (λ x. number_in c.args.name.now (entries_of (block_at (bytes_of x c.args.dir) c.loop-k.k))) (sym same)
+          ∙ c.in_default-take_from.ensures.room);
       state = c.take_from.ensures.state ∙ c.loop-k.invariant.state;
     }
 
 pub returns-in-Some-take_from-clause-room : goal.returns-in-Some-take_from-clause-room
 returns-in-Some-take_from-clause-room g c = (
   c.loop-k.k,
-  subst (λ x. IsTaking (bytes_of x c.args.dir) c.args.name.now c.in-Some-take_from.room c.loop-k.k) (same_content c.loop-k.invariant.state) c.in-Some-take_from.ensures.room,
+  subst (λ x. IsTaking (bytes_of x c.args.dir) c.args.name.now c.in-Some-take_from.room c.loop-k.k)
+      (same_content c.loop-k.invariant.state) c.in-Some-take_from.ensures.room,
 )

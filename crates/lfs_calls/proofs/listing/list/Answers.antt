@@ -19,18 +19,21 @@ use Rattle.lfs_calls.proofs.listing.list.Goals as goal
 pub returns-in_err-dir-clause-call : goal.returns-in_err-dir-clause-call
 returns-in_err-dir-clause-call g c level =
     let p = err_from_is_err_and c.from_residual.result c.from_residual.ensures.1 in
-    rw (p.1, p.2) (not_reached (list_path level c.args.cred.now c.args.path.now) c.find.ensures.state c.in_err-dir.field-0.0 c.in_err-dir.ensures.reach)
+    rw (p.1, p.2) (not_reached (list_path level c.args.cred.now c.args.path.now) c.find.ensures.state
+    c.in_err-dir.field-0.0 c.in_err-dir.ensures.reach)
 
 pub returns-in_err-may_list-clause-call : goal.returns-in_err-may_list-clause-call
 returns-in_err-may_list-clause-call g c level =
     let p = err_from_is_err_and c.from_residual-in_err-may_list.result c.from_residual-in_err-may_list.ensures.1 in
-    rw (p.1, p.2) (barred (list_path level c.args.cred.now c.args.path.now) c.in_ok-dir.dir c.in_ok-dir.ensures.reach c.find.ensures.state c.depth.result c.depth.ensures c.in_err-may_list.field-0.0 c.in_err-may_list.ensures)
+    rw (p.1, p.2) (barred (list_path level c.args.cred.now c.args.path.now) c.in_ok-dir.dir c.in_ok-dir.ensures.reach
+    c.find.ensures.state c.depth.result c.depth.ensures c.in_err-may_list.field-0.0 c.in_err-may_list.ensures)
 
 pub names_of_directory-requires-clause-stored : goal.names_of_directory-requires-clause-stored
 names_of_directory-requires-clause-stored g c =
     let t = c.requires in
     let dir = c.in_ok-dir.dir in
-    let directory = (met_first _ _ _ (judged_all (list_tests c.args.cred.now dir.attrs c.depth.result) (sym c.in_ok-may_list.ensures))).0 in
+    let directory = (met_first _ _ _ (judged_all (list_tests c.args.cred.now dir.attrs c.depth.result)
+    (sym c.in_ok-may_list.ensures))).0 in
     subst (λ x. HasBlocks x dir.number dir.attrs.size) (sym (same_content c.find.ensures.state))
     (dir_stored t.1.shows dir.number dir.attrs (c.in_ok-dir.ensures.reach t.0 t.1).1 directory)
 
@@ -38,7 +41,8 @@ pub names_of_directory-requires-clause-blocks : goal.names_of_directory-requires
 names_of_directory-requires-clause-blocks g c =
     let t = c.requires in
     let dir = c.in_ok-dir.dir in
-    let directory = (met_first _ _ _ (judged_all (list_tests c.args.cred.now dir.attrs c.depth.result) (sym c.in_ok-may_list.ensures))).0 in
+    let directory = (met_first _ _ _ (judged_all (list_tests c.args.cred.now dir.attrs c.depth.result)
+    (sym c.in_ok-may_list.ensures))).0 in
     subst (λ x. AreBlocks (bytes_of x dir.number)) (sym (same_content c.find.ensures.state))
     (bytes_listing t.1.shows dir.number dir.attrs (c.in_ok-dir.ensures.reach t.0 t.1).1 directory).blocks
 
@@ -47,14 +51,19 @@ returns-in-Ok-clause-call g c level =
     let dir = c.in_ok-dir.dir in
     let leads = c.in_ok-dir.ensures.reach in
     let content = (g.F.FileStore.state c.args.store.now).content in
-    let directory = (met_first _ _ _ (judged_all (list_tests c.args.cred.now dir.attrs c.depth.result) (sym c.in_ok-may_list.ensures))).0 in
-    let names = c.in-Ok.ensures.names ∙ ap (λ x. map (λ (e : Entry). e.1) (all_entries (bytes_of x dir.number))) (same_content c.find.ensures.state) in
+    let directory = (met_first _ _ _ (judged_all (list_tests c.args.cred.now dir.attrs c.depth.result)
+    (sym c.in_ok-may_list.ensures))).0 in
+    let names = c.in-Ok.ensures.names ∙ ap (λ x. map (λ (e : Entry). e.1) (all_entries (bytes_of x dir.number)))
+    (same_content c.find.ensures.state) in
     let moved = subst (λ ns. IsPermutation ns c.sorted.result.items) names c.sorted.ensures.permutation in
     shown level (c.names_of_directory.ensures.state ∙ c.find.ensures.state) (served.Names c.from.result)
-    (serves (list_path level c.args.cred.now c.args.path.now) dir leads c.depth.result c.depth.ensures c.in_ok-may_list.ensures (λ w h. h) (λ w h. h))
+    (serves (list_path level c.args.cred.now c.args.path.now) dir leads c.depth.result c.depth.ensures
+    c.in_ok-may_list.ensures (λ w h. h) (λ w h. h))
     (λ w v. let r = leads w v in
     ap served.Names c.from.ensures
-    ∙ list_answer content w v.shows v.tree c.args.path.now dir (walked-reached w.rows c.args.cred.now 0 0 root c.args.path.now dir.number r.0) r.1 directory c.sorted.result.items moved c.sorted.ensures.order)
+    ∙ list_answer content w v.shows v.tree c.args.path.now dir
+    (walked-reached w.rows c.args.cred.now 0 0 root c.args.path.now dir.number r.0) r.1 directory
+    c.sorted.result.items moved c.sorted.ensures.order)
     (λ w. refl)
     (λ w n dir. refl)
 
@@ -63,5 +72,6 @@ returns-in-Err-clause-call g c level =
     let dir = c.in_ok-dir.dir in
     lacking level (c.names_of_directory.ensures.state ∙ c.find.ensures.state) NoMemory
     (λ w v at.
-    let x = serves (list_path level c.args.cred.now c.args.path.now) dir c.in_ok-dir.ensures.reach c.depth.result c.depth.ensures c.in_ok-may_list.ensures (λ w h. h) (λ w h. h) w v at in
+    let x = serves (list_path level c.args.cred.now c.args.path.now) dir c.in_ok-dir.ensures.reach c.depth.result
+    c.depth.ensures c.in_ok-may_list.ensures (λ w h. h) (λ w h. h) w v at in
     (x.allowed, x.numbered, x.roomy, inr tt))

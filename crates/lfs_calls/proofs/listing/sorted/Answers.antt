@@ -7,4 +7,5 @@ use Rattle.lfs_calls.proofs.listing.sorted.Goals as goal
 
 pub returns-clause-order : goal.returns-clause-order
 returns-clause-order c =
-    c.sort_unstable_by.ensures.sorted (λ a b. is_lt (slice_cmp nat_cmp a b)) (ranks_by nat_list_cmp_total (λ name. name)) (answers_always _ _ _ (λ f a r q k. search rules))
+    c.sort_unstable_by.ensures.sorted (λ a b. is_lt (slice_cmp nat_cmp a b))
+    (ranks_by nat_list_cmp_total (λ name. name)) (answers_always _ _ _ (λ f a r q k. search rules))

@@ -31,12 +31,15 @@ none_is true some e = sym (ap not e)
 none_is false some e = sym (ap not e)
 
 -- whether a row has the name is whether the directory lists it
-free_is : (g : _) (c : After-is_none-free g) (w : World) → IsVolume (g.F.FileStore.state c.args.store.now) w → c.is_none-free.result ≡ is_none (child w.rows c.args.dir.now.number c.args.name.now)
+free_is : (g : _) (c : After-is_none-free g) (w : World) → IsVolume (g.F.FileStore.state c.args.store.now) w
+    → c.is_none-free.result ≡ is_none (child w.rows c.args.dir.now.number c.args.name.now)
 free_is g c w v =
     let dir = c.args.dir.now in
     let met = judged_all (searching_tests c.args.cred.now 0 dir.attrs c.args.at) (sym c.in_ok-may_search.ensures) in
     let kind : is_directory_kind dir.attrs.kind ≡ true = (met_first _ _ _ met).0 in
-    none_is _ _ c.is_none-free.ensures ∙ ap is_none (c.look_up.ensures.found ∙ child_listed (g.F.FileStore.state c.args.store.now).content w v.shows dir.number dir.attrs c.requires.shown kind c.args.name.now)
+    none_is _ _ c.is_none-free.ensures ∙ ap is_none (c.look_up.ensures.found
+    ∙ child_listed (g.F.FileStore.state c.args.store.now).content w v.shows dir.number dir.attrs c.requires.shown
+    kind c.args.name.now)
 
 pub returns-in_err-may_search-clause-judge : goal.returns-in_err-may_search-clause-judge
 returns-in_err-may_search-clause-judge g c w v =
@@ -44,16 +47,21 @@ returns-in_err-may_search-clause-judge g c w v =
     let dir = c.args.dir.now in
     let free = is_none (child w.rows dir.number c.args.name.now) in
     p.1 ∙ ap Err p.2
-    ∙ sym (judged_front (searching_tests c.args.cred.now 0 dir.attrs c.args.at) (asks free NameFree 0 (c.args.at + 1) ∷ entering_tests c.args.cred.now 0 dir.attrs c.args.at) c.in_err-may_search.field-0.0 (sym c.in_err-may_search.ensures))
+    ∙ sym (judged_front (searching_tests c.args.cred.now 0 dir.attrs c.args.at) (asks free NameFree 0 (c.args.at + 1)
+    ∷ entering_tests c.args.cred.now 0 dir.attrs c.args.at) c.in_err-may_search.field-0.0
+    (sym c.in_err-may_search.ensures))
 
 -- search is granted: the other tests decide
 behind : (g : _) (c : After-is_none-free g) (w : World)
-    → judged (making_tests c.args.cred.now (is_none (child w.rows c.args.dir.now.number c.args.name.now)) c.args.dir.now.attrs c.args.at)
-    ≡ judged (asks (is_none (child w.rows c.args.dir.now.number c.args.name.now)) NameFree 0 (c.args.at + 1) ∷ entering_tests c.args.cred.now 0 c.args.dir.now.attrs c.args.at)
+    → judged (making_tests c.args.cred.now (is_none (child w.rows c.args.dir.now.number c.args.name.now))
+    c.args.dir.now.attrs c.args.at)
+    ≡ judged (asks (is_none (child w.rows c.args.dir.now.number c.args.name.now)) NameFree 0 (c.args.at + 1)
+    ∷ entering_tests c.args.cred.now 0 c.args.dir.now.attrs c.args.at)
 behind g c w =
     let dir = c.args.dir.now in
     let free = is_none (child w.rows dir.number c.args.name.now) in
-    judged_behind (searching_tests c.args.cred.now 0 dir.attrs c.args.at) (asks free NameFree 0 (c.args.at + 1) ∷ entering_tests c.args.cred.now 0 dir.attrs c.args.at) (sym c.in_ok-may_search.ensures)
+    judged_behind (searching_tests c.args.cred.now 0 dir.attrs c.args.at) (asks free NameFree 0 (c.args.at + 1)
+    ∷ entering_tests c.args.cred.now 0 dir.attrs c.args.at) (sym c.in_ok-may_search.ensures)
 
 pub returns-in_err-ask-clause-judge : goal.returns-in_err-ask-clause-judge
 returns-in_err-ask-clause-judge g c w v =

@@ -11,11 +11,14 @@ apply_naming-requires g c =
     let d = some_and _ _ c.requires.can.block.directory in
     let room = c.args.room.now in
     let before = (g.F.FileStore.state c.args.store.now).content in
-    let finds = c.requires.finds _ (makes_file before c.args.number c.args.attrs c.args.dir room.off room.block d.value c.requires.can.unused d.is _ refl) in
+    let finds = c.requires.finds _ (makes_file before c.args.number c.args.attrs c.args.dir room.off room.block d.value
+    c.requires.can.unused d.is _ refl) in
     record {
       can = can_make before c.args.number c.args.attrs c.args.dir room.off room.block d.value c.requires.can.unused d.is
-          (g.F.FileStore.state c.args.store.now).shape.numbers _ refl c.requires.can.above c.requires.can.within c.requires.can.block.size
-          (grown_length d.value.kind d.value.bytes room.off room.block d.holds.0 d.holds.1 d.holds.3 c.requires.can.block.aligned c.requires.can.block.fits c.requires.can.block.size d.holds.2);
+          (g.F.FileStore.state c.args.store.now).shape.numbers _ refl c.requires.can.above c.requires.can.within
+          c.requires.can.block.size
+          (grown_length d.value.kind d.value.bytes room.off room.block d.holds.0 d.holds.1 d.holds.3
+          c.requires.can.block.aligned c.requires.can.block.fits c.requires.can.block.size d.holds.2);
       finds = finds;
     }
 
@@ -23,7 +26,9 @@ pub returns-clause-changes : goal.returns-clause-changes
 returns-clause-changes g c =
     let d = some_and _ _ c.requires.can.block.directory in
     record {
-      ok = IfOk-weaker c.apply_naming.result _ _ (λ _ h. makes_file (g.F.FileStore.state c.args.store.now).content c.args.number c.args.attrs c.args.dir c.args.room.now.off c.args.room.now.block d.value c.requires.can.unused d.is
+      ok = IfOk-weaker c.apply_naming.result _ _
+          (λ _ h. makes_file (g.F.FileStore.state c.args.store.now).content c.args.number c.args.attrs c.args.dir
+          c.args.room.now.off c.args.room.now.block d.value c.requires.can.unused d.is
           (g.F.FileStore.state c.apply_naming.new.self).content h) c.apply_naming.ensures.applies.ok;
       err = c.apply_naming.ensures.applies.err;
       refused = c.apply_naming.ensures.applies.refused;
@@ -35,4 +40,5 @@ returns-clause-asked g c =
     let d = some_and _ _ c.requires.can.block.directory in
     let room = c.args.room.now in
     asks_list g.F.FileStore.state g.F.FileStore.made refl refl c.apply_naming.ensures.made
-    (makes_file (g.F.FileStore.state c.args.store.now).content c.args.number c.args.attrs c.args.dir room.off room.block d.value c.requires.can.unused d.is _ refl)
+    (makes_file (g.F.FileStore.state c.args.store.now).content c.args.number c.args.attrs c.args.dir room.off room.block
+    d.value c.requires.can.unused d.is _ refl)

@@ -19,24 +19,30 @@ use Rattle.lfs_calls.proofs.reading.read.Goals as goal
 pub returns-in_err-file-clause-call : goal.returns-in_err-file-clause-call
 returns-in_err-file-clause-call g c level =
     let p = err_from_is_err_and c.from_residual.result c.from_residual.ensures.1 in
-    rw (p.1, p.2) (not_reached (read_path level c.args.cred.now c.args.path.now c.args.off c.args.len) c.find.ensures.state c.in_err-file.field-0.0 c.in_err-file.ensures.reach)
+    rw (p.1, p.2) (not_reached (read_path level c.args.cred.now c.args.path.now c.args.off c.args.len)
+    c.find.ensures.state c.in_err-file.field-0.0 c.in_err-file.ensures.reach)
 
 pub returns-in_err-may_read-clause-call : goal.returns-in_err-may_read-clause-call
 returns-in_err-may_read-clause-call g c level =
     let p = err_from_is_err_and c.from_residual-in_err-may_read.result c.from_residual-in_err-may_read.ensures.1 in
-    rw (p.1, p.2) (barred (read_path level c.args.cred.now c.args.path.now c.args.off c.args.len) c.in_ok-file.file c.in_ok-file.ensures.reach c.find.ensures.state c.depth.result c.depth.ensures c.in_err-may_read.field-0.0 c.in_err-may_read.ensures)
+    rw (p.1, p.2) (barred (read_path level c.args.cred.now c.args.path.now c.args.off c.args.len) c.in_ok-file.file
+    c.in_ok-file.ensures.reach c.find.ensures.state c.depth.result c.depth.ensures c.in_err-may_read.field-0.0
+    c.in_err-may_read.ensures)
 
 pub read_bytes-requires-clause-used : goal.read_bytes-requires-clause-used
 read_bytes-requires-clause-used g c =
     let t = c.requires in
     let file = c.in_ok-file.file in
-    subst (λ x. IsSome (get x file.number)) (sym (same_content c.find.ensures.state)) (shown_stored (g.F.FileStore.state c.args.store.now).content file.number file.attrs (c.in_ok-file.ensures.reach t.0 t.1).1)
+    subst (λ x. IsSome (get x file.number)) (sym (same_content c.find.ensures.state))
+    (shown_stored (g.F.FileStore.state c.args.store.now).content file.number file.attrs
+    (c.in_ok-file.ensures.reach t.0 t.1).1)
 
 pub read_bytes-requires-clause-size : goal.read_bytes-requires-clause-size
 read_bytes-requires-clause-size g c =
     let t = c.requires in
     let file = c.in_ok-file.file in
-    size_stored (g.F.FileStore.state c.args.store.now).content file.number file.attrs (c.in_ok-file.ensures.reach t.0 t.1).1
+    size_stored (g.F.FileStore.state c.args.store.now).content file.number file.attrs
+    (c.in_ok-file.ensures.reach t.0 t.1).1
     ∙ ap (λ x. length (bytes_of x file.number)) (sym (same_content c.find.ensures.state))
 
 pub returns-in-Some-clause-call : goal.returns-in-Some-clause-call
@@ -47,10 +53,13 @@ returns-in-Some-clause-call g c level =
     let tests = judged_all (read_tests c.args.cred.now file.attrs c.depth.result) (sym c.in_ok-may_read.ensures) in
     let regular = not-true (is_directory_kind file.attrs.kind) (met_first _ _ _ tests).0 in
     shown level (c.read_bytes.ensures.state ∙ c.find.ensures.state) (served.Bytes c.from.result)
-    (serves (read_path level c.args.cred.now c.args.path.now c.args.off c.args.len) file leads c.depth.result c.depth.ensures c.in_ok-may_read.ensures (λ w h. h) (λ w h. h))
+    (serves (read_path level c.args.cred.now c.args.path.now c.args.off c.args.len) file leads c.depth.result
+    c.depth.ensures c.in_ok-may_read.ensures (λ w h. h) (λ w h. h))
     (λ w v. let r = leads w v in
-    read_answer content w v.shows c.args.cred.now c.args.path.now file.number file.attrs r.0 r.1 c.args.off c.args.len regular c.from.result
-    (c.from.ensures ∙ c.in-Some.ensures.bytes ∙ ap (λ x. slice_of (bytes_of x file.number) c.args.off c.min-count.result) (same_content c.find.ensures.state)
+    read_answer content w v.shows c.args.cred.now c.args.path.now file.number file.attrs r.0 r.1 c.args.off c.args.len
+    regular c.from.result
+    (c.from.ensures ∙ c.in-Some.ensures.bytes
+    ∙ ap (λ x. slice_of (bytes_of x file.number) c.args.off c.min-count.result) (same_content c.find.ensures.state)
     ∙ ap (slice_of (bytes_of content file.number) c.args.off) c.min-count.ensures))
     (λ w. refl)
     (λ w n dir. refl)
@@ -60,5 +69,7 @@ returns-in-None-clause-call g c level =
     let file = c.in_ok-file.file in
     lacking level (c.read_bytes.ensures.state ∙ c.find.ensures.state) NoMemory
     (λ w v at.
-    let x = serves (read_path level c.args.cred.now c.args.path.now c.args.off c.args.len) file c.in_ok-file.ensures.reach c.depth.result c.depth.ensures c.in_ok-may_read.ensures (λ w h. h) (λ w h. h) w v at in
+    let x = serves (read_path level c.args.cred.now c.args.path.now c.args.off c.args.len) file
+    c.in_ok-file.ensures.reach c.depth.result c.depth.ensures c.in_ok-may_read.ensures (λ w h. h) (λ w h. h) w v at
+    in
     (x.allowed, x.numbered, x.roomy, inr tt))

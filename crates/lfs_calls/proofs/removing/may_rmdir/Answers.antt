@@ -19,11 +19,14 @@ pub is_empty_directory-empty-requires : goal.is_empty_directory-empty-requires
 is_empty_directory-empty-requires g c =
     let t = c.requires.world in
     let row = c.args.row.now in
-    dir_stored t.1.shows row.number row.attrs c.requires.shown (sym c.is_directory.ensures ∙ ask_met c.is_directory.result _ _ c.in_ok-ask.ensures)
+    dir_stored t.1.shows row.number row.attrs c.requires.shown (sym c.is_directory.ensures
+    ∙ ask_met c.is_directory.result _ _ c.in_ok-ask.ensures)
 
 pub returns-clause-judge : goal.returns-clause-judge
 returns-clause-judge g c w v =
     let row = c.args.row.now in
-    let kind : is_directory_kind row.attrs.kind ≡ true = sym c.is_directory.ensures ∙ ask_met c.is_directory.result _ _ c.in_ok-ask.ensures in
-    let empty = directory_empty (g.F.FileStore.state c.args.store.now).content w v.shows row.number row.attrs c.requires.shown kind c.is_empty_directory-empty.result c.is_empty_directory-empty.ensures.empty in
+    let kind : is_directory_kind row.attrs.kind ≡ true = sym c.is_directory.ensures
+    ∙ ask_met c.is_directory.result _ _ c.in_ok-ask.ensures in
+    let empty = directory_empty (g.F.FileStore.state c.args.store.now).content w v.shows row.number row.attrs
+    c.requires.shown kind c.is_empty_directory-empty.result c.is_empty_directory-empty.ensures.empty in
     c.ask-2.ensures ∙ ap (λ b. judged (asks b IsEmpty 0 c.args.at ∷ [])) empty ∙ sym (cond-true _ _ _ kind)

@@ -15,7 +15,8 @@ pub take_name-taken-requires : goal.take_name-taken-requires
 take_name-taken-requires g c =
     let t = c.requires.goes in
     let m = c.args.planned.now.removal in
-    lists_name t.1.0.shows m.dir.number m.dir.attrs t.1.1.leaves.hangs.shown_dir t.1.1.leaves.hangs.directory c.args.old.now (present (old_is_listed t.1.0.shows t.1.0.tree t.1.1.leaves))
+    lists_name t.1.0.shows m.dir.number m.dir.attrs t.1.1.leaves.hangs.shown_dir t.1.1.leaves.hangs.directory
+    c.args.old.now (present (old_is_listed t.1.0.shows t.1.0.tree t.1.1.leaves))
 
 pub find_room-requires : goal.find_room-requires
 find_room-requires g c =
@@ -23,14 +24,17 @@ find_room-requires g c =
     let m = c.args.planned.now in
     let taking = c.take_name-taken.ensures.room.1 in
     let same = same_content c.take_name-taken.ensures.state in
-    let seen = seen_through t.1.0.shows t.1.0.tree t.1.1.leaves taking _ same c.then_some-seen.result _ refl c.then_some-seen.ensures in
+    let seen = seen_through t.1.0.shows t.1.0.tree t.1.1.leaves taking _ same c.then_some-seen.result _ refl
+    c.then_some-seen.ensures in
     record {
-      stored = subst (λ x. HasBlocks x m.dir.number m.dir.attrs.size) (sym same) (dir_stored t.1.0.shows m.dir.number m.dir.attrs t.1.1.leaves.shown t.1.1.leaves.directory);
+      stored = subst (λ x. HasBlocks x m.dir.number m.dir.attrs.size) (sym same)
+          (dir_stored t.1.0.shows m.dir.number m.dir.attrs t.1.1.leaves.shown t.1.1.leaves.directory);
       bounded = size_bounded t.1.0.shows m.dir.number m.dir.attrs t.1.1.leaves.shown t.1.1.leaves.directory;
       stands = search rules;
       blocks = subst AreBlocks (sym seen) (seen_listing t.1.0.shows t.1.0.tree t.1.1.leaves taking).blocks;
       above = above t.1.0.shows t.1.0.tree t.1.1.leaves;
-      free = ap (λ bs. number_in c.args.new.now (all_entries bs)) seen ∙ seen_free t.1.0.shows t.1.0.tree t.1.1.leaves taking c.args.new.now t.1.1.free;
+      free = ap (λ bs. number_in c.args.new.now (all_entries bs)) seen
+          ∙ seen_free t.1.0.shows t.1.0.tree t.1.1.leaves taking c.args.new.now t.1.1.free;
     }
 
 pub returns-in_err-room-clause-places : goal.returns-in_err-room-clause-places
@@ -40,8 +44,12 @@ returns-in_err-room-clause-places g c =
     let before = (g.F.FileStore.state c.args.store.now).content in
     let taking = c.take_name-taken.ensures.room.1 in
     let full = nowhere t.1.0.shows t.1.0.tree t.1.1.leaves taking
-    (subst (λ bs. FitsNowhere bs None c.args.new.now) (seen_through t.1.0.shows t.1.0.tree t.1.1.leaves taking _ (same_content c.take_name-taken.ensures.state) c.then_some-seen.result _ refl c.then_some-seen.ensures) c.in_err-room.ensures.room) in
-    subst (λ o. MatchOption o (FitsNowhere (bytes_of before m.dir.number) (name_left m c.args.old.now) c.args.new.now) (ArePlaces before m c.args.old.now c.args.new.now)) (sym c.from_residual.ensures) full
+    (subst (λ bs. FitsNowhere bs None c.args.new.now)
+    (seen_through t.1.0.shows t.1.0.tree t.1.1.leaves taking _
+    (same_content c.take_name-taken.ensures.state) c.then_some-seen.result _ refl c.then_some-seen.ensures)
+    c.in_err-room.ensures.room) in
+    subst (λ o. MatchOption o (FitsNowhere (bytes_of before m.dir.number) (name_left m c.args.old.now) c.args.new.now)
+    (ArePlaces before m c.args.old.now c.args.new.now)) (sym c.from_residual.ensures) full
 
 pub returns-clause-places : goal.returns-clause-places
 returns-clause-places g c =
@@ -54,6 +62,8 @@ returns-clause-places g c =
       room = (
         found.0,
         subst (λ bs. IsRoom bs m.removal.file.number c.args.new.now c.in_ok-room.room found.0)
-            (seen_through t.1.0.shows t.1.0.tree t.1.1.leaves taking.1 _ (same_content c.take_name-taken.ensures.state) c.then_some-seen.result _ refl c.then_some-seen.ensures) found.1,
+            (seen_through t.1.0.shows t.1.0.tree t.1.1.leaves taking.1 _
+            (same_content c.take_name-taken.ensures.state) c.then_some-seen.result _ refl c.then_some-seen.ensures)
+            found.1,
       );
     }

@@ -10,7 +10,9 @@ use Rattle.lfs_calls.proofs.renaming.judge_apart.Goals as goal
 pub returns-then-not-is_directory-clause-apart : goal.returns-then-not-is_directory-clause-apart
 returns-then-not-is_directory-clause-apart g c w v =
     apart_met w c.args.file.now.number c.args.to.now
-    (file_apart (g.F.FileStore.state c.args.store.now).content w v.shows v.tree c.args.cred.now c.args.to.now (c.requires.made w v) c.args.file.now.number c.args.file.now.attrs c.requires.shown (sym c.if-not-is_directory.ensures))
+    (file_apart (g.F.FileStore.state c.args.store.now).content w v.shows v.tree c.args.cred.now c.args.to.now
+    (c.requires.made w v) c.args.file.now.number c.args.file.now.attrs c.requires.shown
+    (sym c.if-not-is_directory.ensures))
 
 pub judge_way-requires-clause-short : goal.judge_way-requires-clause-short
 judge_way-requires-clause-short g c =
@@ -24,12 +26,16 @@ judge_way-requires-clause-short g c =
 
 pub judge_way-requires-clause-leads : goal.judge_way-requires-clause-leads
 judge_way-requires-clause-leads g c w v =
-    let may = may_arrive w.rows v.tree c.args.cred.now c.args.to.now (c.requires.made w v) in
-    (reached w.rows root (front c.args.to.now), ap (walked w.rows c.args.cred.now 1 0 root) c.parents_of.ensures.names ∙ may.way)
+    let may = may_arrive w.rows v.tree c.args.cred.now c.args.to.now (c.requires.made w v) in (
+      reached w.rows root (front c.args.to.now),
+      ap (walked w.rows c.args.cred.now 1 0 root) c.parents_of.ensures.names
+          ∙ may.way,
+    )
 
 pub returns-clause-apart : goal.returns-clause-apart
 returns-clause-apart g c w v =
-    way_judged c.args.file.now.number c.args.to.now c.parents_of.result.now c.parents_of.ensures.names c.judge_way.result c.judge_way.ensures.apart c.judge_way.ensures.beneath w v
+    way_judged c.args.file.now.number c.args.to.now c.parents_of.result.now c.parents_of.ensures.names
+    c.judge_way.result c.judge_way.ensures.apart c.judge_way.ensures.beneath w v
 
 pub judge_way-requires-clause-world : goal.judge_way-requires-clause-world
 judge_way-requires-clause-world g c = c.requires.world

@@ -10,8 +10,10 @@ use Rattle.lfs_calls.proofs.renaming.judge_way.Given as goal
 -- the directory isn't among the rows so far
 abbrev pub invariant-loop-at : goal.invariant-loop-at
 invariant-loop-at g l = record {
-  rest : (w : World) → IsVolume (g.F.FileStore.state l.fn.store) w → IsRest w.rows l.names l.number l.at l.dir (drop l.at l.names);
-  leads : (w : World) → IsVolume (g.F.FileStore.state l.fn.store) w → (n : ℕ) × (walked w.rows l.cred 1 l.at l.dir (drop l.at l.names) ≡ Ok n);
+  rest : (w : World) → IsVolume (g.F.FileStore.state l.fn.store) w
+      → IsRest w.rows l.names l.number l.at l.dir (drop l.at l.names);
+  leads : (w : World) → IsVolume (g.F.FileStore.state l.fn.store) w → (n : ℕ)
+      × (walked w.rows l.cred 1 l.at l.dir (drop l.at l.names) ≡ Ok n);
   used : IsSome (get (g.F.FileStore.state l.store).content l.dir);
   state : g.F.FileStore.state l.store ≡ g.F.FileStore.state l.fn.store;
 }

@@ -16,13 +16,15 @@ use Rattle.lfs_calls.proofs.renaming.move_free.Goals as goal
 pub put_blocks-requires-clause-old : goal.put_blocks-requires-clause-old
 put_blocks-requires-clause-old g c =
     let t = c.requires.goes in
-    subst (λ x. IsBlockOf x c.args.planned.now.removal.dir.number c.in-Some.places.taken) (sym (same_content c.find_places.ensures.state))
+    subst (λ x. IsBlockOf x c.args.planned.now.removal.dir.number c.in-Some.places.taken)
+    (sym (same_content c.find_places.ensures.state))
     (old_block t.1.0.shows t.1.0.tree t.1.1.leaves c.in-Some.ensures.places.taking.1)
 
 pub put_blocks-requires-clause-new : goal.put_blocks-requires-clause-new
 put_blocks-requires-clause-new g c =
     let t = c.requires.goes in
-    subst (λ x. IsBlockOf x c.args.planned.now.dir.number c.in-Some.places.room) (sym (same_content c.find_places.ensures.state))
+    subst (λ x. IsBlockOf x c.args.planned.now.dir.number c.in-Some.places.room)
+    (sym (same_content c.find_places.ensures.state))
     (new_block t.1.0.shows t.1.0.tree t.1.1.leaves c.in-Some.ensures.places.taking.1 c.in-Some.ensures.places.room.1)
 
 pub put_blocks-requires-clause-moves : goal.put_blocks-requires-clause-moves
@@ -32,7 +34,8 @@ put_blocks-requires-clause-moves g c after writes =
     let m = c.args.planned.now in
     let same = same_content c.find_places.ensures.state in
     let places = c.in-Some.places in
-    subst (λ x. MovesName x after m.removal.dir.number c.args.old.now m.dir.number c.args.new.now m.removal.file.number) (sym same)
+    subst (λ x. MovesName x after m.removal.dir.number c.args.old.now m.dir.number c.args.new.now m.removal.file.number)
+    (sym same)
     (moves_free t.1.0.shows t.1.0.tree t.1.1.leaves t.1.1.free c.in-Some.ensures.places after
     (subst (λ x. WritesBlocks x after m.removal.dir.number places.taken m.dir.number places.room) same writes))
 
@@ -42,13 +45,16 @@ returns-in_err-put_blocks-clause-puts g c =
     let p = err_from_is_err_and c.from_residual.result c.from_residual.ensures.1 in
     let s = g.F.FileStore.state c.args.store.now in
     let full = HasNoRoom s.content c.args.planned.now c.args.old.now c.args.new.now in
-    subst (λ r. PutsRow s full (λ after. MovesTo s.content after c.args.planned.now c.args.old.now c.args.new.now) r (g.F.FileStore.state c.put_blocks.new.store)) (sym (p.1 ∙ ap Err p.2))
+    subst (λ r. PutsRow s full (λ after. MovesTo s.content after c.args.planned.now c.args.old.now c.args.new.now) r
+    (g.F.FileStore.state c.put_blocks.new.store)) (sym (p.1 ∙ ap Err p.2))
     (record {
       ok = tt;
       err = c.in_err-put_blocks.ensures.changes.err ∙ same_content c.find_places.ensures.state;
       refused = refused_for s full c.in_err-put_blocks.field-0.0
-          (subst (λ (x : StoreState). MayRefuse x.clean x.shape.can_lack_memory c.in_err-put_blocks.field-0.0) c.find_places.ensures.state c.in_err-put_blocks.ensures.changes.refused)
-          (somewhere t.1.0.shows t.1.0.tree t.1.1.leaves c.in-Some.ensures.places.taking.1 c.in-Some.ensures.places.room.1);
+          (subst (λ (x : StoreState). MayRefuse x.clean x.shape.can_lack_memory c.in_err-put_blocks.field-0.0)
+          c.find_places.ensures.state c.in_err-put_blocks.ensures.changes.refused)
+          (somewhere t.1.0.shows t.1.0.tree t.1.1.leaves c.in-Some.ensures.places.taking.1
+          c.in-Some.ensures.places.room.1);
       roomless = λ h. not_roomless c.in_err-put_blocks.field-0.0 h;
       follows = follows_same c.find_places.ensures.state c.in_err-put_blocks.ensures.changes.follows;
     })
@@ -63,7 +69,8 @@ returns-in_err-put_blocks-clause-asked g c =
       places,
       (
         c.in-Some.ensures.places,
-        subst (λ x. WritesBlocks x after m.removal.dir.number places.taken m.dir.number places.room) (same_content c.find_places.ensures.state) writes,
+        subst (λ x. WritesBlocks x after m.removal.dir.number places.taken m.dir.number places.room)
+            (same_content c.find_places.ensures.state) writes,
       ),
     ))
     c.in_err-put_blocks.ensures.asked))
@@ -76,7 +83,8 @@ returns-clause-asked g c =
       places,
       (
         c.in-Some.ensures.places,
-        subst (λ x. WritesBlocks x after m.removal.dir.number places.taken m.dir.number places.room) (same_content c.find_places.ensures.state) writes,
+        subst (λ x. WritesBlocks x after m.removal.dir.number places.taken m.dir.number places.room)
+            (same_content c.find_places.ensures.state) writes,
       ),
     ))
     c.in_ok-put_blocks.ensures.asked

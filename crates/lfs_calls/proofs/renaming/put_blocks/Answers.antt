@@ -10,16 +10,21 @@ use Rattle.lfs_calls.proofs.renaming.put_blocks.Goals as goal
 use Rattle.lfs_calls.proofs.renaming.put_blocks.Goals.{Then-taken-room}
 
 -- where the blocks stand at one place, the second alone is written
-one_written : (g : _) (c : Then-taken-room g) (after : Content) → after ≡ block_put c.args.dir c.args.room.now (g.F.FileStore.state c.args.store.now).content
-    → WritesBlocks (g.F.FileStore.state c.args.store.now).content after c.args.old_dir c.args.taken.now c.args.dir c.args.room.now
+one_written : (g : _) (c : Then-taken-room g) (after : Content) → after
+    ≡ block_put c.args.dir c.args.room.now (g.F.FileStore.state c.args.store.now).content
+    → WritesBlocks (g.F.FileStore.state c.args.store.now).content after c.args.old_dir c.args.taken.now c.args.dir
+    c.args.room.now
 one_written g c after is =
     let before = (g.F.FileStore.state c.args.store.now).content in
     let same = c.if-old_dir-dir.true in
     subst (λ d. WritesBlocks before after c.args.old_dir c.args.taken.now d c.args.room.now) same
-    (writes_one before c.args.old_dir c.args.taken.now c.requires.old c.args.room.now c.if-taken-room.true c.requires.new.size after (is ∙ ap (λ d. block_put d c.args.room.now before) (sym same)))
+    (writes_one before c.args.old_dir c.args.taken.now c.requires.old c.args.room.now c.if-taken-room.true
+    c.requires.new.size after (is ∙ ap (λ d. block_put d c.args.room.now before) (sym same)))
 
 -- and the names are left so
-one_moves : (g : _) (c : Then-taken-room g) → MovesName (g.F.FileStore.state c.args.store.now).content (block_put c.args.dir c.args.room.now (g.F.FileStore.state c.args.store.now).content)
+one_moves : (g : _) (c : Then-taken-room g)
+    → MovesName (g.F.FileStore.state c.args.store.now).content
+    (block_put c.args.dir c.args.room.now (g.F.FileStore.state c.args.store.now).content)
     c.args.old_dir c.args.names.now.old.now c.args.dir c.args.names.now.new.now c.args.names.now.number
 one_moves g c = c.requires.moves _ (one_written g c _ refl)
 
@@ -33,7 +38,9 @@ pub returns-then-taken-room-clause-changes : goal.returns-then-taken-room-clause
 returns-then-taken-room-clause-changes g c =
     let k = (goal.at.returns-then-taken-room-clause-changes g c).Then-taken-room in
     record {
-      ok = IfOk-weaker c.apply_moving.result _ _ (λ _ h. one_written g k (g.F.FileStore.state c.apply_moving.new.self).content h) c.apply_moving.ensures.applies.ok;
+      ok = IfOk-weaker c.apply_moving.result _ _
+          (λ _ h. one_written g k (g.F.FileStore.state c.apply_moving.new.self).content h)
+          c.apply_moving.ensures.applies.ok;
       err = c.apply_moving.ensures.applies.err;
       refused = c.apply_moving.ensures.applies.refused;
       follows = c.apply_moving.ensures.applies.follows;
@@ -41,7 +48,8 @@ returns-then-taken-room-clause-changes g c =
 
 pub apply_moving-requires-2-clause-can : goal.apply_moving-requires-2-clause-can
 apply_moving-requires-2-clause-can g c =
-    can_put_blocks (g.F.FileStore.state c.args.store.now).content c.args.old_dir c.args.taken.now c.requires.old c.requires.old_within c.args.dir c.args.room.now c.requires.new
+    can_put_blocks (g.F.FileStore.state c.args.store.now).content c.args.old_dir c.args.taken.now c.requires.old
+    c.requires.old_within c.args.dir c.args.room.now c.requires.new
     (g.F.FileStore.state c.args.store.now).shape.numbers _ _ refl refl
 
 pub apply_moving-requires-clause-can : goal.apply_moving-requires-clause-can
@@ -53,4 +61,5 @@ returns-then-taken-room-clause-asked g c =
     asks_list g.F.FileStore.state g.F.FileStore.made refl refl c.apply_moving.ensures.made (one_written g k _ refl)
 
 pub returns-clause-asked : goal.returns-clause-asked
-returns-clause-asked g c = asks_list g.F.FileStore.state g.F.FileStore.made refl refl c.apply_moving-2.ensures.made (λ q. refl)
+returns-clause-asked g c = asks_list g.F.FileStore.state g.F.FileStore.made refl refl c.apply_moving-2.ensures.made
+    (λ q. refl)

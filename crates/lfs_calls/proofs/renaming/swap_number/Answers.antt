@@ -1,4 +1,5 @@
-use Rattle.std.proofs.Common.{◌≡◌, ℕ, ◌/◌, ◌<◌, true, List, length, Option, None, Some, is_some, refl, sym, ap, subst, ◌∙◌, arith}
+use Rattle.std.proofs.Common.{◌≡◌, ℕ, ◌/◌, ◌<◌, true, List, length, Option, None, Some, is_some, refl, sym, ap, subst}
+use Rattle.std.proofs.Common.{◌∙◌, arith}
 use Rattle.std.specs.Prelude.{IsSome}
 use Rattle.lfs_types.specs.Stored.{bytes_of}
 use Rattle.lfs_dirs.specs.Directory.{IsDirectoryBlock, number_in, renumbered}
@@ -22,11 +23,15 @@ bytes g c = with_block (bytes_of (g.F.FileStore.state c.args.store.now).content 
 
 -- the block that is read is one of them
 block_is : (g : _) (c : After-seen_block-block g) → c.seen_block-block.result ≡ block_at (bytes g c) c.loop-k.k
-block_is g c = c.seen_block-block.ensures.block ∙ ap (λ x. block_at (with_block (bytes_of x c.args.dir) c.args.taken) c.loop-k.k) (same_content c.loop-k.invariant.state)
+block_is g c = c.seen_block-block.ensures.block
+    ∙ ap (λ x. block_at (with_block (bytes_of x c.args.dir) c.args.taken) c.loop-k.k)
+    (same_content c.loop-k.invariant.state)
 
 within : (g : _) (c : After-seen_block-block g) → c.loop-k.k < length (bytes g c) / 512
 within g c =
-    let size : length (bytes g c) ≡ c.args.size = length-with_block (bytes_of (g.F.FileStore.state c.args.store.now).content c.args.dir) c.args.taken c.args.size c.requires.stands c.requires.stored.sized c.requires.stored.whole in
+    let size : length (bytes g c) ≡ c.args.size =
+    length-with_block (bytes_of (g.F.FileStore.state c.args.store.now).content c.args.dir) c.args.taken c.args.size
+    c.requires.stands c.requires.stored.sized c.requires.stored.whole in
     subst (λ n. c.loop-k.k < n / 512) (sym size) c.loop-k-test.true
 
 pub loop-k-init : goal.loop-k-init
@@ -44,9 +49,12 @@ returns-then-is_some-clause-room g c =
       record {
         off = refl;
         within = within g k;
-        listed = subst (λ b. IsSome (number_in c.args.name.now (entries_of b))) (block_is g k) (subst IsSome c.find.ensures (some_there c.find.result (sym c.is_some.ensures ∙ c.if-is_some.true)));
-        block = subst (IsDirectoryBlock c.replaced-block.result) (sym c.replaced-block.ensures.listed) c.replaced-block.ensures.block;
-        swaps = c.replaced-block.ensures.listed ∙ ap (λ b. renumbered c.args.name.now c.args.number (entries_of b)) (block_is g k);
+        listed = subst (λ b. IsSome (number_in c.args.name.now (entries_of b))) (block_is g k)
+            (subst IsSome c.find.ensures (some_there c.find.result (sym c.is_some.ensures ∙ c.if-is_some.true)));
+        block = subst (IsDirectoryBlock c.replaced-block.result)
+            (sym c.replaced-block.ensures.listed) c.replaced-block.ensures.block;
+        swaps = c.replaced-block.ensures.listed ∙ ap (λ b. renumbered c.args.name.now c.args.number (entries_of b))
+            (block_is g k);
       },
     )
 
@@ -55,16 +63,21 @@ loop-k-preserved g c =
     let k = (goal.at.loop-k-preserved g c).After-seen_block-block in
     record {
       absent = absent_further c.args.name.now (bytes g k) c.loop-k.k c.loop-k.invariant.absent
-          (ap (λ b. number_in c.args.name.now (entries_of b)) (sym (block_is g k)) ∙ sym c.find.ensures ∙ not_some c.find.result (sym c.if-is_some.ensures));
+          (ap (λ b. number_in c.args.name.now (entries_of b)) (sym (block_is g k)) ∙ sym c.find.ensures
+          ∙ not_some c.find.result (sym c.if-is_some.ensures));
       state = c.seen_block-block.ensures.state ∙ c.loop-k.invariant.state;
     }
 
 pub unreachable-requires : goal.unreachable-requires
 unreachable-requires g c =
     let stored = bytes_of (g.F.FileStore.state c.args.store.now).content c.args.dir in
-    let size : length (with_block stored c.args.taken) ≡ c.args.size = length-with_block stored c.args.taken c.args.size c.requires.stands c.requires.stored.sized c.requires.stored.whole in
+    let size : length (with_block stored c.args.taken)
+    ≡ c.args.size = length-with_block stored c.args.taken c.args.size c.requires.stands c.requires.stored.sized
+    c.requires.stored.whole in
     let most = c.loop-k.auto.k-end in
-    let count : length (with_block stored c.args.taken) / 512 ≡ c.loop-k.k = ap (λ n. n / 512) size ∙ omega (arith, most, c.loop-k-test.false) in
-    let none = ap (λ n. number_in c.args.name.now (entries_below (with_block stored c.args.taken) n)) count ∙ c.loop-k.invariant.absent in
+    let count : length (with_block stored c.args.taken) / 512 ≡ c.loop-k.k = ap (λ n. n / 512) size
+    ∙ omega (arith, most, c.loop-k-test.false) in
+    let none = ap (λ n. number_in c.args.name.now (entries_below (with_block stored c.args.taken) n)) count
+    ∙ c.loop-k.invariant.absent in
     let found = (there_of _ c.requires.listed).is in
     absurd (cc)

@@ -8,6 +8,7 @@ use Rattle.lfs_calls.proofs.renaming.swap_number.Given as goal
 -- the name is in none of the blocks so far
 abbrev pub invariant-loop-k : goal.invariant-loop-k
 invariant-loop-k g l = record {
-  absent : number_in l.name (entries_below (with_block (bytes_of (g.F.FileStore.state l.fn.store).content l.dir) l.taken) l.k) ≡ None;
+  absent : number_in l.name (entries_below
+      (with_block (bytes_of (g.F.FileStore.state l.fn.store).content l.dir) l.taken) l.k) ≡ None;
   state : g.F.FileStore.state l.store ≡ g.F.FileStore.state l.fn.store;
 }

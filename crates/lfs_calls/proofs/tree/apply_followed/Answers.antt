@@ -4,7 +4,9 @@ use Rattle.lfs_known.specs.Full.{AreFull}
 use Rattle.lfs_calls.proofs.tree.apply_followed.Goals as goal
 
 pub returns-clause-shown : goal.returns-clause-shown
-returns-clause-shown g c shown = subst (AreShown c.follow_attributes.new.cache) (sym c.in_ok-apply.ensures.applies.ok) (c.follow_attributes.ensures _ shown)
+returns-clause-shown g c shown = subst (AreShown c.follow_attributes.new.cache) (sym c.in_ok-apply.ensures.applies.ok)
+    (c.follow_attributes.ensures _ shown)
 
 pub returns-clause-full : goal.returns-clause-full
-returns-clause-full g c full = subst (AreFull c.follow_hints.new.hints) (sym c.in_ok-apply.ensures.applies.ok) (c.follow_hints.ensures _ full)
+returns-clause-full g c full = subst (AreFull c.follow_hints.new.hints) (sym c.in_ok-apply.ensures.applies.ok)
+    (c.follow_hints.ensures _ full)

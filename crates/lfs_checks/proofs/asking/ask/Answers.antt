@@ -6,4 +6,5 @@ pub returns-then-met : goal.returns-then-met
 returns-then-met c = ap (λ b. judged (asks b c.args.rule c.args.site.path c.args.site.at ∷ [])) (sym c.if-met.true)
 
 pub returns-else-met : goal.returns-else-met
-returns-else-met c = ap Err c.denial.ensures ∙ ap (λ b. judged (asks b c.args.rule c.args.site.path c.args.site.at ∷ [])) (sym c.if-met.false)
+returns-else-met c = ap Err c.denial.ensures
+    ∙ ap (λ b. judged (asks b c.args.rule c.args.site.path c.args.site.at ∷ [])) (sym c.if-met.false)

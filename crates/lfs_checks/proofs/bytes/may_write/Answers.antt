@@ -11,5 +11,8 @@ pub returns-in_err-may_change : goal.returns-in_err-may_change
 returns-in_err-may_change c =
     let p = err_from_is_err_and c.from_residual.result c.from_residual.ensures.1 in
     p.1 ∙ ap Err p.2
-    ∙ sym (judged_front (change_tests c.args.cred.now (is_end c.args.place) c.args.file.now c.args.at) (asks (nat_le (start_in c.args.place c.args.file.now.size + c.args.count) FILE_BYTES) FitsFile 0 c.args.at ∷ []) c.in_err-may_change.field-0.0
-    (ap (λ e. judged (change_tests c.args.cred.now e c.args.file.now c.args.at)) (sym c.is_end.ensures) ∙ sym c.in_err-may_change.ensures))
+    ∙ sym (judged_front (change_tests c.args.cred.now (is_end c.args.place) c.args.file.now c.args.at)
+    (asks (nat_le (start_in c.args.place c.args.file.now.size + c.args.count) FILE_BYTES) FitsFile 0 c.args.at
+    ∷ []) c.in_err-may_change.field-0.0
+    (ap (λ e. judged (change_tests c.args.cred.now e c.args.file.now c.args.at)) (sym c.is_end.ensures)
+    ∙ sym c.in_err-may_change.ensures))

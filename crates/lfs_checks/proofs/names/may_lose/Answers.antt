@@ -20,4 +20,5 @@ pub returns : goal.returns
 returns c =
     ask_ends _ (ap not c.append_only.ensures) c.ask.ensures
     ∙ sym (judged_behind (entering_tests c.args.cred.now c.args.site.path c.args.dir.now c.args.site.at)
-    (asks (not (is_append_only c.args.dir.now)) IsNotAppendOnly c.args.site.path c.args.site.at ∷ []) (sym c.in_ok-may_enter.ensures))
+    (asks (not (is_append_only c.args.dir.now)) IsNotAppendOnly c.args.site.path c.args.site.at ∷ [])
+    (sym c.in_ok-may_enter.ensures))

@@ -22,8 +22,10 @@ returns-then-not-is_name-clause-one_list c = λ es h. entries_of-block _ _ h
 pub returns-clause-test : goal.returns-clause-test
 returns-clause-test c =
     let kept = c.loop-name.invariant in
-    let none = c.in_default.ensures in
-    (λ t. kept.whole (lists_end _ none (c.are_zeros.ensures.0 t)), λ h. c.are_zeros.ensures.1 (zeros_at_end _ none (kept.behind h)))
+    let none = c.in_default.ensures in (
+      λ t. kept.whole (lists_end _ none (c.are_zeros.ensures.0 t)),
+      λ h. c.are_zeros.ensures.1 (zeros_at_end _ none (kept.behind h)),
+    )
 
 pub returns-clause-one_list : goal.returns-clause-one_list
 returns-clause-one_list c = λ es h. entries_of-block _ _ h

@@ -15,13 +15,16 @@ loop-number-init c =
       is_finite = tt;
       directory = zero_block_listed;
       at_end = sym (ap used_of (entries_of-zeros 512));
-      kept = ap (λ xs. xs ++ without unwanted c.into_iter-number-iterator.result) (entries_of-zeros 512) ∙ ap (without unwanted) same;
+      kept = ap (λ xs. xs ++ without unwanted c.into_iter-number-iterator.result) (entries_of-zeros 512)
+          ∙ ap (without unwanted) same;
     }
 
 -- the next entry of another name may be written behind those that are written
-next_follows : (c : goal.After-shorter-1) → MayFollow (entries_of c.loop-number.shorter) (c.in-Some.number, c.in-Some.name.now)
+next_follows : (c : goal.After-shorter-1)
+    → MayFollow (entries_of c.loop-number.shorter) (c.in-Some.number, c.in-Some.name.now)
 next_follows c =
-    let kept = keeps_next _ _ _ _ _ _ c.loop-number.invariant.kept c.in-Some.ensures.steps (not-true _ (sym c.if-ne.ensures)) in
+    let kept = keeps_next _ _ _ _ _ _ c.loop-number.invariant.kept c.in-Some.ensures.steps
+    (not-true _ (sym c.if-ne.ensures)) in
     may_follow _ _ _ _ _ _ c.requires kept
 
 pub push_entry-end-requires-clause-room : goal.push_entry-end-requires-clause-room
@@ -37,13 +40,20 @@ pub loop-number-preserved-then-ne : goal.loop-number-preserved-then-ne
 loop-number-preserved-then-ne c =
     let now = c.push_entry-end.new.block in
     let listed = c.push_entry-end.ensures.listed in
-    let kept = keeps_next _ _ _ _ _ _ c.loop-number.invariant.kept c.in-Some.ensures.steps (not-true _ (sym c.if-ne.ensures)) in
+    let kept = keeps_next _ _ _ _ _ _ c.loop-number.invariant.kept c.in-Some.ensures.steps
+    (not-true _ (sym c.if-ne.ensures)) in
     let P : List Entry → Type 0 = λ es. IsDirectoryBlock now es in
     record {
       can_next = tt;
       is_finite = tt;
       directory = subst P (sym listed) c.push_entry-end.ensures.block;
-      at_end = omega (arith, ap used_of listed, used_of-append (entries_of c.loop-number.shorter) ((c.in-Some.number, c.in-Some.name.now) ∷ []), c.push_entry-end.ensures.end, c.loop-number.invariant.at_end);
+      at_end = omega (
+        arith,
+        ap used_of listed,
+        used_of-append (entries_of c.loop-number.shorter) ((c.in-Some.number, c.in-Some.name.now) ∷ []),
+        c.push_entry-end.ensures.end,
+        c.loop-number.invariant.at_end,
+      );
       kept = written_next _ _ _ _ _ listed kept;
     }
 

@@ -15,36 +15,48 @@ loop-old-init c =
       is_finite = tt;
       directory = zero_block_listed;
       at_end = sym (ap used_of (entries_of-zeros 512));
-      kept = ap (λ xs. xs ++ renumbered wanted c.args.number c.into_iter-old-iterator.result) (entries_of-zeros 512) ∙ ap (renumbered wanted c.args.number) same;
+      kept = ap (λ xs. xs ++ renumbered wanted c.args.number c.into_iter-old-iterator.result) (entries_of-zeros 512)
+          ∙ ap (renumbered wanted c.args.number) same;
     }
 
 pub push_entry-end-requires-clause-room : goal.push_entry-end-requires-clause-room
 push_entry-end-requires-clause-room c =
-    let kept = given_next _ _ _ _ _ _ _ _ _ c.loop-old.invariant.kept c.in-Some.ensures.steps c.number_for-given.ensures in
-    let follows = may_be_next _ _ _ _ _ _ _ c.requires.above (omega (arith, c.ranges.number.fits)) c.requires.directory kept in
+    let kept = given_next _ _ _ _ _ _ _ _ _ c.loop-old.invariant.kept c.in-Some.ensures.steps c.number_for-given.ensures
+    in
+    let follows = may_be_next _ _ _ _ _ _ _ c.requires.above
+    (omega (arith, c.ranges.number.fits)) c.requires.directory kept in
     omega (arith, follows.room, c.loop-old.invariant.at_end)
 
 pub push_entry-end-requires-clause-entry : goal.push_entry-end-requires-clause-entry
 push_entry-end-requires-clause-entry c =
-    let kept = given_next _ _ _ _ _ _ _ _ _ c.loop-old.invariant.kept c.in-Some.ensures.steps c.number_for-given.ensures in
+    let kept = given_next _ _ _ _ _ _ _ _ _ c.loop-old.invariant.kept c.in-Some.ensures.steps c.number_for-given.ensures
+    in
     (may_be_next _ _ _ _ _ _ _ c.requires.above (omega (arith, c.ranges.number.fits)) c.requires.directory kept).entry
 
 pub push_entry-end-requires-clause-new_name : goal.push_entry-end-requires-clause-new_name
 push_entry-end-requires-clause-new_name c =
-    let kept = given_next _ _ _ _ _ _ _ _ _ c.loop-old.invariant.kept c.in-Some.ensures.steps c.number_for-given.ensures in
+    let kept = given_next _ _ _ _ _ _ _ _ _ c.loop-old.invariant.kept c.in-Some.ensures.steps c.number_for-given.ensures
+    in
     (may_be_next _ _ _ _ _ _ _ c.requires.above (omega (arith, c.ranges.number.fits)) c.requires.directory kept).absent
 
 pub loop-old-preserved : goal.loop-old-preserved
 loop-old-preserved c =
     let now = c.push_entry-end.new.block in
     let listed = c.push_entry-end.ensures.listed in
-    let kept = given_next _ _ _ _ _ _ _ _ _ c.loop-old.invariant.kept c.in-Some.ensures.steps c.number_for-given.ensures in
+    let kept = given_next _ _ _ _ _ _ _ _ _ c.loop-old.invariant.kept c.in-Some.ensures.steps c.number_for-given.ensures
+    in
     let P : List Entry → Type 0 = λ es. IsDirectoryBlock now es in
     record {
       can_next = tt;
       is_finite = tt;
       directory = subst P (sym listed) c.push_entry-end.ensures.block;
-      at_end = omega (arith, ap used_of listed, used_of-append (entries_of c.loop-old.other) ((c.number_for-given.result, c.in-Some.name.now) ∷ []), c.push_entry-end.ensures.end, c.loop-old.invariant.at_end);
+      at_end = omega (
+        arith,
+        ap used_of listed,
+        used_of-append (entries_of c.loop-old.other) ((c.number_for-given.result, c.in-Some.name.now) ∷ []),
+        c.push_entry-end.ensures.end,
+        c.loop-old.invariant.at_end,
+      );
       kept = written_next _ _ _ _ _ listed kept;
     }
 

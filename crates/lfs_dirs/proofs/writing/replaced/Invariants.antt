@@ -9,5 +9,6 @@ invariant-loop-old l = record {
   is_finite : (goal.iterator-loop-old).is_finite l.old-iterator;
   directory : IsDirectoryBlock l.other (entries_of l.other);
   at_end : l.end ≡ used_of (entries_of l.other);
-  kept : entries_of l.other ++ renumbered l.wanted l.number l.old-iterator ≡ renumbered l.wanted l.number (entries_of l.block);
+  kept : entries_of l.other ++ renumbered l.wanted l.number l.old-iterator
+      ≡ renumbered l.wanted l.number (entries_of l.block);
 }

@@ -19,11 +19,14 @@ returns-clause-checks g c w v at =
     ∙ c.asked_count-count.ensures
     ∙ ap asked c.deref.ensures.value
     ∙ c.in_ok-push_table.ensures
-    ∙ ap (λ (l : List Check). asked (l ++ table_by c.args.level c.args.cred.now c.args.request.now (known_path c.in_ok-first.first) (known_path c.in_ok-second.second))) c.new-checks.ensures.items
+    ∙ ap (λ (l : List Check). asked (l ++ table_by c.args.level c.args.cred.now c.args.request.now
+    (known_path c.in_ok-first.first) (known_path c.in_ok-second.second))) c.new-checks.ensures.items
     ∙ told w v.tree c.args.level at c.args.cred.now c.in_ok-first.first c.in_ok-second.second c.args.request.now
     (subst (λ ns. IsTrail w.rows ns c.in_ok-first.first) c.first_of.ensures.names (c.in_ok-first.ensures.trail w v))
-    (subst (λ ns. IsTrail w.rows ns c.in_ok-second.second) c.second_of.ensures.names (c.in_ok-second.ensures.trail w (still c.trail.ensures.state v)))
+    (subst (λ ns. IsTrail w.rows ns c.in_ok-second.second) c.second_of.ensures.names
+    (c.in_ok-second.ensures.trail w (still c.trail.ensures.state v)))
 
 pub returns-clause-verdict : goal.returns-clause-verdict
 returns-clause-verdict g c w v at =
-    ap first_failing (returns-clause-checks g c w v at) ∙ failing_asked (rule_table w c.args.cred.now c.args.request.now)
+    ap first_failing (returns-clause-checks g c w v at)
+    ∙ failing_asked (rule_table w c.args.cred.now c.args.request.now)

@@ -19,7 +19,8 @@ loop-name-preserved g c = record {
       let here = still c.loop-name.invariant.state v in
       let rest = drop (c.loop-name.name-index + 1) c.args.names.now in
       c.loop-name.invariant.rows_along w v
-      ∙ ap (λ ns. c.loop-name.rows.items ++ rows_along w.rows c.loop-name.at ns) (left_from c.args.names.now c.loop-name.name-index c.name-item.result c.loop-name-test.true c.name-item.is)
+      ∙ ap (λ ns. c.loop-name.rows.items ++ rows_along w.rows c.loop-name.at ns)
+      (left_from c.args.names.now c.loop-name.name-index c.name-item.result c.loop-name-test.true c.name-item.is)
       ∙ ap (λ (l : List ShownRow). c.loop-name.rows.items ++ l)
       (trail_on w.rows c.loop-name.at c.name-item.result rest c.in-Some.next (c.in-Some.ensures.child w here)
       ∙ ap (λ (s : ShownRow). s ∷ rows_along w.rows c.in-Some.next rest) (sym (c.look.ensures w here)))
@@ -28,6 +29,8 @@ loop-name-preserved g c = record {
   used =
       let t = c.requires.world in
       let here = still c.loop-name.invariant.state t.1 in
-      child-stored (g.F.FileStore.state c.child_of.new.tree).content t.0 (still c.child_of.ensures.state here).shows c.loop-name.at c.name-item.result c.in-Some.next (c.in-Some.ensures.child t.0 here);
+      child-stored (g.F.FileStore.state c.child_of.new.tree).content t.0
+      (still c.child_of.ensures.state here).shows c.loop-name.at c.name-item.result c.in-Some.next
+      (c.in-Some.ensures.child t.0 here);
   state = c.child_of.ensures.state ∙ c.loop-name.invariant.state;
 }

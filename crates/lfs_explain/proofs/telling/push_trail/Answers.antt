@@ -10,17 +10,22 @@ loop-at-preserved c =
     let count = c.min-steps.ensures in
     let before = c.loop-at-test.true in
     let long : c.loop-at.at < min (length c.args.rows.now) c.args.count = omega (arith, count, before) in
-    told_more c.args.cred.now c.args.path c.args.checks.now.items (trail_tests c.args.cred.now c.args.path 0 c.args.count c.args.rows.now)
-    c.loop-at.checks.items c.step.result c.push.new.checks.items c.args.rows.now c.loop-at.at c.args.count c.index-rows-at.result
+    told_more c.args.cred.now c.args.path c.args.checks.now.items
+    (trail_tests c.args.cred.now c.args.path 0 c.args.count c.args.rows.now)
+    c.loop-at.checks.items c.step.result c.push.new.checks.items c.args.rows.now c.loop-at.at c.args.count
+    c.index-rows-at.result
     long c.index-rows-at.is c.loop-at.invariant c.in_ok-push.ensures
     (c.step.ensures
-    ∙ ap (λ (s : ShownRow). step_tests c.args.cred.now c.args.path c.loop-at.at s.attrs c.is_some-there.result) (sym c.index-rows-at.is)
-    ∙ ap (λ b. step_tests c.args.cred.now c.args.path c.loop-at.at c.index-rows-at.result.attrs b) (c.is_some-there.ensures ∙ ap is_some c.row_of.ensures))
+    ∙ ap (λ (s : ShownRow). step_tests c.args.cred.now c.args.path c.loop-at.at s.attrs c.is_some-there.result)
+    (sym c.index-rows-at.is)
+    ∙ ap (λ b. step_tests c.args.cred.now c.args.path c.loop-at.at c.index-rows-at.result.attrs b)
+    (c.is_some-there.ensures ∙ ap is_some c.row_of.ensures))
 
 pub returns : goal.returns
 returns c =
     let count = c.min-steps.ensures in
     let behind = c.loop-at-test.false in
     let over : min (length c.args.rows.now) c.args.count ≤ c.loop-at.at = omega (arith, count, behind) in
-    told_all c.args.cred.now c.args.path c.args.checks.now.items (trail_tests c.args.cred.now c.args.path 0 c.args.count c.args.rows.now)
+    told_all c.args.cred.now c.args.path c.args.checks.now.items
+    (trail_tests c.args.cred.now c.args.path 0 c.args.count c.args.rows.now)
     c.loop-at.checks.items c.args.rows.now c.loop-at.at c.args.count over c.loop-at.invariant

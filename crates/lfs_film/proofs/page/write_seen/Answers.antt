@@ -8,6 +8,8 @@ use Rattle.lfs_film.proofs.page.write_seen.Goals as goal
 pub returns : goal.returns
 returns g c =
     on_ok_weaker c.write_text-3.result
-    (parts_written (g.W.Write.contents c.args.writer.now) (g.W.Write.contents c.write_text.new.writer) (g.W.Write.contents c.write_text-2.new.writer)
-    (g.W.Write.contents c.write_text-3.new.writer) HEAD.now STYLE.now STYLE.now BODY.now c.in_ok-write_text.ensures refl c.in_ok-write_text-2.ensures)
+    (parts_written (g.W.Write.contents c.args.writer.now) (g.W.Write.contents c.write_text.new.writer)
+    (g.W.Write.contents c.write_text-2.new.writer)
+    (g.W.Write.contents c.write_text-3.new.writer) HEAD.now STYLE.now STYLE.now BODY.now c.in_ok-write_text.ensures refl
+    c.in_ok-write_text-2.ensures)
     c.write_text-3.ensures

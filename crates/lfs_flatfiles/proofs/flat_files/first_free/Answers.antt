@@ -6,7 +6,8 @@ use Rattle.lfs_flatfiles.proofs.flat_files.first_free.Goals as goal
 
 pub loop-ino-preserved : goal.loop-ino-preserved
 loop-ino-preserved c =
-    let here = file_in_read c.args.places.now c.loop-ino.ino c.index-places-ino.result c.loop-ino-test.true c.index-places-ino.is in
+    let here = file_in_read c.args.places.now c.loop-ino.ino c.index-places-ino.result c.loop-ino-test.true
+    c.index-places-ino.is in
     record {
       from_start = omega arith;
       within = omega arith;
@@ -18,4 +19,5 @@ loop-ino-preserved c =
 
 pub returns-else-is_used-clause-free : goal.returns-else-is_used-clause-free
 returns-else-is_used-clause-free c = λ h.
-    ap is_some (file_in_read c.args.places.now c.loop-ino.ino c.index-places-ino.result c.loop-ino-test.true c.index-places-ino.is) ∙ sym c.is_used.ensures ∙ c.if-is_used.false
+    ap is_some (file_in_read c.args.places.now c.loop-ino.ino c.index-places-ino.result c.loop-ino-test.true
+    c.index-places-ino.is) ∙ sym c.is_used.ensures ∙ c.if-is_used.false

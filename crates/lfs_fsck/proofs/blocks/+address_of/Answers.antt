@@ -17,8 +17,10 @@ returns-in_default t c =
 pub returns-in-Record : goal.returns-in-Record
 returns-in-Record t c =
     let tree = tree_of (settled c.args.log.now) c.args.inode.now.number in
-    let way : way_to c.args.block ≡ c.in-Some.field-0.index ∷ [] = c.in-Some.ensures.way ∙ ap (λ b. c.in-Some.field-0.index ∷ way_to b) c.in-Record.is in
-    c.root_address.ensures ∙ sym (ap (address tree) way ∙ root_at c.args.log.now c.args.inode.now c.in-Some.field-0.index c.requires.own)
+    let way : way_to c.args.block ≡ c.in-Some.field-0.index ∷ [] = c.in-Some.ensures.way
+    ∙ ap (λ b. c.in-Some.field-0.index ∷ way_to b) c.in-Record.is in
+    c.root_address.ensures ∙ sym (ap (address tree) way
+    ∙ root_at c.args.log.now c.args.inode.now c.in-Some.field-0.index c.requires.own)
 
 pub returns-in-Single : goal.returns-in-Single
 returns-in-Single t c =
@@ -26,6 +28,8 @@ returns-in-Single t c =
     let tree = tree_of (settled c.args.log.now) number in
     let some = way_to-some c.in-Some.field-0.table (code-other c.in-Some.field-0.table c.in-Single.is) in
     c.entry.ensures.read
-    ∙ held_cell tree c.in-Some.field-0.index (way_to c.in-Some.field-0.table) c.bytes_at.result.now c.address_of-address.result some c.address_of-address.ensures
+    ∙ held_cell tree c.in-Some.field-0.index
+    (way_to c.in-Some.field-0.table) c.bytes_at.result.now c.address_of-address.result some
+    c.address_of-address.ensures
     (c.bytes_at.ensures number (way_to c.in-Some.field-0.table))
     ∙ ap (address tree) (sym c.in-Some.ensures.way)

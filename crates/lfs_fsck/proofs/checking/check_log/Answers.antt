@@ -9,5 +9,6 @@ use Rattle.lfs_fsck.proofs.checking.check_log.Goals as goal
 
 pub returns-clause-no_store : goal.returns-clause-no_store
 returns-clause-no_store c =
-    IfErr-weaker c.check_parts.result (IsLogFaultOf c.args.log.now) (λ fault. (fault ≡ Memory → ⊥) → (frames : ℕ) → IsStore (stored frames c.args.log.now) → ⊥)
+    IfErr-weaker c.check_parts.result (IsLogFaultOf c.args.log.now) (λ fault. (fault ≡ Memory → ⊥) → (frames : ℕ)
+    → IsStore (stored frames c.args.log.now) → ⊥)
     (not_stored c.args.log.now) c.check_parts.ensures.fault

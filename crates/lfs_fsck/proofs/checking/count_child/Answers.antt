@@ -6,7 +6,8 @@ pub address_of-requires-clause-inside : goal.address_of-requires-clause-inside
 address_of-requires-clause-inside c =
     let least = c.requires.parts.laid_out.at_least in
     let child = c.requires.child in
-    lie_below c.args.log.now c.args.inode.now.number (3 + c.args.child) (λ code low. c.requires.so_far.here code (omega arith)) (omega arith)
+    lie_below c.args.log.now c.args.inode.now.number (3 + c.args.child)
+    (λ code low. c.requires.so_far.here code (omega arith)) (omega arith)
 
 pub returns-then-address_of-eq0-clause-ok : goal.returns-then-address_of-eq0-clause-ok
 returns-then-address_of-eq0-clause-ok c =

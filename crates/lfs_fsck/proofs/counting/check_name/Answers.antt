@@ -12,7 +12,8 @@ returns-then-is_name_of-clause-ok c =
     let v = c.args.inode.now in
     let name = name_in c.args.names.now c.args.address in
     let is : name ≡ entry_at m c.args.address = c.requires.names.each c.args.address c.requires.inside in
-    let named = name_block m c.args.address v.number v.version c.args.code name is c.requires.other (c.is_name_of.ensures.0 c.if-is_name_of.true) in
+    let named = name_block m c.args.address v.number v.version c.args.code name is c.requires.other
+    (c.is_name_of.ensures.0 c.if-is_name_of.true) in
     ap (named_at m) c.requires.here ∙ named
     ∙ ap (λ k. Some (owner v.number k c.args.code)) c.requires.own.at_version
 
@@ -25,6 +26,8 @@ returns-else-is_name_of-clause-fault c =
       c.requires.key,
       λ owned.
           let named : named_at m (4 * c.args.address) ≡ Some (owner v.number v.version c.args.code)
-          = ap (named_at m) (sym c.requires.here) ∙ owned ∙ ap (λ k. Some (owner v.number k c.args.code)) (sym c.requires.own.at_version) in
-          false≢true (sym c.if-is_name_of.false ∙ c.is_name_of.ensures.1 (named_block m c.args.address v.number v.version c.args.code name is c.requires.other named)),
+          = ap (named_at m) (sym c.requires.here) ∙ owned
+          ∙ ap (λ k. Some (owner v.number k c.args.code)) (sym c.requires.own.at_version) in
+          false≢true (sym c.if-is_name_of.false ∙ c.is_name_of.ensures.1
+          (named_block m c.args.address v.number v.version c.args.code name is c.requires.other named)),
     )

@@ -7,7 +7,8 @@ use Rattle.lfs_fsck.proofs.ending.goes_on.Goals as goal
 pub loop-address-init : goal.loop-address-init
 loop-address-init c =
     let m = c.args.log.now.memory in
-    let start : c.log_start.result ≡ log_start m.active = c.log_start.ensures ∙ ap log_start c.active-active.ensures.active in
+    let start : c.log_start.result ≡ log_start m.active = c.log_start.ensures
+    ∙ ap log_start c.active-active.ensures.active in
     let active = c.active-active.ensures.active in
     let first : c.active-active.result * 64 + c.log_start.result ≡ first_of m.active = omega arith in
     record {
@@ -21,5 +22,6 @@ loop-address-preserved c =
     let l = c.loop-address in
     record {
       from = let low = l.invariant.from in omega arith;
-      read = read_on m m.active l.address l.reader c.pass.new.self c.block.result.now l.invariant.from l.invariant.read c.block.ensures.block c.pass.ensures.next;
+      read = read_on m m.active l.address l.reader c.pass.new.self c.block.result.now l.invariant.from l.invariant.read
+          c.block.ensures.block c.pass.ensures.next;
     }

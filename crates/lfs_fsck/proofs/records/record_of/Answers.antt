@@ -10,17 +10,20 @@ use Rattle.lfs_fsck.proofs.SettledLemmas.{settled_record, used_row}
 use Rattle.lfs_fsck.proofs.records.record_of.Goals as goal
 
 pub block-requires : goal.block-requires
-block-requires c = (slot_low c.args.log.now c.args.number c.args.place c.requires.parts c.requires.below c.requires.here).1
+block-requires c = (slot_low c.args.log.now c.args.number c.args.place c.requires.parts c.requires.below
+    c.requires.here).1
 
 pub inode_in-requires : goal.inode_in-requires
-inode_in-requires c = (slot_low c.args.log.now c.args.number c.args.place c.requires.parts c.requires.below c.requires.here).0
+inode_in-requires c = (slot_low c.args.log.now c.args.number c.args.place c.requires.parts c.requires.below
+    c.requires.here).0
 
 pub returns-in_default-clause-fault : goal.returns-in_default-clause-fault
 returns-in_default-clause-fault c =
     let l = c.args.log.now in
     let row = used_row (row_of l.tables c.args.number) c.args.place c.requires.here in (
       row.0,
-      settled_record l c.args.number c.args.place c.requires.here ∙ ap (λ b. fields_in (slot_of b c.args.place.slot)) (sym c.block.ensures.block)
+      settled_record l c.args.number c.args.place c.requires.here
+          ∙ ap (λ b. fields_in (slot_of b c.args.place.slot)) (sym c.block.ensures.block)
           ∙ sym c.in_default.ensures.reading,
     )
 
@@ -30,7 +33,8 @@ returns-else-is_of-clause-fault c =
     let row = used_row (row_of l.tables c.args.number) c.args.place c.requires.here in
     record {
       fields = fields_of c.in-Some.inode;
-      is = settled_record l c.args.number c.args.place c.requires.here ∙ ap (λ b. fields_in (slot_of b c.args.place.slot)) (sym c.block.ensures.block)
+      is = settled_record l c.args.number c.args.place c.requires.here
+          ∙ ap (λ b. fields_in (slot_of b c.args.place.slot)) (sym c.block.ensures.block)
           ∙ sym c.in-Some.ensures.reading;
       other = λ n v. false≢true (sym c.if-is_of.false ∙ c.is_of.ensures.1 (n, v ∙ sym row.3));
     }
@@ -45,6 +49,7 @@ returns-then-is_of-clause-record c =
       in_use = subst (λ n. (row_of l.tables n).used ≡ true) (sym own.0) row.0;
       at_version = own.1 ∙ row.3 ∙ ap (version_of (settled l)) (sym own.0);
       is = ap (record_of (settled l)) own.0 ∙ settled_record l c.args.number c.args.place c.requires.here
-          ∙ ap (λ b. fields_in (slot_of b c.args.place.slot)) (sym c.block.ensures.block) ∙ sym c.in-Some.ensures.reading;
+          ∙ ap (λ b. fields_in (slot_of b c.args.place.slot)) (sym c.block.ensures.block)
+          ∙ sym c.in-Some.ensures.reading;
       formed = c.in-Some.ensures.bounds (fields_of c.in-Some.inode) (sym c.in-Some.ensures.reading);
     }

@@ -8,5 +8,6 @@ use Rattle.lfs_ifile.proofs.loading.read_states.Given as goal
 abbrev pub invariant-loop-segment : goal.invariant-loop-segment
 invariant-loop-segment l = record {
   long : length l.states.items ≡ l.segments;
-  read : (s : ℕ) → s < l.segment → state_number (slice_index_or l.states.items s Clean) ≡ number_at l.bytes (16 + 8 * s);
+  read : (s : ℕ) → s < l.segment → state_number (slice_index_or l.states.items s Clean)
+      ≡ number_at l.bytes (16 + 8 * s);
 }

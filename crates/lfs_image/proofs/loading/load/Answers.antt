@@ -12,5 +12,6 @@ use Rattle.lfs_image.proofs.loading.load.Goals as goal
 pub returns-clause-none : goal.returns-clause-none
 returns-clause-none c =
     IfErr-weaker c.load_parts.result (IsImageFaultOf c.args.bytes.now)
-    (λ fault. (fault ≡ Memory → ⊥) → (l : LogParts) (level : Level) → IsStored l → IsLabelled l → image_bytes l level ≡ c.args.bytes.now → ⊥)
+    (λ fault. (fault ≡ Memory → ⊥) → (l : LogParts) (level : Level) → IsStored l → IsLabelled l → image_bytes l level
+    ≡ c.args.bytes.now → ⊥)
     (no_image c.args.bytes.now) c.load_parts.ensures.fault

@@ -7,7 +7,9 @@ pub loop-k-preserved : goal.loop-k-preserved
 loop-k-preserved c = record {
   many = search rules;
   each = rw c.in_ok-push.ensures.items
-      (All-push (λ block. length block ≡ 512) c.loop-k.blocks.items c.block_from.result c.loop-k.invariant.each c.block_from.ensures.long);
+      (All-push (λ block. length block ≡ 512) c.loop-k.blocks.items c.block_from.result c.loop-k.invariant.each
+      c.block_from.ensures.long);
   read = rw c.in_ok-push.ensures.items
-      (block_more c.loop-k.blocks.items c.args.bytes.now c.block_from.result c.loop-k.k c.block_from.ensures.block c.loop-k.invariant.read);
+      (block_more c.loop-k.blocks.items c.args.bytes.now c.block_from.result c.loop-k.k c.block_from.ensures.block
+      c.loop-k.invariant.read);
 }

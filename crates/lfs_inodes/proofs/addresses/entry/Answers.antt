@@ -8,4 +8,5 @@ pub returns-clause-read : goal.returns-clause-read
 returns-clause-read c = c.u32_at.ensures ∙ sym (slice_index-cells c.args.block.now 128 c.args.i c.requires)
 
 pub returns-clause-none : goal.returns-clause-none
-returns-clause-none c = λ zeros. returns-clause-read c ∙ ap (λ block. slice_index (cells block) c.args.i) zeros ∙ slice_index-cells_zero_block c.args.i
+returns-clause-none c = λ zeros. returns-clause-read c ∙ ap (λ block. slice_index (cells block) c.args.i) zeros
+    ∙ slice_index-cells_zero_block c.args.i

@@ -32,5 +32,6 @@ returns-else-n-lt-SINGLE_END-clause-only_single c = λ block whole bytes same.
 
 pub returns-else-n-lt-SINGLE_END-clause-reads : goal.returns-else-n-lt-SINGLE_END-clause-reads
 returns-else-n-lt-SINGLE_END-clause-reads c = λ m lt shared.
-    address_of-child c.args.inode.now c.args.single.now c.args.child.now c.with_entry-else-n-lt-SINGLE_END.result c.args.n c.args.address m
+    address_of-child c.args.inode.now c.args.single.now c.args.child.now c.with_entry-else-n-lt-SINGLE_END.result
+    c.args.n c.args.address m
     c.if-n-lt-SINGLE_END.false shared c.with_entry-else-n-lt-SINGLE_END.ensures.cells

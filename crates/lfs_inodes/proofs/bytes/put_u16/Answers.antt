@@ -3,5 +3,6 @@ use Rattle.lfs_inodes.proofs.Numbers.{Puts-from_write}
 use Rattle.lfs_inodes.proofs.bytes.put_u16.Goals as goal
 
 pub returns : goal.returns
-returns c = Puts-from_write c.args.bytes.now c.write_u16.new.buf c.args.at 2 c.args.number (omega arith) (omega arith) c.write_u16.ensures
+returns c = Puts-from_write c.args.bytes.now c.write_u16.new.buf c.args.at 2 c.args.number (omega arith)
+    (omega arith) c.write_u16.ensures
     (λ k. omega (arith, c.type_inv.bytes k))

@@ -3,5 +3,6 @@ use Rattle.lfs_inodes.proofs.Numbers.{Puts-from_write}
 use Rattle.lfs_inodes.proofs.bytes.put_u64.Goals as goal
 
 pub returns : goal.returns
-returns c = Puts-from_write c.args.bytes.now c.write_u64.new.buf c.args.at 8 c.args.number (omega arith) (omega arith) c.write_u64.ensures
+returns c = Puts-from_write c.args.bytes.now c.write_u64.new.buf c.args.at 8 c.args.number (omega arith)
+    (omega arith) c.write_u64.ensures
     (λ k. omega (arith, c.type_inv.bytes k))

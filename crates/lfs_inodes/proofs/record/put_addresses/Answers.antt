@@ -9,7 +9,8 @@ loop-n-preserved c =
     let put = c.put_u32.ensures in
     record {
       same_length = put.same_length ∙ old.same_length;
-      written = below_more _ _ (λ k lt. number_at-before _ _ (36 + 4 * c.loop-n.n) 4 _ (36 + 4 * k) 4 put (omega arith) ∙ old.written k lt) put.written;
+      written = below_more _ _ (λ k lt. number_at-before _ _ (36 + 4 * c.loop-n.n) 4 _ (36 + 4 * k) 4 put (omega arith)
+          ∙ old.written k lt) put.written;
       before = λ k low high. put.below k (omega arith) (omega arith) ∙ old.before k low high;
       after = λ k low high. put.above k (omega arith) (omega arith) ∙ old.after k low high;
     }

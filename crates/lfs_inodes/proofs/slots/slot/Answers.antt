@@ -15,4 +15,5 @@ pub returns-clause-unused : goal.returns-clause-unused
 returns-clause-unused c = λ zeros. returns-clause-bytes c ∙ slot_of-zeros c.args.block.now c.args.index c.requires zeros
 
 pub returns-clause-none : goal.returns-clause-none
-returns-clause-none c = λ zeros. ap fields_in (returns-clause-bytes c) ∙ fields_in-unused c.args.block.now c.args.index c.requires zeros
+returns-clause-none c = λ zeros. ap fields_in (returns-clause-bytes c)
+    ∙ fields_in-unused c.args.block.now c.args.index c.requires zeros

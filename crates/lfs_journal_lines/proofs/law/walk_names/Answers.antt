@@ -7,7 +7,8 @@ use Rattle.lfs_journal_lines.proofs.law.walk_names.Goals as goal
 
 pub loop-name-preserved : goal.loop-name-preserved
 loop-name-preserved c =
-    All-more IsName c.args.names.now c.loop-name.name-index c.name-item.result c.loop-name-test.true c.loop-name.invariant
+    All-more IsName c.args.names.now c.loop-name.name-index c.name-item.result c.loop-name-test.true
+    c.loop-name.invariant
     (subst IsName c.name-item.is c.walk_name.ensures)
 
 pub returns : goal.returns

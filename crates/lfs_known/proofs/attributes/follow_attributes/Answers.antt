@@ -7,9 +7,12 @@ use Rattle.lfs_known.proofs.attributes.follow_attributes.Goals as goal
 
 pub loop-change-preserved : goal.loop-change-preserved
 loop-change-preserved c t was =
-    let next = applied_next c.args.changes.now c.loop-change.change-index c.change-item.result t c.loop-change-test.true c.change-item.is in
+    let next = applied_next c.args.changes.now c.loop-change.change-index c.change-item.result t c.loop-change-test.true
+    c.change-item.is in
     subst (AreShown c.follow_one.new.cache) (sym next) (c.follow_one.ensures _ (c.loop-change.invariant t was))
 
 pub returns : goal.returns
 returns c t was =
-    subst (λ xs. AreShown c.loop-change.cache (applied xs t)) (take_all c.loop-change.change-index c.args.changes.now c.loop-change-test.false) (c.loop-change.invariant t was)
+    subst (λ xs. AreShown c.loop-change.cache (applied xs t))
+    (take_all c.loop-change.change-index c.args.changes.now c.loop-change-test.false)
+    (c.loop-change.invariant t was)

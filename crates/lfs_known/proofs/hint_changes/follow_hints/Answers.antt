@@ -7,9 +7,12 @@ use Rattle.lfs_known.proofs.hint_changes.follow_hints.Goals as goal
 
 pub loop-change-preserved : goal.loop-change-preserved
 loop-change-preserved c t was =
-    let next = applied_next c.args.changes.now c.loop-change.change-index c.change-item.result t c.loop-change-test.true c.change-item.is in
+    let next = applied_next c.args.changes.now c.loop-change.change-index c.change-item.result t c.loop-change-test.true
+    c.change-item.is in
     subst (AreFull c.follow_one.new.hints) (sym next) (c.follow_one.ensures _ (c.loop-change.invariant t was))
 
 pub returns : goal.returns
 returns c t was =
-    subst (λ xs. AreFull c.loop-change.hints (applied xs t)) (take_all c.loop-change.change-index c.args.changes.now c.loop-change-test.false) (c.loop-change.invariant t was)
+    subst (λ xs. AreFull c.loop-change.hints (applied xs t))
+    (take_all c.loop-change.change-index c.args.changes.now c.loop-change-test.false)
+    (c.loop-change.invariant t was)

@@ -1,4 +1,5 @@
-use Rattle.lfs_laws.proofs.BetweenLemmas.{bytes_between, flags_between, gone_between, level_between, made_between, mode_between, owner_between, place_between, set_id_between}
+use Rattle.lfs_laws.proofs.BetweenLemmas.{bytes_between, flags_between, gone_between, level_between, made_between}
+use Rattle.lfs_laws.proofs.BetweenLemmas.{mode_between, owner_between, place_between, set_id_between}
 use Rattle.lfs_laws.proofs.laws.changed_between.Goals as goal
 
 pub returns : goal.returns

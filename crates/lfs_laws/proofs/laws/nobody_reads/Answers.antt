@@ -4,6 +4,7 @@ use Rattle.lfs_laws.proofs.laws.nobody_reads.Goals as goal
 
 pub returns : goal.returns
 returns c = record {
-  call = λ numbers caller w v request answer tree differ is. answers_alike caller w v tree differ numbers request answer is;
+  call = λ numbers caller w v request answer tree differ is. answers_alike caller w v tree differ numbers request answer
+      is;
   run = nobody_reads_in_run;
 }

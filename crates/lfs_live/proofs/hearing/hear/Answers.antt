@@ -9,9 +9,11 @@ returns-then-line-gt-LINE_MAX c = heard_long c.args.line.now c.if-line-gt-LINE_M
 pub returns-then-is_dotted : goal.returns-then-is_dotted
 returns-then-is_dotted c =
     subst (λ (said : Heard). IfOk c.hear_dotted.result (λ heard. heard ≡ said))
-    (heard_dot c.args.line.now c.if-line-gt-LINE_MAX.false (sym c.is_dotted.ensures ∙ c.if-is_dotted.true)) c.hear_dotted.ensures
+    (heard_dot c.args.line.now c.if-line-gt-LINE_MAX.false (sym c.is_dotted.ensures ∙ c.if-is_dotted.true))
+    c.hear_dotted.ensures
 
 pub returns-else-is_dotted : goal.returns-else-is_dotted
 returns-else-is_dotted c =
     subst (λ (said : Heard). IfOk c.hear_call.result (λ heard. heard ≡ said))
-    (heard_call c.args.line.now c.if-line-gt-LINE_MAX.false (sym c.is_dotted.ensures ∙ c.if-is_dotted.false)) c.hear_call.ensures
+    (heard_call c.args.line.now c.if-line-gt-LINE_MAX.false (sym c.is_dotted.ensures ∙ c.if-is_dotted.false))
+    c.hear_call.ensures

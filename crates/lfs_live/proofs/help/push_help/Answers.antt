@@ -7,6 +7,9 @@ pub returns : goal.returns
 unfolding help_text
 returns c =
     on_ok c.push_line-8.result c.push_line-8.ensures
-    (λ last. eight_added c.args.out.now.items _ _ _ _ _ _ _ _ c.push_line.new.out.items c.push_line-2.new.out.items c.push_line-3.new.out.items c.push_line-4.new.out.items
-    c.push_line-5.new.out.items c.push_line-6.new.out.items c.push_line-7.new.out.items c.push_line-8.new.out.items c.in_ok-push_line.ensures c.in_ok-push_line-2.ensures
-    c.in_ok-push_line-3.ensures c.in_ok-push_line-4.ensures c.in_ok-push_line-5.ensures c.in_ok-push_line-6.ensures c.in_ok-push_line-7.ensures last)
+    (λ last. eight_added c.args.out.now.items _ _ _ _ _ _ _ _ c.push_line.new.out.items c.push_line-2.new.out.items
+    c.push_line-3.new.out.items c.push_line-4.new.out.items
+    c.push_line-5.new.out.items c.push_line-6.new.out.items c.push_line-7.new.out.items c.push_line-8.new.out.items
+    c.in_ok-push_line.ensures c.in_ok-push_line-2.ensures
+    c.in_ok-push_line-3.ensures c.in_ok-push_line-4.ensures c.in_ok-push_line-5.ensures c.in_ok-push_line-6.ensures
+    c.in_ok-push_line-7.ensures last)

@@ -6,6 +6,7 @@ use Rattle.lfs_live.proofs.TalkLemmas.{HasHeard}
 abbrev pub invariant-loop : goal.invariant-loop
 invariant-loop g l =
     let s = g.F.CleanedStore in
-    HasHeard (talker_of (cleaner_of g.F.FileStore.state g.F.FileStore.is_settled s.cleaner) g.F.ShowsLog.map_text g.F.ShowsLog.segment_text)
+    HasHeard (talker_of (cleaner_of g.F.FileStore.state g.F.FileStore.is_settled s.cleaner) g.F.ShowsLog.map_text
+    g.F.ShowsLog.segment_text)
     l.fn.volume l.volume l.speaker (g.R.Read.remaining l.fn.reader) (g.R.Read.remaining l.reader)
     (g.W.Write.contents l.fn.writer) (g.W.Write.contents l.writer)

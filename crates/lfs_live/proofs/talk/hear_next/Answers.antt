@@ -5,7 +5,8 @@ use Rattle.lfs_live.proofs.talk.hear_next.Goals as goal
 pub returns-then-piece-clause-next : goal.returns-then-piece-clause-next
 returns-then-piece-clause-next g c =
     if_ok _ _ c.hear_line.result c.hear_line.ensures.told
-    (λ goes_on told whole. next_told _ _ _ _ _ _ _ _ _ c.in_ok-piece.piece.is_ended c.in_ok-piece.piece.bytes.items c.as_slice.result.now
+    (λ goes_on told whole. next_told _ _ _ _ _ _ _ _ _ c.in_ok-piece.piece.is_ended c.in_ok-piece.piece.bytes.items
+    c.as_slice.result.now
     c.in_ok-piece.ensures.read c.if-piece.true c.as_slice.ensures.value (told whole))
 
 pub returns-then-piece-clause-last : goal.returns-then-piece-clause-last
@@ -20,6 +21,8 @@ returns-then-piece-clause-last g c =
 pub returns-clause-last : goal.returns-clause-last
 returns-clause-last g c = λ _. (
   refl,
-  last_told _ _ _ _ c.in_ok-piece.piece.is_ended c.in_ok-piece.piece.bytes.items c.as_slice-2.result.now c.in_ok-told.told.items c.as_slice-3.result.now
-      c.in_ok-piece.ensures.read c.if-piece.false c.as_slice-2.ensures.value c.in_ok-told.ensures c.as_slice-3.ensures.value c.in_ok-say.ensures.written,
+  last_told _ _ _ _ c.in_ok-piece.piece.is_ended c.in_ok-piece.piece.bytes.items c.as_slice-2.result.now
+      c.in_ok-told.told.items c.as_slice-3.result.now
+      c.in_ok-piece.ensures.read c.if-piece.false c.as_slice-2.ensures.value c.in_ok-told.ensures
+      c.as_slice-3.ensures.value c.in_ok-say.ensures.written,
 )

@@ -4,8 +4,10 @@ use Rattle.lfs_live.proofs.telling.tell_dot.Goals as goal
 
 pub returns-in_ok-tell_journal-in-Journal : goal.returns-in_ok-tell_journal-in-Journal
 returns-in_ok-tell_journal-in-Journal g c =
-    rw c.in-Journal.is (ap Some (sym (c.in_ok-tell_journal-in-Journal.ensures ∙ ap (journal_text c.in-Journal.count) c.journal.ensures.entries)))
+    rw c.in-Journal.is (ap Some (sym (c.in_ok-tell_journal-in-Journal.ensures
+    ∙ ap (journal_text c.in-Journal.count) c.journal.ensures.entries)))
 
 pub returns-in_ok-report_counts-in-Report : goal.returns-in_ok-report_counts-in-Report
 returns-in_ok-report_counts-in-Report g c =
-    rw c.in-Report.is (ap Some (sym (c.in_ok-report_counts-in-Report.ensures.same c.args.volume.now.journal c.counts.ensures.counted)))
+    rw c.in-Report.is (ap Some
+    (sym (c.in_ok-report_counts-in-Report.ensures.same c.args.volume.now.journal c.counts.ensures.counted)))

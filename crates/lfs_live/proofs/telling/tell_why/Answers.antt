@@ -13,6 +13,7 @@ returns-clause-text g c =
     let old = c.args.volume.now in
     if_ok_at c.tell_explanation.result (λ from. Begins (state old.since) old.since_level from) _ (λ from begins.
     subst (λ t. IfOk c.tell_explanation.result (λ text. text.items ≡ t))
-    (why_told (world_after (state old.store).shape.numbers old.journal from) c.args.cred.now c.args.request.now c.in_ok-explanation.explanation
+    (why_told (world_after (state old.store).shape.numbers old.journal from) c.args.cred.now c.args.request.now
+    c.in_ok-explanation.explanation
     (e.checks from begins) (e.first from begins) (e.second from begins))
     c.tell_explanation.ensures)

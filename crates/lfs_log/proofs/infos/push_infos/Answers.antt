@@ -12,4 +12,6 @@ pub returns-in-Data : goal.returns-in-Data
 returns-in-Data c =
     c.push.ensures
     ∙ ap (λ (i : BlockInfo). c.args.infos.now ++ i ∷ []) c.info_of.ensures
-    ∙ ap (λ (is : List BlockInfo). c.args.infos.now ++ is) (sym (block_infos-file c.args.address c.args.entry.now.number c.args.entry.now.version c.args.entry.now.block c.args.block.now (file_kind c.args.entry.now.block c.in-Data.is)))
+    ∙ ap (λ (is : List BlockInfo). c.args.infos.now ++ is)
+    (sym (block_infos-file c.args.address c.args.entry.now.number c.args.entry.now.version c.args.entry.now.block
+    c.args.block.now (file_kind c.args.entry.now.block c.in-Data.is)))

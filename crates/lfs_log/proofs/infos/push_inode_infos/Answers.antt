@@ -15,7 +15,8 @@ loop-index-preserved c =
     record {
       so_far =
           c.push_slot_info.ensures.added ∙ ap (λ (xs : List BlockInfo). xs ++ here) c.loop-index.invariant.so_far
-          ∙ append_assoc old before here ∙ ap (λ (xs : List BlockInfo). old ++ xs) (sym (slots_more c.args.address c.args.block.now k c.loop-index-test.true));
+          ∙ append_assoc old before here ∙ ap (λ (xs : List BlockInfo). old ++ xs)
+          (sym (slots_more c.args.address c.args.block.now k c.loop-index-test.true));
       few = let few = c.push_slot_info.ensures.few in let before = c.loop-index.invariant.few in omega arith;
     }
 

@@ -3,7 +3,8 @@ use Rattle.lfs_segments.specs.Log.{first_of}
 use Rattle.lfs_segments.specs.Reading.{named_by}
 use Rattle.lfs_segments.proofs.LogLemmas.{expected_at-first}
 use Rattle.lfs_segments.proofs.MemoryLemmas.{log_start-le}
-use Rattle.lfs_log.proofs.ScanLemmas.{scan_begins, scan_done, scan_ended, scan_named, scan_next, scan_room, scan_summary, scan_unnamed}
+use Rattle.lfs_log.proofs.ScanLemmas.{scan_begins, scan_done, scan_ended, scan_named, scan_next, scan_room}
+use Rattle.lfs_log.proofs.ScanLemmas.{scan_summary, scan_unnamed}
 use Rattle.lfs_log.proofs.infos.scan.Goals.{then-next-count, else-next-count+in-Some}
 use Rattle.lfs_log.proofs.infos.scan.Goals as goal
 
@@ -21,13 +22,15 @@ pub push_infos-requires : goal.push_infos-requires
 push_infos-requires c =
     let m = c.args.segments.now in let l = c.loop-address in
     let start = c.log_start.ensures in
-    scan_room m c.args.segment l.address (omega arith) c.loop-address-test.true l.infos l.entries l.next l.count c.if-next-count.true (omega arith) l.invariant.pending l.invariant.so_far
+    scan_room m c.args.segment l.address (omega arith) c.loop-address-test.true l.infos l.entries l.next l.count
+    c.if-next-count.true (omega arith) l.invariant.pending l.invariant.so_far
 
 pub returns-in_default : goal.returns-in_default
 returns-in_default c =
     let m = c.args.segments.now in let l = c.loop-address in
     let start = c.log_start.ensures in
-    scan_ended m c.args.segment l.address (omega arith) c.loop-address-test.true l.infos l.entries l.next l.count c.block-block.result.now c.if-next-count.false c.block-block.ensures.block
+    scan_ended m c.args.segment l.address (omega arith) c.loop-address-test.true l.infos l.entries l.next l.count
+    c.block-block.result.now c.if-next-count.false c.block-block.ensures.block
     l.invariant.pending l.invariant.so_far (sym c.decode.ensures.entries ∙ ap (option_map named_by) c.in_default.is)
 
 pub loop-address-preserved : goal.loop-address-preserved
@@ -41,18 +44,22 @@ loop-address-preserved c =
         at_most = omega arith;
         held = rw w.entries-is held;
         so_far = rw w.infos-is
-            (scan_named m c.args.segment l.address from c.loop-address-test.true l.infos _ l.entries l.next l.count _ w.if-next-count.true (omega arith) c.block-block.ensures.block
+            (scan_named m c.args.segment l.address from c.loop-address-test.true l.infos _ l.entries l.next l.count _
+            w.if-next-count.true (omega arith) c.block-block.ensures.block
             w.push_infos.ensures l.invariant.pending l.invariant.so_far);
         pending = rw (w.entries-is, w.next-is, w.count-is)
-            (scan_next m c.args.segment l.address from c.loop-address-test.true l.entries l.next l.count w.if-next-count.true (omega arith) l.invariant.pending);
+            (scan_next m c.args.segment l.address from c.loop-address-test.true l.entries l.next l.count
+            w.if-next-count.true (omega arith) l.invariant.pending);
       }
       | else-next-count+in-Some w ↦ record {
         at_most = let most = w.in-Some.summary.at_most in omega arith;
         held = rw w.entries-is w.in-Some.summary.whole;
         so_far = rw w.infos-is
-            (scan_unnamed m c.args.segment l.address from c.loop-address-test.true l.infos l.entries l.next l.count _ w.if-next-count.false c.block-block.ensures.block l.invariant.pending l.invariant.so_far);
+            (scan_unnamed m c.args.segment l.address from c.loop-address-test.true l.infos l.entries l.next l.count _
+            w.if-next-count.false c.block-block.ensures.block l.invariant.pending l.invariant.so_far);
         pending = rw (w.entries-is, w.next-is, w.count-is)
-            (scan_summary m c.args.segment l.address from c.loop-address-test.true l.infos l.entries l.next l.count _ w.if-next-count.false c.block-block.ensures.block l.invariant.pending l.invariant.so_far
+            (scan_summary m c.args.segment l.address from c.loop-address-test.true l.infos l.entries l.next l.count _
+            w.if-next-count.false c.block-block.ensures.block l.invariant.pending l.invariant.so_far
             w.in-Some.summary w.in-Some.ensures.found);
       }
     ]

@@ -12,7 +12,8 @@ pub overflow_add-clean : goal.overflow_add-clean
 overflow_add-clean c =
     let t = c.args.ifile.now in
     let n = c.loop-segment.segment in
-    let unit : c.clean_unit-clean.result ≡ clean_unit (state_of t n) = c.clean_unit-clean.ensures ∙ ap (λ (u : SegUse). clean_unit u.state) c.usage.ensures.value in
+    let unit : c.clean_unit-clean.result ≡ clean_unit (state_of t n) = c.clean_unit-clean.ensures
+    ∙ ap (λ (u : SegUse). clean_unit u.state) c.usage.ensures.value in
     let more = clean_count-more t n in
     let most = clean_count-most t (n + 1) in
     let few = c.usage.ensures.formed.segments_most in
@@ -23,7 +24,8 @@ pub loop-segment-preserved : goal.loop-segment-preserved
 loop-segment-preserved c =
     let t = c.args.ifile.now in
     let n = c.loop-segment.segment in
-    let unit : c.clean_unit-clean.result ≡ clean_unit (state_of t n) = c.clean_unit-clean.ensures ∙ ap (λ (u : SegUse). clean_unit u.state) c.usage.ensures.value in
+    let unit : c.clean_unit-clean.result ≡ clean_unit (state_of t n) = c.clean_unit-clean.ensures
+    ∙ ap (λ (u : SegUse). clean_unit u.state) c.usage.ensures.value in
     let more = clean_count-more t n in
     let so_far = c.loop-segment.invariant in
     omega arith

@@ -1,4 +1,5 @@
-use Rattle.std.proofs.Common.{rules, ◌≡◌, ◌∷◌, [], ◌++◌, true, false, sym, ap, subst, ◌∙◌, arith, length-append, append_assoc, append-nil}
+use Rattle.std.proofs.Common.{rules, ◌≡◌, ◌∷◌, [], ◌++◌, true, false, sym, ap, subst, ◌∙◌, arith, length-append}
+use Rattle.std.proofs.Common.{append_assoc, append-nil}
 use Rattle.std.proofs.lemmas.Grind.{common_steps}
 use Rattle.lfs_model.specs.Runs.{kept}
 use Rattle.lfs_volume.specs.CallRuns.{AreAnswers}
@@ -6,7 +7,8 @@ use Rattle.lfs_volume.specs.Journals.{Since}
 use Rattle.lfs_volume.proofs.CallLemmas.{call_made}
 use Rattle.lfs_fuse_calls.specs.Shown.{is_full, wanted_by}
 use Rattle.lfs_mount.specs.Making.{GoUpTo, calls_as}
-use Rattle.lfs_mount.proofs.MakingLemmas.{AllFull, AllFull-append, are_made, entered_more, one_more, up_to_all, up_to_one}
+use Rattle.lfs_mount.proofs.MakingLemmas.{AllFull, AllFull-append, are_made, entered_more, one_more, up_to_all}
+use Rattle.lfs_mount.proofs.MakingLemmas.{up_to_one}
 use Rattle.lfs_mount.proofs.making.make.Goals as goal
 
 pub loop-request-init : goal.loop-request-init
@@ -27,15 +29,23 @@ loop-request-preserved g c =
     let state = g.F.FileStore.state in
     let settled = g.F.FileStore.is_settled in
     let pushed : c.push_within.new.items.items ≡ answers ++ answer ∷ [] = c.push_within.ensures.pushed in
-    let stepped : c.loop-request.request-iterator.rest.items ≡ request ∷ c.next.new.self.rest.items = c.in-Some.ensures.steps.0 in
+    let stepped : c.loop-request.request-iterator.rest.items ≡ request
+    ∷ c.next.new.self.rest.items = c.in-Some.ensures.steps.0 in
     let full : is_full (wanted_by request) answer ≡ true = grind (arith, common_steps) in
     record {
-      each = subst (λ l. Since (state old.since) old.since_level (λ from. AreAnswers state settled old.limit from old.journal old.store (calls_as caller (done ++ request ∷ [])) l next.store)) (sym pushed)
-          (one_more state settled caller old before next done answers request answer i.each i.entered i.since i.since_level i.limit
-          (λ from here. call_made state settled from before next caller request answer made.full made.at_limit (made.shown from here) (λ room. made.outcome room from here) (made.entries from here) made.unserved made.looks made.unasked made.synced made.follows));
+      each = subst (λ l. Since (state old.since) old.since_level
+          (λ from. AreAnswers state settled old.limit from old.journal old.store
+          (calls_as caller (done ++ request ∷ [])) l next.store)) (sym pushed)
+          (one_more state settled caller old before next done answers request answer i.each i.entered i.since
+          i.since_level i.limit
+          (λ from here. call_made state settled from before next caller request answer made.full made.at_limit
+          (made.shown from here) (λ room. made.outcome room from here)
+          (made.entries from here) made.unserved made.looks made.unasked made.synced made.follows));
       entered = subst (λ l. next.journal ≡ old.journal ++ kept (calls_as caller (done ++ request ∷ [])) l) (sym pushed)
-          (entered_more caller old.journal before.journal next.journal done answers request answer i.count i.entered made.entered);
-      full = subst (λ l. AllFull (done ++ request ∷ []) l) (sym pushed) (AllFull-append done answers request answer i.full full);
+          (entered_more caller old.journal before.journal next.journal done answers request answer i.count i.entered
+          made.entered);
+      full = subst (λ l. AllFull (done ++ request ∷ []) l) (sym pushed)
+          (AllFull-append done answers request answer i.full full);
       all = append_assoc done (request ∷ []) c.next.new.self.rest.items ∙ ap (λ l. done ++ l) (sym stepped) ∙ i.all;
       count = simp (pushed, length-append) (omega (arith, i.count));
       room = omega (arith, i.room, c.push_within.ensures.room);
@@ -66,16 +76,24 @@ returns-then-not-goes_on-clause-made g c =
     let stepped : c.loop-request.request-iterator.rest.items ≡ request ∷ rest = c.in-Some.ensures.steps.0 in
     let halts : is_full (wanted_by request) answer ≡ false = grind (arith, common_steps) in
     let whole : done ++ request ∷ rest ≡ c.args.requests.items = ap (λ l. done ++ l) (sym stepped) ∙ i.all in
-    are_made state settled caller c.args.requests.items (done ++ request ∷ []) rest c.push_within.new.items.items old next
+    are_made state settled caller c.args.requests.items (done ++ request
+    ∷ []) rest c.push_within.new.items.items old next
     (append_assoc done (request ∷ []) rest ∙ whole)
     (simp (pushed, length-append) (omega (arith, i.count)))
-    (subst (λ l. Since (state old.since) old.since_level (λ from. AreAnswers state settled old.limit from old.journal old.store (calls_as caller (done ++ request ∷ [])) l next.store)) (sym pushed)
-    (one_more state settled caller old before next done answers request answer i.each i.entered i.since i.since_level i.limit
-    (λ from here. call_made state settled from before next caller request answer made.full made.at_limit (made.shown from here) (λ room. made.outcome room from here) (made.entries from here) made.unserved made.looks made.unasked made.synced made.follows)))
+    (subst (λ l. Since (state old.since) old.since_level
+    (λ from. AreAnswers state settled old.limit from old.journal old.store
+    (calls_as caller (done ++ request ∷ [])) l next.store)) (sym pushed)
+    (one_more state settled caller old before next done answers request answer i.each i.entered i.since i.since_level
+    i.limit
+    (λ from here. call_made state settled from before next caller request answer made.full made.at_limit
+    (made.shown from here) (λ room. made.outcome room from here)
+    (made.entries from here) made.unserved made.looks made.unasked made.synced made.follows)))
     (subst (λ l. next.journal ≡ old.journal ++ kept (calls_as caller (done ++ request ∷ [])) l) (sym pushed)
-    (entered_more caller old.journal before.journal next.journal done answers request answer i.count i.entered made.entered))
+    (entered_more caller old.journal before.journal next.journal done answers request answer i.count i.entered
+    made.entered))
     (subst (λ l. GoUpTo l c.push_within.new.items.items) whole
-    (subst (λ l. GoUpTo (done ++ request ∷ rest) l) (sym pushed) (up_to_one done rest answers request answer i.full halts)))
+    (subst (λ l. GoUpTo (done ++ request ∷ rest) l) (sym pushed)
+    (up_to_one done rest answers request answer i.full halts)))
     (made.since ∙ i.since)
     (made.since_level ∙ i.since_level)
     (made.limit ∙ i.limit)
@@ -86,7 +104,9 @@ returns-clause-made g c =
     let done = c.loop-request.yielded in
     let ended : c.loop-request.request-iterator.rest.items ≡ [] = grind (arith, common_steps) in
     let all : done ++ [] ≡ c.args.requests.items = ap (λ l. done ++ l) (sym ended) ∙ i.all in
-    are_made g.F.FileStore.state g.F.FileStore.is_settled c.args.cred.now c.args.requests.items done [] c.loop-request.answers.items c.args.volume.now c.loop-request.volume
+    are_made g.F.FileStore.state g.F.FileStore.is_settled c.args.cred.now c.args.requests.items done []
+    c.loop-request.answers.items c.args.volume.now c.loop-request.volume
     all i.count i.each i.entered
-    (subst (λ l. GoUpTo l c.loop-request.answers.items) (sym (append-nil done) ∙ all) (up_to_all done c.loop-request.answers.items i.full))
+    (subst (λ l. GoUpTo l c.loop-request.answers.items) (sym (append-nil done) ∙ all)
+    (up_to_all done c.loop-request.answers.items i.full))
     i.since i.since_level i.limit

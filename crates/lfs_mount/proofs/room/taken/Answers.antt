@@ -11,5 +11,6 @@ loop-number-preserved g c =
     let content = (g.F.FileStore.state c.args.store.now).content in
     record {
       is = c.saturating_add-count.ensures
-          ∙ taken_more content c.loop-number.number c.loop-number.count c.blocks_of.result c.loop-number.invariant.is (c.blocks_of.ensures ∙ ap blocks_of c.attrs.ensures);
+          ∙ taken_more content c.loop-number.number c.loop-number.count c.blocks_of.result c.loop-number.invariant.is
+          (c.blocks_of.ensures ∙ ap blocks_of c.attrs.ensures);
     }

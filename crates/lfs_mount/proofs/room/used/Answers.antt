@@ -11,5 +11,6 @@ loop-number-preserved g c =
     let content = (g.F.FileStore.state c.args.store.now).content in
     record {
       is = c.saturating_add-count.ensures
-          ∙ used_more content c.loop-number.number c.loop-number.count c.one_used.result c.loop-number.invariant.is (c.one_used.ensures ∙ ap one_used c.attrs.ensures);
+          ∙ used_more content c.loop-number.number c.loop-number.count c.one_used.result c.loop-number.invariant.is
+          (c.one_used.ensures ∙ ap one_used c.attrs.ensures);
     }

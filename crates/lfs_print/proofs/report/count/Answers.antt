@@ -9,5 +9,6 @@ use Rattle.lfs_print.proofs.report.count.Goals as goal
 pub returns : goal.returns
 returns c =
     count_from_yields_List c.filter.result _ c.count.ensures.ran
-    (YieldsList-from_filter _ (λ (entry : Entry). is_counted c.args.counted entry.event) (YieldsList-from_slice c.args.entries.now cc) c.filter.ensures.closure (λ x r q k. search (rules, tests)))
+    (YieldsList-from_filter _ (λ (entry : Entry). is_counted c.args.counted entry.event)
+    (YieldsList-from_slice c.args.entries.now cc) c.filter.ensures.closure (λ x r q k. search (rules, tests)))
     ∙ length-filter (λ (entry : Entry). is_counted c.args.counted entry.event) c.args.entries.now

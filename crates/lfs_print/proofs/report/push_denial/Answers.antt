@@ -8,6 +8,7 @@ returns-then-number-eq0 c = rule_none c.args.out.now.items c.args.rule c.args.nu
 pub returns : goal.returns
 returns c =
     on_ok_weaker c.push_count.result
-    (rule_added c.args.out.now.items c.extend_from_slice.new.self.items c.push_count.new.out.items c.code.result.now c.args.rule c.args.number
+    (rule_added c.args.out.now.items c.extend_from_slice.new.self.items c.push_count.new.out.items c.code.result.now
+    c.args.rule c.args.number
     c.if-number-eq0.false c.in_ok-extend_from_slice.ensures.items c.code.ensures)
     c.push_count.ensures

@@ -10,13 +10,16 @@ pub link_front-requires-clause-next : goal.link_front-requires-clause-next
 link_front-requires-clause-next c =
     let v = c.loop-number.frames in let n = c.args.count in
     let long : vec_len v ≡ n + 4 = v.ok.0 ∙ c.loop-number.invariant.filled.long in
-    rw (c.head_of-head.ensures, long) (c.loop-number.invariant.filled.linked.places (head_of n Empty) (head_low n Empty)).0
+    rw (c.head_of-head.ensures, long) (c.loop-number.invariant.filled.linked.places (head_of n Empty)
+    (head_low n Empty)).0
 
 pub loop-number-preserved : goal.loop-number-preserved
 loop-number-preserved c =
     let v = c.loop-number.frames in let v1 = c.link_front.new.frames in
     record {
       ends = refl;
-      filled = filled_step frame_size (vec_ptr v) (lit< tt) c.args.count c.loop-number.number v.items c.loop-number-test.true c.loop-number.invariant.filled (vec_ptr v1) v1.items c.head_of-head.result
+      filled = filled_step frame_size (vec_ptr v)
+          (lit< tt) c.args.count c.loop-number.number v.items c.loop-number-test.true c.loop-number.invariant.filled
+          (vec_ptr v1) v1.items c.head_of-head.result
           c.head_of-head.ensures c.link_front.ensures.place c.link_front.ensures.items;
     }

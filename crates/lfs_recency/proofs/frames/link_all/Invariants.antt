@@ -4,4 +4,7 @@ use Rattle.lfs_recency.specs.Links.{frame_size, AreFilled}
 use Rattle.lfs_recency.proofs.frames.link_all.Given as goal
 
 abbrev pub invariant-loop-number : goal.invariant-loop-number
-invariant-loop-number l = record { ends : l.number-end ≡ l.count; filled : AreFilled frame_size (vec_ptr l.frames) l.count l.number l.frames.items }
+invariant-loop-number l = record {
+  ends : l.number-end ≡ l.count;
+  filled : AreFilled frame_size (vec_ptr l.frames) l.count l.number l.frames.items;
+}

@@ -9,7 +9,8 @@ use Rattle.lfs_recency.proofs.links.link_front.Goals as goal
 
 pub returns-clause-items : goal.returns-clause-items
 returns-clause-items c =
-    let v = c.as_mut_ptr-start.new.self in let head = c.args.head in let f = c.args.number in let x = c.index.result.now in let y = c.index_mut-frame.result.now in
+    let v = c.as_mut_ptr-start.new.self in let head = c.args.head in let f = c.args.number in let x =
+    c.index.result.now in let y = c.index_mut-frame.result.now in
     let this = c.offset-this.result in let before = c.offset-before.result in let base = vec_ptr v in
     let next = rw (← c.as_mut_ptr-start.ensures.unchanged) at c.requires.next in
     let in_range = rw (← c.as_mut_ptr-start.ensures.unchanged) at c.requires.in_range in
@@ -18,7 +19,8 @@ returns-clause-items c =
     let head_inside : head < length v.items = subst (λ k. head < k) v.ok.0 head_in in
     let et : this ≡ item_place frame_size base f = search rules in
     let eb : before ≡ item_place frame_size base head = search rules in
-    let eh : item_number frame_size base before ≡ head = rw eb (number-place frame_size base head (lit< tt) c.item_at_mut.ensures.in_block) in
+    let eh : item_number frame_size base before
+    ≡ head = rw eb (number-place frame_size base head (lit< tt) c.item_at_mut.ensures.in_block) in
     let ex : x ≡ frame_at v.items head = frame_is v.items head x head_inside c.index.ensures in
     let ey : y ≡ frame_at v.items f = frame_is v.items f y inside c.index_mut-frame.ensures.value in
     let after : item_number frame_size base x.next < length v.items =
@@ -29,5 +31,6 @@ returns-clause-items c =
     let fs2 : List Frame = set fs1 (item_number frame_size base x.next) (record z { prev = this }) in
     let before2 : item_number frame_size base before < length fs2 = rw (eh, length-set, length-set) head_inside in
     rw (← c.as_mut_ptr-start.ensures.unchanged)
-    (linked_told frame_size base head f c.args.queue v.items this before x y z w fs1 fs2 et eb eh ex ey refl (frame_is fs1 (item_number frame_size base x.next) z after1 c.item_at_mut.ensures.value) refl
+    (linked_told frame_size base head f c.args.queue v.items this before x y z w fs1 fs2 et eb eh ex ey refl
+    (frame_is fs1 (item_number frame_size base x.next) z after1 c.item_at_mut.ensures.value) refl
     (frame_is fs2 (item_number frame_size base before) w before2 c.item_at_mut-2.ensures.value))

@@ -6,5 +6,6 @@ use Rattle.lfs_rules.proofs.access.clear_set_id.Goals as goal
 
 pub returns : goal.returns
 returns c =
-    let cleared = c.without.ensures.value ∙ ap (λ bits. without 16 c.args.mode bits) (c.union.ensures tt) ∙ without_set_id c.args.mode c.without.ensures.bounded in
+    let cleared = c.without.ensures.value ∙ ap (λ bits. without 16 c.args.mode bits) (c.union.ensures tt)
+    ∙ without_set_id c.args.mode c.without.ensures.bounded in
     record { cleared = cleared; bits = subst (HasLostSetIds c.args.mode) (sym cleared) (lost_set_ids c.args.mode) }

@@ -8,13 +8,15 @@ use Rattle.lfs_script.proofs.script.parse_script.Goals as goal
 pub returns-in-Err : goal.returns-in-Err
 returns-in-Err c = (
   λ other. c.loop-rest.invariant.so_far ∙ c.in-Err.ensures.taken other (c.loop-rest.line + 1),
-  λ memory. readable c.args.script.now c.loop-rest.rest.now c.loop-rest.line c.loop-rest.invariant.behind (c.in-Err.ensures.lines memory),
+  λ memory. readable c.args.script.now c.loop-rest.rest.now c.loop-rest.line c.loop-rest.invariant.behind
+      (c.in-Err.ensures.lines memory),
   rw c.loop-rest.invariant.so_far (plan_least (c.loop-rest.line + 1) c.loop-rest.draft (lines_of c.loop-rest.rest.now)),
 )
 
 pub returns : goal.returns
 returns c =
-    let none : c.loop-rest.rest.now ≡ [] = nil_from_length c.loop-rest.rest.now (eqb-true (length c.loop-rest.rest.now) 0 (sym c.is_empty.ensures ∙ c.loop-rest-test.false)) in
+    let none : c.loop-rest.rest.now ≡ [] = nil_from_length c.loop-rest.rest.now
+    (eqb-true (length c.loop-rest.rest.now) 0 (sym c.is_empty.ensures ∙ c.loop-rest-test.false)) in
     c.loop-rest.invariant.so_far ∙ rw (none, c.finish.ensures) (plan_end (c.loop-rest.line + 1) c.loop-rest.draft)
 
 pub loop-rest-preserved : goal.loop-rest-preserved

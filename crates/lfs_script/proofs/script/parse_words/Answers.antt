@@ -7,7 +7,9 @@ returns-in_default c = λ other. no_words (λ x. x.now) c.args.words.now c.in_de
 
 pub returns-in-Some : goal.returns-in-Some
 returns-in-Some c =
-    verb_first (λ x. x.now) c.args.words.now _ c.in-Some.verb c.parse_verb.result c.in-len1-up.len_at_least (sym c.of.ensures ∙ c.in-Some.is) c.parse_verb.ensures
+    verb_first (λ x. x.now) c.args.words.now _ c.in-Some.verb c.parse_verb.result c.in-len1-up.len_at_least
+    (sym c.of.ensures ∙ c.in-Some.is) c.parse_verb.ensures
 
 pub returns-in-None : goal.returns-in-None
-returns-in-None c = λ other. verb_missed (λ x. x.now) c.args.words.now _ c.in-len1-up.len_at_least (sym c.of.ensures ∙ c.in-None.is)
+returns-in-None c = λ other. verb_missed (λ x. x.now) c.args.words.now _ c.in-len1-up.len_at_least (sym c.of.ensures
+    ∙ c.in-None.is)

@@ -4,4 +4,5 @@ use Rattle.lfs_script.proofs.spelling.push_request.Goals as goal
 
 pub returns-clause-back : goal.returns-clause-back
 returns-clause-back c =
-    on_ok_weaker c.push_operands.result (λ back spells. line_back c.args.request.now (back spells)) c.push_operands.ensures.back
+    on_ok_weaker c.push_operands.result (λ back spells. line_back c.args.request.now (back spells))
+    c.push_operands.ensures.back

@@ -5,7 +5,8 @@ use Rattle.lfs_script.proofs.split.empty_lists.Goals as goal
 
 pub loop-preserved : goal.loop-preserved
 loop-preserved c =
-    empty_more c.loop.lists.items c.push.new.self.items c.new.result c.loop.counter c.in_ok-push.ensures.items c.new.ensures.items c.loop.invariant
+    empty_more c.loop.lists.items c.push.new.self.items c.new.result c.loop.counter c.in_ok-push.ensures.items
+    c.new.ensures.items c.loop.invariant
 
 pub returns : goal.returns
 returns c =

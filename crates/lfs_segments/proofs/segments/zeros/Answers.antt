@@ -7,4 +7,5 @@ use Rattle.lfs_segments.proofs.segments.zeros.Goals as goal
 pub loop-preserved : goal.loop-preserved
 unfolding zero_block
 loop-preserved c =
-    pushed (zero_block ∷ []) c.loop.invariant c.in_ok-push.was c.push.ensures.items ∙ replicate_more c.loop.counter zero_block
+    pushed (zero_block ∷ []) c.loop.invariant c.in_ok-push.was c.push.ensures.items
+    ∙ replicate_more c.loop.counter zero_block

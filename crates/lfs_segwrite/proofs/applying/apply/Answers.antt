@@ -25,5 +25,8 @@ pub returns-clause-made : goal.returns-clause-made
 returns-clause-made c =
     let frames = frames_most _ c.args.changes.now _ c.requires.can in
     let records = records_most c.args.changes.now in
-    makes_changes c.args.by c.args.changes.now c.args.parts.now c.make_way.new.parts c.stage_changes.new.parts c.requires.room c.in_ok-check_room.ensures.has
-    (waits_few c.args.parts.now c.requires.store) (needs_few c.args.changes.now frames (omega (arith, c.requires.can.few))) c.make_way.ensures c.stage_changes.ensures
+    makes_changes c.args.by c.args.changes.now c.args.parts.now c.make_way.new.parts c.stage_changes.new.parts
+    c.requires.room c.in_ok-check_room.ensures.has
+    (waits_few c.args.parts.now c.requires.store)
+    (needs_few c.args.changes.now frames (omega (arith, c.requires.can.few))) c.make_way.ensures
+    c.stage_changes.ensures

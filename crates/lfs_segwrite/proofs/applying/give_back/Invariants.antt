@@ -6,4 +6,5 @@ use Rattle.lfs_segwrite.proofs.applying.give_back.Given as goal
 
 abbrev pub invariant-loop-change : goal.invariant-loop-change
 invariant-loop-change l =
-    list_any (gives_back (content_of l.parts)) (drop l.change-index l.changes) ≡ list_any (gives_back (content_of l.parts)) l.changes
+    list_any (gives_back (content_of l.parts)) (drop l.change-index l.changes)
+    ≡ list_any (gives_back (content_of l.parts)) l.changes

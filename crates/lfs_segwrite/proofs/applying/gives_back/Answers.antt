@@ -18,7 +18,8 @@ pub returns-in-Some : goal.returns-in-Some
 returns-in-Some c =
     c.takes_fewer_blocks.ensures
     ∙ sym (ap (gives_back (content_of c.args.parts.now)) c.in-SetLength.is
-    ∙ ap (λ n. nat_lt (block_count c.in-SetLength.len) (block_count n)) (long _ c.in-Some.attrs (sym c.attrs.ensures ∙ c.in-Some.is)))
+    ∙ ap (λ n. nat_lt (block_count c.in-SetLength.len) (block_count n))
+    (long _ c.in-Some.attrs (sym c.attrs.ensures ∙ c.in-Some.is)))
 
 -- a file that is not there has no bytes
 empty : (o : Option File) → option_map attrs_of o ≡ None → length (bytes_of_file o) ≡ 0
@@ -30,5 +31,7 @@ returns-in-Remove c = sym (ap (gives_back (content_of c.args.parts.now)) c.in-Re
 
 pub returns-in-None : goal.returns-in-None
 returns-in-None c =
-    sym (ap (gives_back (content_of c.args.parts.now)) c.in-SetLength.is ∙ ap (λ n. nat_lt (block_count c.in-SetLength.len) (block_count n)) (empty _ (sym c.attrs.ensures ∙ c.in-None.is))
+    sym (ap (gives_back (content_of c.args.parts.now)) c.in-SetLength.is
+    ∙ ap (λ n. nat_lt (block_count c.in-SetLength.len) (block_count n))
+    (empty _ (sym c.attrs.ensures ∙ c.in-None.is))
     ∙ le-ltb (block_count c.in-SetLength.len) 0 (omega arith))

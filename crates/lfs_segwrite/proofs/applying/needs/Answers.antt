@@ -7,5 +7,11 @@ use Rattle.lfs_segwrite.proofs.applying.needs.Goals as goal
 pub returns-else-blocks-eq0 : goal.returns-else-blocks-eq0
 returns-else-blocks-eq0 c =
     omega (arith, c.frames_of_all.ensures, c.inode_blocks.ensures, c.records_of_all.ensures)
-    ∙ sym (cond-false _ _ _ (ne_eqb (frames_of_all c.args.changes.now + inode_blocks (records_of_all c.args.changes.now)) 0
-    (λ e. c.if-blocks-eq0.false (omega (arith, c.frames_of_all.ensures, c.inode_blocks.ensures, c.records_of_all.ensures)))))
+    ∙ sym (cond-false _ _ _ (ne_eqb (frames_of_all c.args.changes.now
+    + inode_blocks (records_of_all c.args.changes.now)) 0
+    (λ e. c.if-blocks-eq0.false (omega (
+      arith,
+      c.frames_of_all.ensures,
+      c.inode_blocks.ensures,
+      c.records_of_all.ensures,
+    )))))

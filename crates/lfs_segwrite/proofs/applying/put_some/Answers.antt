@@ -10,7 +10,8 @@ use Rattle.lfs_segwrite.proofs.applying.put_some.Goals as goal
 
 pub put-requires-clause-may : goal.put-requires-clause-may
 put-requires-clause-may c =
-    may_change c.args.parts.now c.args.ino c.requires.staged (shown_used c.args.parts.now c.args.ino (some_from _ _ c.requires.can)) (omega (arith, c.requires.records))
+    may_change c.args.parts.now c.args.ino c.requires.staged
+    (shown_used c.args.parts.now c.args.ino (some_from _ _ c.requires.can)) (omega (arith, c.requires.records))
 
 pub put-requires-clause-fits : goal.put-requires-clause-fits
 put-requires-clause-fits c =
@@ -19,7 +20,8 @@ put-requires-clause-fits c =
     record {
       some = some;
       bounded = c.requires.reach.1 some;
-      sized = put_sized c.args.parts.now c.args.ino c.args.off c.args.bytes.now c.requires.staged.whole c.requires.can some;
+      sized = put_sized c.args.parts.now c.args.ino c.args.off c.args.bytes.now c.requires.staged.whole c.requires.can
+          some;
     }
 
 pub put-requires-clause-room : goal.put-requires-clause-room
@@ -35,7 +37,11 @@ returns-then-not-is_empty c =
       content_is = c.put.ensures.content;
       versions_are = λ n. version-same c.args.parts.now c.put.new.self n c.put.ensures.log;
       log = stays_same c.args.parts.now c.put.new.self c.put.ensures.log c.put.ensures.addresses;
-      frames_more = omega (arith, cond-false {A = ℕ} _ 0 (frames_of_put c.args.off (length c.args.bytes.now)) here, c.put.ensures.frames);
+      frames_more = omega (
+        arith,
+        cond-false {A = ℕ} _ 0 (frames_of_put c.args.off (length c.args.bytes.now)) here,
+        c.put.ensures.frames,
+      );
       records_more = omega (arith, cond-false {A = ℕ} _ 0 1 here, c.put.ensures.waiting);
     }
 

@@ -14,7 +14,8 @@ use Rattle.lfs_segwrite.proofs.applying.stage_change.Goals as goal
 
 pub make-requires-clause-free : goal.make-requires-clause-free
 make-requires-clause-free c =
-    let can = rw c.in-Make.is at c.requires.can in none_free c.args.parts.now c.in-Make.ino c.requires.staged.whole can.2
+    let can = rw c.in-Make.is at c.requires.can in
+    none_free c.args.parts.now c.in-Make.ino c.requires.staged.whole can.2
 
 pub remove-requires-clause-in_range : goal.remove-requires-clause-in_range
 remove-requires-clause-in_range c =
@@ -30,11 +31,13 @@ pub set_attrs-requires-clause-may : goal.set_attrs-requires-clause-may
 set_attrs-requires-clause-may c =
     let can = rw c.in-SetAttrs.is at c.requires.can in
     let p = c.args.parts.now in
-    may_change p c.in-SetAttrs.ino c.requires.staged (shown_used p c.in-SetAttrs.ino (some_from _ _ can)) (omega (arith, c.requires.records))
+    may_change p c.in-SetAttrs.ino c.requires.staged (shown_used p c.in-SetAttrs.ino (some_from _ _ can))
+    (omega (arith, c.requires.records))
 
 pub set_attrs-requires-clause-kind : goal.set_attrs-requires-clause-kind
 set_attrs-requires-clause-kind c =
-    let can = rw c.in-SetAttrs.is at c.requires.can in kind_same c.args.parts.now c.in-SetAttrs.ino c.in-SetAttrs.attrs.kind can
+    let can = rw c.in-SetAttrs.is at c.requires.can in
+    kind_same c.args.parts.now c.in-SetAttrs.ino c.in-SetAttrs.attrs.kind can
 
 pub set_length-requires-clause-in_range : goal.set_length-requires-clause-in_range
 set_length-requires-clause-in_range c =
@@ -44,17 +47,20 @@ set_length-requires-clause-in_range c =
 
 pub set_length-requires-clause-in_use : goal.set_length-requires-clause-in_use
 set_length-requires-clause-in_use c =
-    let can = rw c.in-SetLength.is at c.requires.can in shown_used c.args.parts.now c.in-SetLength.ino (some_from _ _ can)
+    let can = rw c.in-SetLength.is at c.requires.can in
+    shown_used c.args.parts.now c.in-SetLength.ino (some_from _ _ can)
 
 pub set_length-requires-clause-sized : goal.set_length-requires-clause-sized
 set_length-requires-clause-sized c =
-    let can = rw c.in-SetLength.is at c.requires.can in length_sized c.args.parts.now c.in-SetLength.ino c.in-SetLength.len can
+    let can = rw c.in-SetLength.is at c.requires.can in
+    length_sized c.args.parts.now c.in-SetLength.ino c.in-SetLength.len can
 
 pub returns-in-Make : goal.returns-in-Make
 returns-in-Make c =
     let old = c.args.parts.now in
     let new = c.make.new.self in
-    let frames : length new.cache.locked ≡ length old.cache.locked = ap (λ (s : Contents). length s.locked) c.make.ensures.cache in
+    let frames : length new.cache.locked ≡ length old.cache.locked =
+    ap (λ (s : Contents). length s.locked) c.make.ensures.cache in
     subst (λ (change : Change). StagesChange change old new) (sym c.in-Make.is) (record {
       staged = c.make.ensures.staged;
       content_is = c.make.ensures.content;
@@ -94,12 +100,14 @@ pub returns-in-SetAttrs : goal.returns-in-SetAttrs
 returns-in-SetAttrs c =
     let old = c.args.parts.now in
     let new = c.set_attrs.new.self in
-    let frames : length new.cache.locked ≡ length old.cache.locked = ap (λ (s : Contents). length s.locked) c.set_attrs.ensures.cache in
+    let frames : length new.cache.locked ≡ length old.cache.locked =
+    ap (λ (s : Contents). length s.locked) c.set_attrs.ensures.cache in
     subst (λ (change : Change). StagesChange change old new) (sym c.in-SetAttrs.is) (record {
       staged = c.set_attrs.ensures.kept 0 c.requires.staged;
       content_is = c.set_attrs.ensures.content;
       versions_are = λ n. version-same old new n c.set_attrs.ensures.log;
-      log = stays_same old new c.set_attrs.ensures.log (λ n way known. ap (λ t. address t way) (c.set_attrs.ensures.addresses n));
+      log = stays_same old new c.set_attrs.ensures.log
+          (λ n way known. ap (λ t. address t way) (c.set_attrs.ensures.addresses n));
       frames_more = omega arith;
       records_more = omega (arith, c.set_attrs.ensures.waiting);
     })

@@ -25,11 +25,13 @@ loop-change-init c = record {
 
 pub stage_change-requires-clause-can : goal.stage_change-requires-clause-can
 stage_change-requires-clause-can c =
-    (next_can c.args.changes.now c.loop-change.change-index c.change-item.result c.loop-change-test.true c.change-item.is _ _ c.loop-change.invariant.can).0
+    (next_can c.args.changes.now c.loop-change.change-index c.change-item.result c.loop-change-test.true
+    c.change-item.is _ _ c.loop-change.invariant.can).0
 
 pub stage_change-requires-clause-frames : goal.stage_change-requires-clause-frames
 stage_change-requires-clause-frames c =
-    let peak = next_peak c.args.changes.now c.loop-change.change-index c.change-item.result c.loop-change-test.true c.change-item.is in
+    let peak = next_peak c.args.changes.now c.loop-change.change-index c.change-item.result c.loop-change-test.true
+    c.change-item.is in
     omega (arith, c.loop-change.invariant.peak, c.requires.frames)
 
 pub stage_change-requires-clause-records : goal.stage_change-requires-clause-records
@@ -55,10 +57,12 @@ loop-change-preserved c =
     let made = c.stage_change.ensures.content_is in
     record {
       staged = c.stage_change.ensures.staged;
-      content = next_applied xs i d low c.change-item.is (content_of old) (content_of new) made ∙ c.loop-change.invariant.content;
+      content = next_applied xs i d low c.change-item.is (content_of old) (content_of new) made
+          ∙ c.loop-change.invariant.content;
       versions = λ n. ap (versions_after (drop (i + 1) xs) n) (c.stage_change.ensures.versions_are n)
           ∙ next_versions xs i d low c.change-item.is n (version_of old n) ∙ c.loop-change.invariant.versions n;
-      can = rest_can xs i d low c.change-item.is _ _ (content_of old) (content_of new) c.loop-change.invariant.can c.stage_change.ensures.log.numbers made;
+      can = rest_can xs i d low c.change-item.is _ _ (content_of old)
+          (content_of new) c.loop-change.invariant.can c.stage_change.ensures.log.numbers made;
       log = stays-trans c.args.parts.now old new c.loop-change.invariant.log c.stage_change.ensures.log;
       frames = omega (arith, c.loop-change.invariant.frames, c.stage_change.ensures.frames_more);
       peak = omega (arith, c.loop-change.invariant.peak, c.stage_change.ensures.frames_more);
@@ -72,7 +76,8 @@ returns c =
     record {
       staged = c.loop-change.invariant.staged;
       content_is = sym (ap (λ ys. applied ys (content_of c.loop-change.parts)) none) ∙ c.loop-change.invariant.content;
-      versions_are = λ n. sym (ap (λ ys. versions_after ys n (version_of c.loop-change.parts n)) none) ∙ c.loop-change.invariant.versions n;
+      versions_are = λ n. sym (ap (λ ys. versions_after ys n (version_of c.loop-change.parts n)) none)
+          ∙ c.loop-change.invariant.versions n;
       log = c.loop-change.invariant.log;
       frames_more = omega (arith, c.loop-change.invariant.frames);
       records_more = omega (arith, c.loop-change.invariant.records);

@@ -11,11 +11,15 @@ abbrev pub invariant-loop-change : goal.invariant-loop-change
 invariant-loop-change l = record {
   staged : IsStaged l.parts 0;
   content : applied (drop l.change-index l.changes) (content_of l.parts) ≡ applied l.changes (content_of l.fn.parts);
-  versions : (n : ℕ) → versions_after (drop l.change-index l.changes) n (version_of l.parts n) ≡ versions_after l.changes n (version_of l.fn.parts n);
+  versions : (n : ℕ) → versions_after (drop l.change-index l.changes) n (version_of l.parts n)
+      ≡ versions_after l.changes n (version_of l.fn.parts n);
   can : CanChangeAll (length l.parts.log.tables.rows) (drop l.change-index l.changes) (content_of l.parts);
   log : StaysInLog l.fn.parts l.parts;
-  frames : length l.parts.cache.locked + frames_of_all (drop l.change-index l.changes) ≤ length l.fn.parts.cache.locked + frames_of_all l.changes;
-  peak : length l.parts.cache.locked + peak_of_all (drop l.change-index l.changes) ≤ length l.fn.parts.cache.locked + peak_of_all l.changes;
-  records : length l.parts.waiting + records_of_all (drop l.change-index l.changes) ≤ length l.fn.parts.waiting + records_of_all l.changes;
+  frames : length l.parts.cache.locked + frames_of_all (drop l.change-index l.changes) ≤ length l.fn.parts.cache.locked
+      + frames_of_all l.changes;
+  peak : length l.parts.cache.locked + peak_of_all (drop l.change-index l.changes) ≤ length l.fn.parts.cache.locked
+      + peak_of_all l.changes;
+  records : length l.parts.waiting + records_of_all (drop l.change-index l.changes) ≤ length l.fn.parts.waiting
+      + records_of_all l.changes;
   left : length l.parts.waiting + length (drop l.change-index l.changes) ≤ length l.fn.parts.waiting + length l.changes;
 }

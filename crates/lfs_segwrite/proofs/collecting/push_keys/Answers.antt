@@ -9,7 +9,8 @@ use Rattle.lfs_segwrite.proofs.collecting.push_keys.Goals as goal
 pub push-requires : goal.push-requires
 push-requires c =
     let before = filter (is_of c.args.pass) (take c.loop-key.key-index c.args.keys.now) in
-    let room = pass_room c.args.pass c.args.keys.now c.loop-key.key-index _ c.loop-key-test.true (eq-eqb _ c.args.pass (sym c.rank.ensures ∙ c.if-rank-pass.true)) in
+    let room = pass_room c.args.pass c.args.keys.now c.loop-key.key-index _ c.loop-key-test.true
+    (eq-eqb _ c.args.pass (sym c.rank.ensures ∙ c.if-rank-pass.true)) in
     let so_far = ap length c.loop-key.invariant in
     let whole = length-append c.args.list.now.items (map entry_of before) in
     let mapped = length-map before entry_of in

@@ -5,7 +5,8 @@ use Rattle.lfs_cache.specs.Contents.{AreApart}
 use Rattle.lfs_segments.specs.Entry.{IsEntry}
 use Rattle.lfs_staging.specs.Store.{IsBlockCode}
 use Rattle.lfs_segwrite.specs.Collecting.{entry_of, in_passes}
-use Rattle.lfs_segwrite.proofs.CollectingLemmas.{all_entries, collected, collected_more, collected_none, collected_room, entries_of-length, in_order-length}
+use Rattle.lfs_segwrite.proofs.CollectingLemmas.{all_entries, collected, collected_more, collected_none, collected_room}
+use Rattle.lfs_segwrite.proofs.CollectingLemmas.{entries_of-length, in_order-length}
 use Rattle.lfs_segwrite.proofs.OrderLemmas.{in_order-locked, listed_waits}
 use Rattle.lfs_segwrite.proofs.collecting.to_land.Goals as goal
 
@@ -22,10 +23,12 @@ push_keys-requires-clause-room c =
     let keys = ap length c.locked-keys.ensures.keys in
     let locked = length-map c.args.parts.now.cache.locked (λ e. e.0) in
     let limit = c.requires.files.cache.limit in
-    collected_room c.loop-pass.list.items c.loop-pass.pass c.locked-keys.result.now c.loop-pass.invariant c.loop-pass-test.true (omega arith)
+    collected_room c.loop-pass.list.items c.loop-pass.pass c.locked-keys.result.now c.loop-pass.invariant
+    c.loop-pass-test.true (omega arith)
 
 pub loop-pass-preserved : goal.loop-pass-preserved
-loop-pass-preserved c = collected_more c.loop-pass.list.items c.push_keys.new.list.items c.loop-pass.pass c.locked-keys.result.now c.loop-pass.invariant c.push_keys.ensures
+loop-pass-preserved c = collected_more c.loop-pass.list.items c.push_keys.new.list.items c.loop-pass.pass
+    c.locked-keys.result.now c.loop-pass.invariant c.push_keys.ensures
 
 -- all passes are done
 whole : (c : goal.After-push_inodes) → c.loop-pass.list.items ≡ map entry_of (in_passes 3 c.locked-keys.result.now)
@@ -36,7 +39,8 @@ whole c =
 pub push_inodes-requires : goal.push_inodes-requires
 push_inodes-requires c =
     let end : c.loop-pass.pass ≡ 3 = omega (arith, c.loop-pass-test.false, c.loop-pass.auto.pass-end) in
-    let all = subst (λ n. c.loop-pass.list.items ≡ map entry_of (in_passes n c.locked-keys.result.now)) end c.loop-pass.invariant in
+    let all = subst (λ n. c.loop-pass.list.items
+    ≡ map entry_of (in_passes n c.locked-keys.result.now)) end c.loop-pass.invariant in
     let many = ap length all in
     let mapped = length-map (in_passes 3 c.locked-keys.result.now) entry_of in
     let whole = in_order-length c.locked-keys.result.now in
@@ -48,11 +52,13 @@ push_inodes-requires c =
 
 pub returns-clause-entries : goal.returns-clause-entries
 returns-clause-entries c =
-    collected c.args.parts.now c.loop-pass.list.items c.push_inodes.new.list.items c.locked-keys.result.now c.inode_blocks.result (whole c) c.push_inodes.ensures
+    collected c.args.parts.now c.loop-pass.list.items c.push_inodes.new.list.items c.locked-keys.result.now
+    c.inode_blocks.result (whole c) c.push_inodes.ensures
     c.locked-keys.ensures.keys (omega (arith, c.inode_blocks.ensures, c.len.ensures))
 
 pub returns-clause-valid : goal.returns-clause-valid
-returns-clause-valid c = subst (All IsEntry) (sym (returns-clause-entries c)) (all_entries c.args.parts.now c.requires.files)
+returns-clause-valid c = subst (All IsEntry) (sym (returns-clause-entries c))
+    (all_entries c.args.parts.now c.requires.files)
 
 pub returns-clause-fits : goal.returns-clause-fits
 returns-clause-fits c =
@@ -63,4 +69,5 @@ returns-clause-fits c =
     omega arith
 
 pub returns-clause-blocks : goal.returns-clause-blocks
-returns-clause-blocks c = in_order-locked c.args.parts.now.cache (subst AreApart c.locked-keys.ensures.keys c.locked-keys.ensures.once)
+returns-clause-blocks c = in_order-locked c.args.parts.now.cache
+    (subst AreApart c.locked-keys.ensures.keys c.locked-keys.ensures.once)

@@ -25,9 +25,12 @@ loop-info-preserved c =
     let infos = c.args.named.now in
     let d : BlockInfo = record { ino = 0; version = 0; lbn = 0; addr = 0 } in
     subst (λ more. AddsKeys more [] c.add_info.new.self) (sym (keys_more infos i d c.loop-info-test.true))
-    (adds_both (flat_map keys_to_mark (take i infos)) (keys_to_mark (get_or infos i d)) [] c.loop-info.keys c.add_info.new.self c.loop-info.invariant c.add_info.ensures)
+    (adds_both (flat_map keys_to_mark (take i infos))
+    (keys_to_mark (get_or infos i d)) [] c.loop-info.keys c.add_info.new.self c.loop-info.invariant
+    c.add_info.ensures)
 
 pub returns-clause-frames : goal.returns-clause-frames
 returns-clause-frames c =
-    ap length c.keys.ensures.keys ∙ gathered (flat_map keys_to_mark (take c.loop-info.info-index c.args.named.now)) c.loop-info.keys c.loop-info.invariant
+    ap length c.keys.ensures.keys ∙ gathered
+    (flat_map keys_to_mark (take c.loop-info.info-index c.args.named.now)) c.loop-info.keys c.loop-info.invariant
     ∙ ap frames_to_mark (take_all c.loop-info.info-index c.args.named.now (omega arith))

@@ -7,15 +7,27 @@ use Rattle.lfs_segwrite.proofs.flushing.begin_partial.Goals as goal
 pub returns-clause-staged : goal.returns-clause-staged
 returns-clause-staged c =
     let p = c.args.parts.now in
-    let q : Parts = record { log = c.begin.new.self; cache = c.args.parts.now.cache; waiting = c.args.parts.now.waiting } in
-    let put = summary_put p q c.begin.result c.args.entries.now c.requires.staged c.requires.ready c.begin.ensures.expects (let fit = c.requires.fit in omega arith)
-    c.begin.ensures.address c.begin.ensures.next c.begin.ensures.extends c.begin.ensures.tables refl refl (c.begin.ensures.step (log_state p).at) in
+    let q : Parts = record {
+      log = c.begin.new.self;
+      cache = c.args.parts.now.cache;
+      waiting = c.args.parts.now.waiting;
+    } in
+    let put = summary_put p q c.begin.result c.args.entries.now c.requires.staged c.requires.ready
+    c.begin.ensures.expects (let fit = c.requires.fit in omega arith)
+    c.begin.ensures.address c.begin.ensures.next c.begin.ensures.extends c.begin.ensures.tables refl refl
+    (c.begin.ensures.step (log_state p).at) in
     fewer_spare q 512 0 (omega arith) (appended_staged p q c.begin.result _ put c.begin.ensures.kept c.requires.staged)
 
 pub returns-clause-advances : goal.returns-clause-advances
 returns-clause-advances c =
     let p = c.args.parts.now in
-    let q : Parts = record { log = c.begin.new.self; cache = c.args.parts.now.cache; waiting = c.args.parts.now.waiting } in
-    let put = summary_put p q c.begin.result c.args.entries.now c.requires.staged c.requires.ready c.begin.ensures.expects (let fit = c.requires.fit in omega arith)
-    c.begin.ensures.address c.begin.ensures.next c.begin.ensures.extends c.begin.ensures.tables refl refl (c.begin.ensures.step (log_state p).at) in
+    let q : Parts = record {
+      log = c.begin.new.self;
+      cache = c.args.parts.now.cache;
+      waiting = c.args.parts.now.waiting;
+    } in
+    let put = summary_put p q c.begin.result c.args.entries.now c.requires.staged c.requires.ready
+    c.begin.ensures.expects (let fit = c.requires.fit in omega arith)
+    c.begin.ensures.address c.begin.ensures.next c.begin.ensures.extends c.begin.ensures.tables refl refl
+    (c.begin.ensures.step (log_state p).at) in
     appended_advances p q c.begin.result _ put

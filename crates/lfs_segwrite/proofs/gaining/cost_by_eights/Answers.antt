@@ -13,7 +13,8 @@ pub loop-k-preserved : goal.loop-k-preserved
 loop-k-preserved c =
     let k = c.loop-k.k in
     let infos = c.args.infos.now in
-    let is : c.blocks_to_mark-blocks.result ≡ eight_blocks infos k = c.blocks_to_mark-blocks.ensures.blocks ∙ ap blocks_to_mark c.eight.ensures.eight in
+    let is : c.blocks_to_mark-blocks.result ≡ eight_blocks infos k = c.blocks_to_mark-blocks.ensures.blocks
+    ∙ ap blocks_to_mark c.eight.ensures.eight in
     let few = c.blocks_to_mark-blocks.ensures.few in
     let before = c.loop-k.invariant in
     let sum = total_more (eight_blocks infos) k in
@@ -31,8 +32,10 @@ ended c = omega (arith, c.eights-k-end.ensures, c.loop-k-test.false, c.loop-k.au
 
 pub returns-clause-blocks : goal.returns-clause-blocks
 unfolding blocks_by_eights
-returns-clause-blocks c = subst (λ n. c.loop-k.cost.blocks ≡ total (eight_blocks c.args.infos.now) n) (ended c) c.loop-k.invariant.blocks
+returns-clause-blocks c = subst (λ n. c.loop-k.cost.blocks ≡ total (eight_blocks c.args.infos.now) n)
+    (ended c) c.loop-k.invariant.blocks
 
 pub returns-clause-widest : goal.returns-clause-widest
 unfolding widest_eight
-returns-clause-widest c = subst (λ n. c.loop-k.cost.widest ≡ greatest (eight_blocks c.args.infos.now) n) (ended c) c.loop-k.invariant.widest
+returns-clause-widest c = subst (λ n. c.loop-k.cost.widest ≡ greatest (eight_blocks c.args.infos.now) n)
+    (ended c) c.loop-k.invariant.widest

@@ -35,19 +35,23 @@ loop-info-preserved c =
     let names = names_block (log_state c.args.parts.now) in
     let info = get_or infos i nothing in
     let more = filter_more names infos i nothing c.loop-info-test.true in
-    let is = same_from_decides c.is_named.result (names info) c.is_named.ensures (names_decides (log_state c.args.parts.now) info) in
+    let is = same_from_decides c.is_named.result (names info) c.is_named.ensures
+    (names_decides (log_state c.args.parts.now) info) in
     elim c.if-is_named.branch [
       | then-is_named w ↦
           w.live-is ∙ w.push.ensures ∙ ap (λ (xs : _). xs ++ info ∷ []) c.loop-info.invariant
-          ∙ sym (more ∙ ap (λ (xs : _). filter names (take i infos) ++ xs) (cond-true (names info) (info ∷ []) [] (sym is ∙ w.if-is_named.true)))
+          ∙ sym (more ∙ ap (λ (xs : _). filter names (take i infos) ++ xs)
+          (cond-true (names info) (info ∷ []) [] (sym is ∙ w.if-is_named.true)))
       | else-is_named w ↦
           w.live-is ∙ c.loop-info.invariant
-          ∙ sym (more ∙ ap (λ (xs : _). filter names (take i infos) ++ xs) (cond-false (names info) (info ∷ []) [] (sym is ∙ w.if-is_named.false)) ∙ append-nil _)
+          ∙ sym (more ∙ ap (λ (xs : _). filter names (take i infos) ++ xs)
+          (cond-false (names info) (info ∷ []) [] (sym is ∙ w.if-is_named.false)) ∙ append-nil _)
     ]
 
 pub returns : goal.returns
 unfolding live_infos
 returns c =
     let names = names_block (log_state c.args.parts.now) in
-    c.loop-info.invariant ∙ ap (filter names) (take_all c.loop-info.info-index c.items-info-items.result.now c.loop-info-test.false)
+    c.loop-info.invariant ∙ ap (filter names)
+    (take_all c.loop-info.info-index c.items-info-items.result.now c.loop-info-test.false)
     ∙ ap (filter names) (c.items-info-items.ensures.items ∙ c.infos-infos.ensures.infos)

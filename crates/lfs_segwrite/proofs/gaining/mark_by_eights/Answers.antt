@@ -19,8 +19,10 @@ pub mark_eight-requires-clause-room : goal.mark_eight-requires-clause-room
 mark_eight-requires-clause-room c =
     let infos = c.args.infos.now in
     let k = c.loop-k.k in
-    subst (λ marks. (0 < c.loop-k.parts.log.clean) ⊎ (blocks_to_mark marks ≤ room_of c.loop-k.parts.log.memory)) (sym c.eight.ensures.eight)
-    (room_next (blocks_by_eights infos) (widest_eight infos) (total (eight_blocks infos) k) (eight_blocks infos k) c.args.parts.now c.loop-k.parts c.requires.worth
+    subst (λ marks. (0 < c.loop-k.parts.log.clean) ⊎ (blocks_to_mark marks ≤ room_of c.loop-k.parts.log.memory))
+    (sym c.eight.ensures.eight)
+    (room_next (blocks_by_eights infos) (widest_eight infos) (total (eight_blocks infos) k)
+    (eight_blocks infos k) c.args.parts.now c.loop-k.parts c.requires.worth
     c.loop-k.invariant.spent (total_part infos k (omega (arith, c.eights-count.ensures, c.loop-k-test.true))))
 
 pub loop-k-preserved : goal.loop-k-preserved
@@ -28,6 +30,8 @@ loop-k-preserved c =
     let infos = c.args.infos.now in
     let k = c.loop-k.k in
     let e = c.mark_eight.ensures in
-    eights_more infos k e.marked.0 c.args.parts.now c.loop-k.parts c.mark_eight.new.parts c.requires.worth c.requires.dirty (omega (arith, c.eights-count.ensures, c.loop-k-test.true))
+    eights_more infos k e.marked.0 c.args.parts.now c.loop-k.parts c.mark_eight.new.parts c.requires.worth
+    c.requires.dirty (omega (arith, c.eights-count.ensures, c.loop-k-test.true))
     c.loop-k.invariant e.store e.settled e.content
-    (subst (λ marks. MarksSettled marks e.marked.0 c.loop-k.parts c.mark_eight.new.parts) c.eight.ensures.eight e.marked.1)
+    (subst (λ marks. MarksSettled marks e.marked.0 c.loop-k.parts c.mark_eight.new.parts) c.eight.ensures.eight
+    e.marked.1)

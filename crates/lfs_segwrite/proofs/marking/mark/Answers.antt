@@ -3,7 +3,8 @@ use Rattle.lfs_segwrite.specs.Marking.{LacksRoomFor}
 use Rattle.lfs_segwrite.proofs.MarkedLemmas.{marks_after}
 use Rattle.lfs_segwrite.proofs.marking.mark.Goals as goal
 
-if_ok : {E : Type 0} (r : Result ℕ E) (P Q R : ℕ → Type 0) → ((n : ℕ) → P n → R n → Q n) → IfOk r P → IfOk r R → IfOk r Q
+if_ok : {E : Type 0} (r : Result ℕ E) (P Q R : ℕ → Type 0) → ((n : ℕ) → P n → R n → Q n) → IfOk r P → IfOk r R
+    → IfOk r Q
 if_ok (Ok n) P Q R f p s = f n p s
 if_ok (Err e) P Q R f p s = tt
 
@@ -14,13 +15,16 @@ on_err (Err e) P Q R f p q = f p q
 pub returns-clause-marked : goal.returns-clause-marked
 returns-clause-marked c =
     if_ok c.mark_settled.result _ _ _ (λ count again last.
-    marks_after c.args.marks.now count c.args.parts.now c.write_waiting.new.parts c.mark_settled.new.parts c.requires.store c.write_waiting.ensures.store
-    c.mark_settled.ensures.store c.write_waiting.ensures again (λ few some free. last (c.has_few_clean-careful.ensures.1 few) some free)) c.mark_settled.ensures.marked
+    marks_after c.args.marks.now count c.args.parts.now c.write_waiting.new.parts c.mark_settled.new.parts
+    c.requires.store c.write_waiting.ensures.store
+    c.mark_settled.ensures.store c.write_waiting.ensures again
+    (λ few some free. last (c.has_few_clean-careful.ensures.1 few) some free)) c.mark_settled.ensures.marked
     c.mark_settled.ensures.last
 
 pub returns-clause-lacking : goal.returns-clause-lacking
 returns-clause-lacking c =
-    on_err c.mark_settled.result _ _ _ (λ same lacks. subst (LacksRoomFor c.args.marks.now) (sym same) lacks) c.mark_settled.ensures.refused
+    on_err c.mark_settled.result _ _ _ (λ same lacks. subst (LacksRoomFor c.args.marks.now) (sym same) lacks)
+    c.mark_settled.ensures.refused
     c.mark_settled.ensures.lacking
 
 pub returns-clause-reserved : goal.returns-clause-reserved

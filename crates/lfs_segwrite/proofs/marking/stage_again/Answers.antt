@@ -19,16 +19,20 @@ stage_parents-requires-clause-room c =
 pub returns-in-Record-clause-staged : goal.returns-in-Record-clause-staged
 returns-in-Record-clause-staged c =
     record_staged c.args.parts.now c.stage_parents.new.self c.args.inode.now c.requires.may
-    (subst (λ b. StagesParents c.args.inode.now.number b c.args.parts.now c.stage_parents.new.self) c.in-Record.is c.stage_parents.ensures) c.requires.staged
+    (subst (λ b. StagesParents c.args.inode.now.number b c.args.parts.now c.stage_parents.new.self) c.in-Record.is
+    c.stage_parents.ensures) c.requires.staged
 
 pub returns-in-Record-clause-again : goal.returns-in-Record-clause-again
 returns-in-Record-clause-again c =
-    subst (λ b. StagesAgain c.args.inode.now.number (code_of b) c.args.parts.now c.stage_parents.new.self) (sym c.in-Record.is)
+    subst (λ b. StagesAgain c.args.inode.now.number (code_of b) c.args.parts.now c.stage_parents.new.self)
+    (sym c.in-Record.is)
     (record_again c.args.parts.now c.stage_parents.new.self c.args.inode.now
-    (subst (λ b. StagesParents c.args.inode.now.number b c.args.parts.now c.stage_parents.new.self) c.in-Record.is c.stage_parents.ensures))
+    (subst (λ b. StagesParents c.args.inode.now.number b c.args.parts.now c.stage_parents.new.self) c.in-Record.is
+    c.stage_parents.ensures))
 
 pub stage_moved-requires-clause-other : goal.stage_moved-requires-clause-other
-stage_moved-requires-clause-other c = λ e. c.in_default.not-Record (same_block c.args.block Record c.requires.block tt e)
+stage_moved-requires-clause-other c = λ e. c.in_default.not-Record
+    (same_block c.args.block Record c.requires.block tt e)
 
 pub stage_moved-requires-clause-here : goal.stage_moved-requires-clause-here
 stage_moved-requires-clause-here c = c.requires.here (stage_moved-requires-clause-other c)
@@ -44,9 +48,11 @@ other_code c = λ e. c.in_default.not-Record (same_block c.args.block Record c.r
 
 pub returns-in_default-clause-staged : goal.returns-in_default-clause-staged
 returns-in_default-clause-staged c =
-    table_staged_still c.args.parts.now c.stage_moved.new.parts c.args.inode.now c.args.block c.requires.may c.requires.block
+    table_staged_still c.args.parts.now c.stage_moved.new.parts c.args.inode.now c.args.block c.requires.may
+    c.requires.block
     (c.requires.within (other_code c)) c.stage_moved.ensures 0 c.requires.staged
 
 pub returns-in_default-clause-again : goal.returns-in_default-clause-again
 returns-in_default-clause-again c =
-    block_again c.args.parts.now c.stage_moved.new.parts c.args.inode.now c.args.block c.requires.block (other_code c) c.stage_moved.ensures
+    block_again c.args.parts.now c.stage_moved.new.parts c.args.inode.now c.args.block c.requires.block
+    (other_code c) c.stage_moved.ensures

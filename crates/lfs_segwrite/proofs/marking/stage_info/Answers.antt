@@ -11,14 +11,16 @@ use Rattle.lfs_segwrite.proofs.marking.stage_info.Goals as goal
 pub record_in_use-inode-requires-clause-in_use : goal.record_in_use-inode-requires-clause-in_use
 record_in_use-inode-requires-clause-in_use c =
     let info = c.args.info.now in
-    place_used c.args.parts.now info.ino (code_named info.lbn) c.requires.staged (named_there (log_state c.args.parts.now) info c.requires.named).0
+    place_used c.args.parts.now info.ino (code_named info.lbn) c.requires.staged
+    (named_there (log_state c.args.parts.now) info c.requires.named).0
 
 pub stage_again-requires-clause-may : goal.stage_again-requires-clause-may
 stage_again-requires-clause-may c =
     let p = c.args.parts.now in
     let info = c.args.info.now in
     let there = (named_there (log_state p) info c.requires.named).0 in
-    place_may p info.ino (code_named info.lbn) c.requires.staged there c.record_in_use-inode.result c.record_in_use-inode.ensures.here c.requires.records
+    place_may p info.ino (code_named info.lbn) c.requires.staged there c.record_in_use-inode.result
+    c.record_in_use-inode.ensures.here c.requires.records
 
 pub stage_again-requires-clause-within : goal.stage_again-requires-clause-within
 stage_again-requires-clause-within c = λ other.
@@ -26,7 +28,8 @@ stage_again-requires-clause-within c = λ other.
     let info = c.args.info.now in
     let there = (named_there (log_state p) info c.requires.named).0 in
     let found = c.in-Some.ensures.found in
-    place_within p info.ino (code_named info.lbn) c.requires.staged there c.record_in_use-inode.result c.record_in_use-inode.ensures.here c.in-Some.block found.0 (found.1 ∙ c.code_named.ensures) other
+    place_within p info.ino (code_named info.lbn) c.requires.staged there c.record_in_use-inode.result
+    c.record_in_use-inode.ensures.here c.in-Some.block found.0 (found.1 ∙ c.code_named.ensures) other
 
 pub stage_again-requires-clause-here : goal.stage_again-requires-clause-here
 stage_again-requires-clause-here c = λ other.
@@ -36,7 +39,8 @@ stage_again-requires-clause-here c = λ other.
     let there = (named_there (log_state p) info c.requires.named).0 in
     let found = c.in-Some.ensures.found in
     let is = found.1 ∙ c.code_named.ensures in
-    place_address p info.ino code c.requires.staged there c.record_in_use-inode.result c.record_in_use-inode.ensures.here c.in-Some.block found.0 is (λ none. other (is ∙ none)) info.addr
+    place_address p info.ino code c.requires.staged there c.record_in_use-inode.result
+    c.record_in_use-inode.ensures.here c.in-Some.block found.0 is (λ none. other (is ∙ none)) info.addr
     (named_place (log_state p) info c.requires.named)
 
 pub unreachable-requires : goal.unreachable-requires

@@ -14,34 +14,42 @@ use Rattle.lfs_segwrite.proofs.marking.stage_moved.Goals as goal
 
 pub bytes_to_move-bytes-requires-clause-inside : goal.bytes_to_move-bytes-requires-clause-inside
 bytes_to_move-bytes-requires-clause-inside c =
-    subst (λ a. a < blocks_of c.args.parts.now) c.requires.here (c.requires.may.inside.each c.args.block c.requires.block)
+    subst (λ a. a < blocks_of c.args.parts.now) c.requires.here
+    (c.requires.may.inside.each c.args.block c.requires.block)
 
 pub bytes_to_move-bytes-requires-clause-here : goal.bytes_to_move-bytes-requires-clause-here
 bytes_to_move-bytes-requires-clause-here c =
     let p = c.args.parts.now in let v = c.args.inode.now in
-    let same = tree_from-of p v.number v c.requires.may.here (c.requires.may.files.files v.number (fields_of v) c.requires.may.here) in
+    let same = tree_from-of p v.number v c.requires.may.here
+    (c.requires.may.files.files v.number (fields_of v) c.requires.may.here) in
     ap (λ t. address t (way_to c.args.block)) same ∙ c.requires.here
 
 pub stage_parents-requires-clause-room : goal.stage_parents-requires-clause-room
-stage_parents-requires-clause-room c = frames_above c.args.parts.now c.args.inode.now.number c.args.block c.requires.block c.requires.other c.requires.room
+stage_parents-requires-clause-room c = frames_above c.args.parts.now c.args.inode.now.number c.args.block
+    c.requires.block c.requires.other c.requires.room
 
 pub stage_block-requires-clause-version : goal.stage_block-requires-clause-version
 stage_block-requires-clause-version c =
     let v = c.args.inode.now in
-    (present_kept c.args.parts.now c.stage_parents.new.self v.number v.version c.stage_parents.ensures.same.log (may_present c.args.parts.now v c.requires.may)).at_version
+    (present_kept c.args.parts.now c.stage_parents.new.self v.number v.version c.stage_parents.ensures.same.log
+    (may_present c.args.parts.now v c.requires.may)).at_version
 
 pub stage_block-requires-clause-room : goal.stage_block-requires-clause-room
 stage_block-requires-clause-room c =
     let p = c.args.parts.now in let q = c.stage_parents.new.self in let v = c.args.inode.now in
     let parents = c.stage_parents.ensures in
-    subst (λ n. IsLocked (key_of v.number n (code_of c.args.block)) q.cache ⊎ (length q.cache.locked < 24)) (sym (stage_block-requires-clause-version c))
-    (block_room p q v.number c.args.block c.requires.block c.requires.other (version-same p q v.number parents.same.log) parents.takes parents.files.cache c.requires.room)
+    subst (λ n. IsLocked (key_of v.number n (code_of c.args.block)) q.cache ⊎ (length q.cache.locked < 24))
+    (sym (stage_block-requires-clause-version c))
+    (block_room p q v.number c.args.block c.requires.block c.requires.other
+    (version-same p q v.number parents.same.log) parents.takes parents.files.cache c.requires.room)
 
 -- the bytes are those that the block has, with its parents waiting too
 pub returns : goal.returns
 returns c =
-    let p = c.args.parts.now in let q = c.stage_parents.new.self in let v = c.args.inode.now in let block = c.args.block in
-    let same = tree_from-of p v.number v c.requires.may.here (c.requires.may.files.files v.number (fields_of v) c.requires.may.here) in
+    let p = c.args.parts.now in let q = c.stage_parents.new.self in let v = c.args.inode.now in let block =
+    c.args.block in
+    let same = tree_from-of p v.number v c.requires.may.here
+    (c.requires.may.files.files v.number (fields_of v) c.requires.may.here) in
     let parents = c.stage_parents.ensures in
     let bytes : c.bytes_to_move-bytes.result ≡ read (tree_of q v.number) (way_to block)
     = c.bytes_to_move-bytes.ensures ∙ ap (λ t. read t (way_to block)) same

@@ -1,27 +1,35 @@
 use Rattle.std.proofs.Common.{◌≡◌, ◌++◌, ◌∷◌, [], refl}
 use Rattle.lfs_staging.specs.declared.parts.Parts.{Parts}
-use Rattle.lfs_segwrite.proofs.SettleLemmas.{Settles, last_low, last_move, last_present, settled_advances, settled_staged}
+use Rattle.lfs_segwrite.proofs.SettleLemmas.{Settles, last_low, last_move, last_present, settled_advances}
+use Rattle.lfs_segwrite.proofs.SettleLemmas.{settled_staged}
 use Rattle.lfs_segwrite.proofs.records.settle_record.Goals as goal
 
 pub place_record-requires-clause-in_range : goal.place_record-requires-clause-in_range
 place_record-requires-clause-in_range c =
     let items : c.args.parts.now.waiting ≡ c.pop-inode.new.self ++ c.pop-inode.result ∷ [] = c.pop-inode.ensures in
-    last_low c.args.parts.now c.pop-inode.result c.pop-inode.new.self c.args.address c.args.slot 0 c.requires.staged items (c.requires.stands _ _ items)
+    last_low c.args.parts.now c.pop-inode.result c.pop-inode.new.self c.args.address c.args.slot 0 c.requires.staged
+    items (c.requires.stands _ _ items)
 
 pub place_record-requires-clause-used : goal.place_record-requires-clause-used
 place_record-requires-clause-used c =
     let items : c.args.parts.now.waiting ≡ c.pop-inode.new.self ++ c.pop-inode.result ∷ [] = c.pop-inode.ensures in
-    (last_present c.args.parts.now c.pop-inode.result c.pop-inode.new.self c.args.address c.args.slot 0 c.requires.staged items (c.requires.stands _ _ items)).in_use
+    (last_present c.args.parts.now c.pop-inode.result c.pop-inode.new.self c.args.address c.args.slot 0
+    c.requires.staged items (c.requires.stands _ _ items)).in_use
 
 pub place_record-requires-clause-moves : goal.place_record-requires-clause-moves
 place_record-requires-clause-moves c =
     let items : c.args.parts.now.waiting ≡ c.pop-inode.new.self ++ c.pop-inode.result ∷ [] = c.pop-inode.ensures in
-    last_move c.args.parts.now c.pop-inode.result c.pop-inode.new.self c.args.address c.args.slot 0 c.requires.staged items (c.requires.stands _ _ items)
+    last_move c.args.parts.now c.pop-inode.result c.pop-inode.new.self c.args.address c.args.slot 0 c.requires.staged
+    items (c.requires.stands _ _ items)
 
 pub returns-clause-staged : goal.returns-clause-staged
 returns-clause-staged c =
     let items : c.args.parts.now.waiting ≡ c.pop-inode.new.self ++ c.pop-inode.result ∷ [] = c.pop-inode.ensures in
-    let q : Parts = record { log = c.place_record.new.self; cache = c.args.parts.now.cache; waiting = c.pop-inode.new.self } in
+    let q : Parts = record {
+      log = c.place_record.new.self;
+      cache = c.args.parts.now.cache;
+      waiting = c.pop-inode.new.self;
+    } in
     let h : Settles c.args.parts.now q c.pop-inode.result c.pop-inode.new.self c.args.address c.args.slot = record {
       staged = c.requires.staged;
       no_frame = c.requires.no_frame;
@@ -43,7 +51,11 @@ returns-clause-staged c =
 pub returns-clause-advances : goal.returns-clause-advances
 returns-clause-advances c =
     let items : c.args.parts.now.waiting ≡ c.pop-inode.new.self ++ c.pop-inode.result ∷ [] = c.pop-inode.ensures in
-    let q : Parts = record { log = c.place_record.new.self; cache = c.args.parts.now.cache; waiting = c.pop-inode.new.self } in
+    let q : Parts = record {
+      log = c.place_record.new.self;
+      cache = c.args.parts.now.cache;
+      waiting = c.pop-inode.new.self;
+    } in
     let h : Settles c.args.parts.now q c.pop-inode.result c.pop-inode.new.self c.args.address c.args.slot = record {
       staged = c.requires.staged;
       no_frame = c.requires.no_frame;

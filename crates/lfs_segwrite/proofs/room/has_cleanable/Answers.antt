@@ -11,4 +11,5 @@ found (Some s) S has = (λ is. (s, has), λ any. refl)
 pub returns : goal.returns
 returns c =
     let could : ℕ → Type 0 = HasCleanable c.args.parts.now c.args.opens c.args.besides c.args.blocks in
-    subst (λ (b : Bool). IsTrue b ↔ ((s : ℕ) × could s)) (sym c.is_some.ensures) (found c.cleanable.result could c.cleanable.ensures)
+    subst (λ (b : Bool). IsTrue b ↔ ((s : ℕ) × could s)) (sym c.is_some.ensures)
+    (found c.cleanable.result could c.cleanable.ensures)

@@ -8,7 +8,11 @@ pub returns-then-room-blocks-clause-room : goal.returns-then-room-blocks-clause-
 returns-then-room-blocks-clause-room c = omega (arith, c.room.ensures.room, c.if-room-blocks.true)
 
 pub returns-clause-opened : goal.returns-clause-opened
-returns-clause-opened c = λ short. (omega (arith, c.clean.ensures.clean, c.if-clean-reserve.false), c.open_segment.ensures.clean, c.open_segment.ensures.was_clean)
+returns-clause-opened c = λ short. (
+  omega (arith, c.clean.ensures.clean, c.if-clean-reserve.false),
+  c.open_segment.ensures.clean,
+  c.open_segment.ensures.was_clean,
+)
 
 pub returns-then-room-blocks-clause-opened : goal.returns-then-room-blocks-clause-opened
 returns-then-room-blocks-clause-opened c = search rules

@@ -9,5 +9,6 @@ flush-requires-clause-room c =
 
 pub returns : goal.returns
 returns c =
-    writes_waiting c.args.parts.now c.make_room.new.parts c.flush.new.parts c.blocks_to_write-blocks.result c.blocks_to_write-blocks.ensures.blocks c.in-Ok.ensures.store
+    writes_waiting c.args.parts.now c.make_room.new.parts c.flush.new.parts c.blocks_to_write-blocks.result
+    c.blocks_to_write-blocks.ensures.blocks c.in-Ok.ensures.store
     c.in-Ok.ensures.files c.in-Ok.ensures.enough c.in-Ok.ensures.opened c.in-Ok.ensures.fresh c.flush.ensures

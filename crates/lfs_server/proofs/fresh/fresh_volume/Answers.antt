@@ -13,4 +13,5 @@ returns-clause-ranges c = record {
 }
 
 pub returns-clause-fresh : goal.returns-clause-fresh
-returns-clause-fresh c = let log = fresh_log _ _ _ _ c.in_ok-store.ensures.opening c.in_ok-store.ensures.laid_out in search rules
+returns-clause-fresh c = let log = fresh_log _ _ _ _ c.in_ok-store.ensures.opening c.in_ok-store.ensures.laid_out in
+    search rules

@@ -18,5 +18,9 @@ spawn-requires-send-F g c κs within =
     let F = param 3 g.row.F in
     let G = param 5 g.row.G in
     let captured : List RattleType = server.the_row a S R F G g.S.Sizes g.F.FileStore ∷ param 4 g.row.C ∷ [] in
-    let all : AllSend captured = (server_send a S R F G g.S.Sizes g.F.FileStore bounds.send-S bounds.sync-R bounds.send-F bounds.sync-G, (bounds.send-C, tt)) in
+    let all : AllSend captured = (
+      server_send a S R F G g.S.Sizes g.F.FileStore bounds.send-S bounds.sync-R
+          bounds.send-F bounds.sync-G,
+      (bounds.send-C, tt),
+    ) in
     closure_send 1 _ no _ captured all

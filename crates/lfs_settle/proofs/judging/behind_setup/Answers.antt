@@ -7,4 +7,5 @@ pub returns : goal.returns
 returns c =
     let none : (length c.loop-call.given.now == 0) ≡ true = cc in
     (c.loop-call.invariant c.loop-call.rest.now).0
-    (begun_whole c.args.is_full c.loop-call.rest.now c.loop-call.calls.now c.loop-call.given.now c.in_default.ensures.cases (eqb-true _ _ none))
+    (begun_whole c.args.is_full c.loop-call.rest.now c.loop-call.calls.now c.loop-call.given.now
+    c.in_default.ensures.cases (eqb-true _ _ none))

@@ -12,7 +12,8 @@ returns-clause-entered c =
     ∙ ap (λ (t : Tables). raised_version (row_of t 2).version) c.requires.fresh ∙ fresh_version inodes in
     let given = c.give_out.ensures.given ∙ ap (λ v. with_row c.args.log.now.tables 2 (given_row v)) first
     ∙ ap (λ t. with_row t 2 (given_row 1)) c.requires.fresh in
-    root_entered segments inodes c.give_out.new.self c.place_record.new.self (omega (arith, c.requires.formed.formed.inodes_least))
+    root_entered segments inodes c.give_out.new.self c.place_record.new.self
+    (omega (arith, c.requires.formed.formed.inodes_least))
     (omega (arith, c.requires.formed.formed.segments_least)) given c.give_out.ensures.kept c.place_record.ensures.kept
     c.place_record.ensures.memory c.place_record.ensures.row c.place_record.ensures.rows c.place_record.ensures.inodes
     c.place_record.ensures.live c.place_record.ensures.states

@@ -18,13 +18,26 @@ none_behind v (suc k) behind = refl
 pub returns-clause-written : goal.returns-clause-written
 returns-clause-written c =
     let memory = c.put.new.self.memory in
-    let active : memory.active ≡ 0 = c.put.ensures.extends.active ∙ c.begin.ensures.extends.active ∙ c.requires.active in
+    let active : memory.active ≡ 0 = c.put.ensures.extends.active ∙ c.begin.ensures.extends.active
+    ∙ c.requires.active in
     let between : c.begin.new.self.memory.active ≡ 0 = c.begin.ensures.extends.active ∙ c.requires.active in
-    let first : c.put.result ≡ 2 = omega (arith, c.requires.active, c.requires.filled, c.begin.ensures.next, c.put.ensures.address) in
+    let first : c.put.result ≡ 2 = omega (
+      arith,
+      c.requires.active,
+      c.requires.filled,
+      c.begin.ensures.next,
+      c.put.ensures.address,
+    ) in
     let began = c.begin.new.self.memory in
     let start : c.begin.result ≡ 1 = omega (arith, c.requires.active, c.requires.filled, c.begin.ensures.address) in
     let kept : block_at memory 1 ≡ block_at began c.begin.result =
-    c.put.ensures.extends.blocks 1 (inl (omega (arith, between, c.requires.filled, c.requires.active, c.begin.ensures.next))) ∙ ap (block_at began) (sym start) in
+    c.put.ensures.extends.blocks 1 (inl (omega (
+      arith,
+      between,
+      c.requires.filled,
+      c.requires.active,
+      c.begin.ensures.next,
+    ))) ∙ ap (block_at began) (sym start) in
     let names = c.put.ensures.names inodes_entry [] c.begin.ensures.expects in
     let attributes = c.new-root.ensures.attributes ∙ ap (λ a. attributes_from 2 1 a 0) c.root_attrs.ensures in
     let addresses = c.new-root.ensures.addresses in
@@ -34,7 +47,8 @@ returns-clause-written c =
       ready = c.put.ensures.expects inodes_entry [] c.begin.ensures.expects;
       summary = subst (λ b. IsSummaryOf b 0 1 (inodes_entry ∷ [])) (sym kept)
           (subst (λ s. IsSummaryOf (block_at began c.begin.result) s 1 (inodes_entry ∷ [])) c.requires.active
-          (subst (λ o. IsSummaryOf (block_at began c.begin.result) c.args.log.now.memory.active o (inodes_entry ∷ [])) c.requires.filled c.begin.ensures.summary));
+          (subst (λ o. IsSummaryOf (block_at began c.begin.result) c.args.log.now.memory.active o (inodes_entry ∷ []))
+          c.requires.filled c.begin.ensures.summary));
       entry = ap (entry_at memory) (sym first) ∙ names;
       root = ap (λ a. fields_in (slot_of (block_at memory a) 0)) (sym first)
           ∙ ap (λ b. fields_in (slot_of b 0)) c.put.ensures.block ∙ c.packed.ensures.reading 0 (omega arith)

@@ -9,7 +9,8 @@ returns c =
     let count = c.min-count.result in
     let first = c.len-2.result - count in
     let long = c.args.waiting.now.ok.0 in
-    let least : (count ≤ 4) × (length xs - 4 ≡ first) = (omega (arith, c.min-count.ensures), omega (arith, c.min-count.ensures)) in
+    let least : (count ≤ 4) × (length xs - 4 ≡ first) =
+    (omega (arith, c.min-count.ensures), omega (arith, c.min-count.ensures)) in
     let whole = c.loop-place.invariant.long in
     let test = c.loop-place-test.false in
     let taken : length (take count records) ≡ count = length-take-le count records (omega (arith, least.0)) in

@@ -6,5 +6,6 @@ use Rattle.lfs_staging.proofs.records.find_record.Goals as goal
 
 pub returns : goal.returns
 returns c =
-    let found = find_from_yields_List (λ (v : Inode). v.number == c.args.number) _ _ c.find.result c.find.ensures.ran (YieldsList-from_deque c.args.records.now.items c.iter.ensures.rest) (λ x b q k. search (rules, tests)) in
+    let found = find_from_yields_List (λ (v : Inode). v.number == c.args.number) _ _ c.find.result c.find.ensures.ran
+    (YieldsList-from_deque c.args.records.now.items c.iter.ensures.rest) (λ x b q k. search (rules, tests)) in
     c.copied.ensures ∙ found

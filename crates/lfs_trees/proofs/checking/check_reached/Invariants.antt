@@ -7,4 +7,5 @@ use Rattle.lfs_trees.proofs.checking.check_reached.Given as goal
 -- each number in use below this one was reached
 abbrev pub invariant-loop-number : goal.invariant-loop-number
 invariant-loop-number g l =
-    (n : ℕ) → IsSome (map.get (g.F.FileStore.state l.store).content n) → n < l.number → is_among l.walk.order.items n ≡ true
+    (n : ℕ) → IsSome (map.get (g.F.FileStore.state l.store).content n) → n < l.number → is_among l.walk.order.items n
+    ≡ true

@@ -15,26 +15,31 @@ use Rattle.lfs_trees.proofs.checking.check_tree.Goals as goal
 use Rattle.lfs_trees.proofs.checking.check_tree.Given.{Over}
 
 -- a result whose fault is one of a content says that there is no world
-no_world_of : {A : Type 0} (s : StoreState) (r : Result A TreeFault) (fault : TreeFault) → r ≡ Err fault → IsTreeFaultOf s.content fault
+no_world_of : {A : Type 0} (s : StoreState) (r : Result A TreeFault) (fault : TreeFault) → r ≡ Err fault
+    → IsTreeFaultOf s.content fault
     → IfErr r (λ f. (f ≡ Memory → ⊥) → HasWorld s → ⊥)
 no_world_of s r fault is h = subst (λ x. IfErr x (λ f. (f ≡ Memory → ⊥) → HasWorld s → ⊥)) (sym is) (no_world s fault h)
 
 pub returns-in_err-check_root-clause-no_world : goal.returns-in_err-check_root-clause-no_world
 returns-in_err-check_root-clause-no_world g c =
     let p = err_from_is_err_and c.from_residual.result c.from_residual.ensures.1 in
-    no_world_of (g.F.FileStore.state c.args.store.now) c.from_residual.result c.in_err-check_root.field-0.0 (p.1 ∙ ap Err p.2)
+    no_world_of (g.F.FileStore.state c.args.store.now) c.from_residual.result c.in_err-check_root.field-0.0 (p.1
+    ∙ ap Err p.2)
     c.in_err-check_root.ensures.fault
 
 pub returns-in_err-check_files-clause-no_world : goal.returns-in_err-check_files-clause-no_world
 returns-in_err-check_files-clause-no_world g c =
-    let p = err_from_is_err_and c.from_residual-in_err-check_files.result c.from_residual-in_err-check_files.ensures.1 in
-    no_world_of (g.F.FileStore.state c.args.store.now) c.from_residual-in_err-check_files.result c.in_err-check_files.field-0.0 (p.1 ∙ ap Err p.2)
+    let p = err_from_is_err_and c.from_residual-in_err-check_files.result c.from_residual-in_err-check_files.ensures.1
+    in
+    no_world_of (g.F.FileStore.state c.args.store.now) c.from_residual-in_err-check_files.result
+    c.in_err-check_files.field-0.0 (p.1 ∙ ap Err p.2)
     c.in_err-check_files.ensures.fault
 
 pub returns-in_err-walk-clause-no_world : goal.returns-in_err-walk-clause-no_world
 returns-in_err-walk-clause-no_world g c =
     let p = err_from_is_err_and c.from_residual-in_err-walk.result c.from_residual-in_err-walk.ensures.1 in
-    no_world_of (g.F.FileStore.state c.args.store.now) c.from_residual-in_err-walk.result c.in_err-walk.field-0.0 (p.1 ∙ ap Err p.2)
+    no_world_of (g.F.FileStore.state c.args.store.now) c.from_residual-in_err-walk.result c.in_err-walk.field-0.0 (p.1
+    ∙ ap Err p.2)
     c.in_err-walk.ensures.fault
 
 pub returns-clause-ok : goal.returns-clause-ok
@@ -49,13 +54,15 @@ returns-clause-ok g c =
     c.check_reached.ensures.all
 
 -- what the last check says
-told : (g : Over) (c : goal.After-drop-walk-2 g) → IfErr c.check_reached.result (IsTreeFaultOf (g.F.FileStore.state c.args.store.now).content)
+told : (g : Over) (c : goal.After-drop-walk-2 g)
+    → IfErr c.check_reached.result (IsTreeFaultOf (g.F.FileStore.state c.args.store.now).content)
 told g c =
     let content = (g.F.FileStore.state c.args.store.now).content in
     let walk = c.in_ok-walk.walk in
     IfErr-weaker c.check_reached.result (IsLeftOut content walk) (IsTreeFaultOf content)
     (λ fault h. left_out content walk fault c.in_ok-walk.ensures.read h)
-    (subst (λ (x : Content). IfErr c.check_reached.result (IsLeftOut x walk)) (same_content c.in_ok-walk.ensures.state) c.check_reached.ensures.fault)
+    (subst (λ (x : Content). IfErr c.check_reached.result (IsLeftOut x walk))
+    (same_content c.in_ok-walk.ensures.state) c.check_reached.ensures.fault)
 
 pub returns-clause-fault : goal.returns-clause-fault
 returns-clause-fault g c = told g c
@@ -63,4 +70,5 @@ returns-clause-fault g c = told g c
 pub returns-clause-no_world : goal.returns-clause-no_world
 returns-clause-no_world g c =
     let state = g.F.FileStore.state c.args.store.now in
-    IfErr-weaker c.check_reached.result (IsTreeFaultOf state.content) (λ f. (f ≡ Memory → ⊥) → HasWorld state → ⊥) (no_world state) (told g c)
+    IfErr-weaker c.check_reached.result (IsTreeFaultOf state.content) (λ f. (f ≡ Memory → ⊥) → HasWorld state → ⊥)
+    (no_world state) (told g c)

@@ -16,7 +16,8 @@ loop-number-preserved g c = λ n f e below. ⊎_elim
     elim c.match-attrs.branch [
       | in-Some+in_ok-check_file w ↦
           subst (λ k. MayStand k f.kind (length f.bytes)) (sym same)
-          (stands_here content number w.in-Some.attrs (sym w.in-Some.is ∙ c.attrs.ensures) w.in_ok-check_file.ensures.ok f there)
+          (stands_here content number w.in-Some.attrs (sym w.in-Some.is
+          ∙ c.attrs.ensures) w.in_ok-check_file.ensures.ok f there)
       | in_default w ↦ absurd (cc (attrs_here content number f None (sym w.in_default.is ∙ c.attrs.ensures) there))
     ])
     (λ apart. c.loop-number.invariant n f e (omega arith))

@@ -16,22 +16,26 @@ loop-number-init g c = record {
 }
 
 pub read_number-requires-clause-files : goal.read_number-requires-clause-files
-read_number-requires-clause-files g c = subst AreFiles (sym (same_content c.loop-number.invariant.state)) c.requires.files
+read_number-requires-clause-files g c = subst AreFiles
+    (sym (same_content c.loop-number.invariant.state)) c.requires.files
 
 pub read_number-requires-clause-stands : goal.read_number-requires-clause-stands
 read_number-requires-clause-stands g c =
-    subst (λ (x : Content). Stands x c.loop-number.walk) (sym (same_content c.loop-number.invariant.state)) c.loop-number.invariant.stands
+    subst (λ (x : Content). Stands x c.loop-number.walk)
+    (sym (same_content c.loop-number.invariant.state)) c.loop-number.invariant.stands
 
 pub loop-number-preserved : goal.loop-number-preserved
 loop-number-preserved g c =
     let steps = c.in_ok-read_number.ensures.steps in
     record {
-      stands = subst (λ (x : Content). Stands x c.read_number.new.walk) (same_content c.loop-number.invariant.state) steps.stands;
+      stands = subst (λ (x : Content). Stands x c.read_number.new.walk)
+          (same_content c.loop-number.invariant.state) steps.stands;
       numbers = steps.numbers ∙ c.loop-number.invariant.numbers;
       state = c.in_ok-read_number.ensures.state ∙ c.loop-number.invariant.state;
     }
 
 pub returns-clause-read : goal.returns-clause-read
 returns-clause-read g c =
-    all_read (g.F.FileStore.state c.args.store.now).content c.loop-number.walk (sym c.next.ensures.next ∙ c.in_default.is)
+    all_read (g.F.FileStore.state c.args.store.now).content c.loop-number.walk (sym c.next.ensures.next
+    ∙ c.in_default.is)
     c.loop-number.invariant.stands

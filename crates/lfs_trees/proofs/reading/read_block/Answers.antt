@@ -22,11 +22,13 @@ loop-number-init g c =
       is_finite = tt;
       part = record {
         read = entries_below bytes c.args.index;
-        parts = ap (λ es. entries_below bytes c.args.index ++ es) (entries ∙ ap entries_of c.block_of-block.ensures.block)
+        parts = ap (λ es. entries_below bytes c.args.index ++ es) (entries
+            ∙ ap entries_of c.block_of-block.ensures.block)
             ∙ sym (below_further bytes c.args.index);
         reading = c.requires.reading;
         named = c.requires.named;
-        entries = subst AreEntries (sym entries) (c.is_directory_block.ensures.test.0 c.if-not-is_directory_block.false).entries;
+        entries = subst AreEntries (sym entries)
+            (c.is_directory_block.ensures.test.0 c.if-not-is_directory_block.false).entries;
       };
       state = c.block_of-block.ensures.state;
     }
@@ -37,14 +39,17 @@ loop-number-preserved g c =
     let bytes = bytes_of content c.args.directory in
     let whole = c.requires.whole in
     let entry : Entry = (c.in-Some.number, c.in-Some.name.now) in
-    let behind = by_block bytes c.args.index whole.whole (subst (λ n. c.args.index < n) whole.counted c.requires.within) in
+    let behind = by_block bytes c.args.index whole.whole (subst (λ n. c.args.index < n) whole.counted c.requires.within)
+    in
     record {
       can_next = tt;
       is_finite = tt;
-      part = part_more content c.args.walk.now c.loop-number.walk c.loop-number.names c.args.directory (entries_below bytes (c.args.index + 1))
+      part = part_more content c.args.walk.now c.loop-number.walk c.loop-number.names c.args.directory
+          (entries_below bytes (c.args.index + 1))
           c.loop-number.number-iterator c.next.new.self behind.0 entry c.loop-number.invariant.part
           c.in-Some.ensures.steps behind.1 c.enter.new.walk c.enter.new.names
-          (subst (λ (x : Content). IsEntered x c.loop-number.walk c.loop-number.names entry c.enter.new.walk c.enter.new.names)
+          (subst (λ (x : Content). IsEntered x c.loop-number.walk c.loop-number.names entry c.enter.new.walk
+          c.enter.new.names)
           (same_content c.loop-number.invariant.state) c.in_ok-enter.ensures.entered);
       state = c.loop-number.invariant.state;
     }
@@ -55,12 +60,15 @@ returns-in_err-enter-clause-fault g c =
     let bytes = bytes_of content c.args.directory in
     let whole = c.requires.whole in
     let entry : Entry = (c.in-Some.number, c.in-Some.name.now) in
-    let behind = by_block bytes c.args.index whole.whole (subst (λ n. c.args.index < n) whole.counted c.requires.within) in
+    let behind = by_block bytes c.args.index whole.whole (subst (λ n. c.args.index < n) whole.counted c.requires.within)
+    in
     let p = err_from_is_err_and c.from_residual.result c.from_residual.ensures.1 in
     let fault = subst
-    (λ (x : Content). IsEntryFault x c.loop-number.walk c.loop-number.names c.args.directory entry c.in_err-enter.field-0.0)
+    (λ (x : Content). IsEntryFault x c.loop-number.walk c.loop-number.names c.args.directory entry
+    c.in_err-enter.field-0.0)
     (same_content c.loop-number.invariant.state) c.in_err-enter.ensures.fault in
-    let is = part_fault content c.args.walk.now c.loop-number.walk c.loop-number.names c.args.directory (entries_below bytes (c.args.index + 1))
+    let is = part_fault content c.args.walk.now c.loop-number.walk c.loop-number.names c.args.directory
+    (entries_below bytes (c.args.index + 1))
     c.loop-number.number-iterator c.next.new.self behind.0 entry c.loop-number.invariant.part
     c.in-Some.ensures.steps behind.1 c.in_err-enter.field-0.0 fault in
     subst (λ r. IfErr r (IsTreeFaultOf content)) (sym p.1) (subst (IsTreeFaultOf content) (sym p.2) is)

@@ -19,15 +19,18 @@ loop-index-init g c =
     let content = (g.F.FileStore.state c.args.store.now).content in
     let bytes = bytes_of content c.args.directory in
     record {
-      reading = subst (IsReading content c.args.walk.now c.args.walk.now c.args.directory) (sym (none_at_first bytes)) c.requires.reading;
-      named = λ name. c.new-names.ensures name ∙ sym (ap is_some (ap (number_in name) (none_at_first bytes) ∙ number_in-nil name));
+      reading = subst (IsReading content c.args.walk.now c.args.walk.now c.args.directory)
+          (sym (none_at_first bytes)) c.requires.reading;
+      named = λ name. c.new-names.ensures name
+          ∙ sym (ap is_some (ap (number_in name) (none_at_first bytes) ∙ number_in-nil name));
       blocks = λ k h. absurd (omega arith);
       state = refl;
     }
 
 pub read_block-requires-clause-whole : goal.read_block-requires-clause-whole
 read_block-requires-clause-whole g c =
-    subst (λ (x : Content). HasWhole x c.args.directory c.args.blocks) (sym (same_content c.loop-index.invariant.state)) c.requires.whole
+    subst (λ (x : Content). HasWhole x c.args.directory c.args.blocks)
+    (sym (same_content c.loop-index.invariant.state)) c.requires.whole
 
 pub read_block-requires-clause-reading : goal.read_block-requires-clause-reading
 read_block-requires-clause-reading g c =
@@ -38,7 +41,8 @@ read_block-requires-clause-reading g c =
 
 pub read_block-requires-clause-named : goal.read_block-requires-clause-named
 read_block-requires-clause-named g c =
-    subst (λ (x : Content). HasNames c.loop-index.names (entries_below (bytes_of x c.args.directory) c.loop-index.index))
+    subst (λ (x : Content). HasNames c.loop-index.names
+    (entries_below (bytes_of x c.args.directory) c.loop-index.index))
     (sym (same_content c.loop-index.invariant.state)) c.loop-index.invariant.named
 
 pub loop-index-preserved : goal.loop-index-preserved
@@ -48,12 +52,16 @@ loop-index-preserved g c =
     let dir = c.args.directory in
     let k = c.loop-index.index in
     record {
-      reading = further _ c.args.walk.now c.loop-index.walk c.read_block.new.walk c.args.directory _ _ c.loop-index.invariant.reading
-          (subst (λ (x : Content). IsReading x c.loop-index.walk c.read_block.new.walk dir (entries_below (bytes_of x dir) (k + 1)))
+      reading = further _ c.args.walk.now c.loop-index.walk c.read_block.new.walk c.args.directory _ _
+          c.loop-index.invariant.reading
+          (subst (λ (x : Content). IsReading x c.loop-index.walk c.read_block.new.walk dir
+          (entries_below (bytes_of x dir) (k + 1)))
           same read.read);
-      named = subst (λ (x : Content). HasNames c.read_block.new.names (entries_below (bytes_of x dir) (k + 1))) same read.named;
+      named = subst (λ (x : Content). HasNames c.read_block.new.names (entries_below (bytes_of x dir) (k + 1))) same
+          read.named;
       blocks = below_more _ _ c.loop-index.invariant.blocks
-          (subst (λ (x : Content). IsDirectoryBlock (block_at (bytes_of x dir) k) (entries_of (block_at (bytes_of x dir) k)))
+          (subst (λ (x : Content). IsDirectoryBlock (block_at (bytes_of x dir) k)
+          (entries_of (block_at (bytes_of x dir) k)))
           same read.block);
       state = read.state ∙ c.loop-index.invariant.state;
     }

@@ -11,7 +11,8 @@ invariant-loop-index g l = record {
   reading : IsReading (g.F.FileStore.state l.fn.store).content l.fn.walk l.walk l.directory
       (entries_below (bytes_of (g.F.FileStore.state l.fn.store).content l.directory) l.index);
   named : HasNames l.names (entries_below (bytes_of (g.F.FileStore.state l.fn.store).content l.directory) l.index);
-  blocks : (k : ℕ) → k < l.index → IsDirectoryBlock (block_at (bytes_of (g.F.FileStore.state l.fn.store).content l.directory) k)
+  blocks : (k : ℕ) → k < l.index → IsDirectoryBlock
+      (block_at (bytes_of (g.F.FileStore.state l.fn.store).content l.directory) k)
       (entries_of (block_at (bytes_of (g.F.FileStore.state l.fn.store).content l.directory) k));
   state : g.F.FileStore.state l.store ≡ g.F.FileStore.state l.fn.store;
 }

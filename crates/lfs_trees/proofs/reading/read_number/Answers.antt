@@ -16,5 +16,6 @@ pub returns-clause-steps : goal.returns-clause-steps
 returns-clause-steps g c =
     let read = c.in_ok-read_directory.ensures in
     let done = c.finish-2.ensures in
-    passes_directory (g.F.FileStore.state c.args.store.now).content c.args.walk.now c.read_directory.new.walk c.finish-2.new.self
+    passes_directory (g.F.FileStore.state c.args.store.now).content c.args.walk.now c.read_directory.new.walk
+    c.finish-2.new.self
     c.args.number read.read read.blocks done.done done.order done.numbers

@@ -5,7 +5,8 @@ use Rattle.lfs_types.proofs.path.cut_at_slash.Goals as goal
 
 pub returns-in-Some : goal.returns-in-Some
 returns-in-Some c = let cut = cut_some c.args.text.now c.in-Some.at (sym c.in-Some.ensures) in
-    let whole : take (length c.args.text.now - (c.in-Some.at + 1)) (drop (c.in-Some.at + 1) c.args.text.now) ≡ drop (c.in-Some.at + 1) c.args.text.now = grind (arith, common_steps) in
+    let whole : take (length c.args.text.now - (c.in-Some.at + 1)) (drop (c.in-Some.at + 1) c.args.text.now)
+    ≡ drop (c.in-Some.at + 1) c.args.text.now = grind (arith, common_steps) in
     rw whole (cut.0, simp (length-take, length-drop) (omega arith))
 
 pub returns-in-None : goal.returns-in-None

@@ -19,7 +19,9 @@ loop-address-preserved c =
     let at : cell.address ≡ l.address = ap (λ (x : Cell). x.address) c.next_cell.ensures.cell in
     let inside : IsIn p cell = omega arith in
     record {
-      so_far = cells_more p (c.args.segment * 64) l.address l.cells.items c.push.new.self.items cell (omega arith) l.invariant.so_far c.next_cell.ensures.cell c.in_ok-push.ensures.items;
-      within = within_more p l.cells.items c.push.new.self.items cell l.invariant.within inside c.in_ok-push.ensures.items;
+      so_far = cells_more p (c.args.segment * 64) l.address l.cells.items c.push.new.self.items cell
+          (omega arith) l.invariant.so_far c.next_cell.ensures.cell c.in_ok-push.ensures.items;
+      within = within_more p l.cells.items c.push.new.self.items cell l.invariant.within inside
+          c.in_ok-push.ensures.items;
       walked = c.next_cell.ensures.walked;
     }

@@ -6,4 +6,5 @@ loop-segment-init c = rows_none c.args.parts.now c.args.out.now.items
 
 pub loop-segment-preserved : goal.loop-segment-preserved
 loop-segment-preserved c =
-    rows_more c.args.parts.now c.args.out.now.items c.loop-segment.out.items c.push_row.new.out.items c.loop-segment.segment c.loop-segment.invariant c.in_ok-push_row.ensures
+    rows_more c.args.parts.now c.args.out.now.items c.loop-segment.out.items c.push_row.new.out.items
+    c.loop-segment.segment c.loop-segment.invariant c.in_ok-push_row.ensures

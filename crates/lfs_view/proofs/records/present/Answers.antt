@@ -10,5 +10,6 @@ pub returns : goal.returns
 returns c =
     let p = c.args.parts.now in
     let info : BlockInfo = record { ino = c.args.number; version = c.args.version; lbn = c.number.result; addr = 0 } in
-    named_address (log_state p) info c.present_address.result c.present_address.ensures.known c.present_address.ensures.unknown
+    named_address (log_state p) info c.present_address.result c.present_address.ensures.known
+    c.present_address.ensures.unknown
     ∙ ap (λ n. address_of p c.args.number c.args.version (code_named n)) c.number.ensures

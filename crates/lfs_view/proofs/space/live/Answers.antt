@@ -10,6 +10,7 @@ loop-segment-preserved c =
     let bytes = c.loop-segment.bytes in
     let live = ap (λ u. u.live) c.usage.ensures.usage in
     record {
-      is = ap (λ n. bytes + n) (c.from-bytes.ensures ∙ live) ∙ live_more c.args.parts.now c.loop-segment.segment bytes c.loop-segment.invariant.is;
+      is = ap (λ n. bytes + n) (c.from-bytes.ensures ∙ live)
+          ∙ live_more c.args.parts.now c.loop-segment.segment bytes c.loop-segment.invariant.is;
       few = omega (arith, c.loop-segment.invariant.few, c.from-bytes.ensures, c.usage.type_inv);
     }

@@ -12,11 +12,13 @@ loop-at-preserved c who =
     let before = c.loop-at-test.true in
     let long : c.loop-at.at < min (length c.args.rows.now) c.args.count = omega (arith, count, before) in
     told_more who 0 (all_posed who c.args.questions.now.items) (trail_tests who 0 0 c.args.count c.args.rows.now)
-    (all_posed who c.loop-at.questions.items) (all_posed who c.step.result) (all_posed who c.push.new.questions.items) c.args.rows.now c.loop-at.at c.args.count c.index-rows-at.result
+    (all_posed who c.loop-at.questions.items) (all_posed who c.step.result)
+    (all_posed who c.push.new.questions.items) c.args.rows.now c.loop-at.at c.args.count c.index-rows-at.result
     long c.index-rows-at.is (c.loop-at.invariant who) (c.in_ok-push.ensures who)
     (c.step.ensures who
     ∙ ap (λ (s : ShownRow). step_tests who 0 c.loop-at.at s.attrs c.is_some-there.result) (sym c.index-rows-at.is)
-    ∙ ap (λ b. step_tests who 0 c.loop-at.at c.index-rows-at.result.attrs b) (c.is_some-there.ensures ∙ ap is_some c.row_of.ensures))
+    ∙ ap (λ b. step_tests who 0 c.loop-at.at c.index-rows-at.result.attrs b) (c.is_some-there.ensures
+    ∙ ap is_some c.row_of.ensures))
 
 pub returns : goal.returns
 returns c who =

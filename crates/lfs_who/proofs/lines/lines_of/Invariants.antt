@@ -11,5 +11,6 @@ use Rattle.lfs_who.proofs.lines.lines_of.Given as goal
 abbrev pub invariant-loop-question : goal.invariant-loop-question
 invariant-loop-question l =
     (c : Caller) → All (λ (q : Asked). IsUser l.fn.user c q.condition) l.questions
-    → told_to c l.lines.items ++ left c l.groups.inside.items l.groups.outside.items (first_failing (all_posed c (drop l.question-index l.questions)))
+    → told_to c l.lines.items ++ left c l.groups.inside.items l.groups.outside.items
+    (first_failing (all_posed c (drop l.question-index l.questions)))
     ≡ first_failing (all_posed c l.questions) ∷ []

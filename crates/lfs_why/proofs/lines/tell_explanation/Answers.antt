@@ -11,10 +11,14 @@ loop-check-preserved c =
     let at = c.loop-check.check-index in
     let caller = c.args.cred.now in
     let paths = paths_of c.args.request.now c.args.explanation.now in
-    ap (λ (out : List ℕ). with_checks out caller paths (drop (at + 1) c.args.explanation.now.checks.items)) c.in_ok-push_check.ensures
-    ∙ ap (λ (l : List Check). with_checks (with_check c.loop-check.text.items caller paths c.check-item.result) caller paths (drop (at + 1) l)) (sym c.deref-check-items.ensures.value)
-    ∙ sym (line_next caller paths c.loop-check.text.items c.deref-check-items.result.now at c.check-item.result c.loop-check-test.true c.check-item.is)
-    ∙ ap (λ (l : List Check). with_checks c.loop-check.text.items caller paths (drop at l)) c.deref-check-items.ensures.value
+    ap (λ (out : List ℕ). with_checks out caller paths (drop (at + 1) c.args.explanation.now.checks.items))
+    c.in_ok-push_check.ensures
+    ∙ ap (λ (l : List Check). with_checks (with_check c.loop-check.text.items caller paths c.check-item.result) caller
+    paths (drop (at + 1) l)) (sym c.deref-check-items.ensures.value)
+    ∙ sym (line_next caller paths c.loop-check.text.items c.deref-check-items.result.now at c.check-item.result
+    c.loop-check-test.true c.check-item.is)
+    ∙ ap (λ (l : List Check). with_checks c.loop-check.text.items caller paths (drop at l))
+    c.deref-check-items.ensures.value
     ∙ c.loop-check.invariant
 
 pub returns : goal.returns
@@ -26,5 +30,6 @@ returns c =
     ∙ ap (λ (d : Option Denial). with_verdict c.loop-check.text.items d) c.verdict.ensures
     ∙ ap (λ (out : List ℕ). with_verdict out (first_failing c.args.explanation.now.checks.items))
     (sym (lines_all caller paths c.loop-check.text.items c.deref-check-items.result.now at c.loop-check-test.false)
-    ∙ ap (λ (l : List Check). with_checks c.loop-check.text.items caller paths (drop at l)) c.deref-check-items.ensures.value
+    ∙ ap (λ (l : List Check). with_checks c.loop-check.text.items caller paths (drop at l))
+    c.deref-check-items.ensures.value
     ∙ c.loop-check.invariant)

@@ -8,5 +8,6 @@ returns-then-number-lt10 c = search (rules, decimal_digit c.args.number c.if-num
 
 pub returns : goal.returns
 returns c =
-    added c.extend_from_slice.result c.extend_from_slice.new.self.items c.args.out.now.items c.as_bytes.result.now _ _ c.extend_from_slice.ensures.items
+    added c.extend_from_slice.result c.extend_from_slice.new.self.items c.args.out.now.items c.as_bytes.result.now _ _
+    c.extend_from_slice.ensures.items
     (ap (λ text. c.args.out.now.items ++ text) (c.as_bytes.ensures.value ∙ c.format.ensures.text))

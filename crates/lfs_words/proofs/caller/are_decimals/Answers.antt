@@ -7,5 +7,6 @@ use Rattle.lfs_words.proofs.caller.are_decimals.Goals as goal
 pub returns : goal.returns
 returns c =
     all_from_yields_List is_decimal _ _ _ c.all.ensures.ran
-    (YieldsList-from_str_split 44 c.args.word.now (lit< tt) c.split.ensures.text c.split.ensures.has_more c.split.ensures.pattern)
+    (YieldsList-from_str_split 44 c.args.word.now
+    (lit< tt) c.split.ensures.text c.split.ensures.has_more c.split.ensures.pattern)
     (λ x b q k. search (rules, tests))

@@ -12,6 +12,7 @@ loop-place-preserved c =
       room = ap (λ n. 2 * n) (length-set bytes place c.byte_of.result) ∙ c.loop-place.invariant.room;
       spelled =
           rw more
-          (hex_step c.args.digits.now (take place bytes) place c.byte_of.result (omega arith) c.loop-place.invariant.spelled c.byte_of.ensures);
+          (hex_step c.args.digits.now (take place bytes) place c.byte_of.result
+          (omega arith) c.loop-place.invariant.spelled c.byte_of.ensures);
       read = rw more (hex_read (take place bytes) c.byte_of.result (omega arith) c.loop-place.invariant.read);
     }

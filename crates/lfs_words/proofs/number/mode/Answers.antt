@@ -6,7 +6,8 @@ use Rattle.lfs_words.proofs.number.mode.Goals as goal
 pub returns : goal.returns
 returns c =
     c.ok_or.ensures.value
-    ∙ mode_there c.args.word.now c.in_ok-value.value c.new.result (sym c.number.ensures ∙ c.in_ok-value.was) c.new.ensures
+    ∙ mode_there c.args.word.now c.in_ok-value.value c.new.result (sym c.number.ensures
+    ∙ c.in_ok-value.was) c.new.ensures
 
 pub returns-in_err-value : goal.returns-in_err-value
 returns-in_err-value c =

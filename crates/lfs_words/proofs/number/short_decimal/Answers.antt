@@ -9,4 +9,5 @@ returns c = sym c.in_ok-value.was ∙ c.number.ensures ∙ ap (λ n. number_of 1
 pub returns-in_err-value : goal.returns-in_err-value
 returns-in_err-value c =
     let exit = err_from_is_err_and c.from_residual.result c.from_residual.ensures.1 in
-    rw (exit.1, exit.2) (sym c.in_err-value.was ∙ c.number.ensures ∙ ap (λ n. number_of 10 20 n c.args.word.now) c.from.ensures)
+    rw (exit.1, exit.2) (sym c.in_err-value.was ∙ c.number.ensures
+    ∙ ap (λ n. number_of 10 20 n c.args.word.now) c.from.ensures)

@@ -4,4 +4,7 @@ use Rattle.lfs_words.proofs.WordBytes.{decimal_word}
 use Rattle.lfs_words.proofs.spelling.spell_long.Goals as goal
 
 pub returns-clause-back : goal.returns-clause-back
-returns-clause-back c = record { word = decimal_word c.args.number (omega arith); back = long_read c.args.number (omega arith) }
+returns-clause-back c = record {
+  word = decimal_word c.args.number (omega arith);
+  back = long_read c.args.number (omega arith);
+}

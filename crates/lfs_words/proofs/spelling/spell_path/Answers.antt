@@ -6,4 +6,5 @@ use Rattle.lfs_words.proofs.spelling.spell_path.Goals as goal
 pub returns-then-can_spell-clause-back : goal.returns-then-can_spell-clause-back
 returns-then-can_spell-clause-back c =
     let P : List (List ℕ) → Type 0 = λ names. names_fault 1 names ≡ None in
-    λ spells. path_back c.args.path.now (subst P c.names-names.ensures.value (c.can_spell.ensures.valid c.if-can_spell.true)) c.names-names.ensures.bounded spells
+    λ spells. path_back c.args.path.now (subst P c.names-names.ensures.value
+    (c.can_spell.ensures.valid c.if-can_spell.true)) c.names-names.ensures.bounded spells

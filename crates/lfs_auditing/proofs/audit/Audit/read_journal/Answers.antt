@@ -29,14 +29,16 @@ pub returns-in-End-clause-read : goal.returns-in-End-clause-read
 returns-in-End-clause-read g c es read =
     let so = c.loop.invariant.so_far es read in
     let piece = rw c.in-End.is at c.in_ok-read_line.ensures in
-    stopped (g.R.Read.remaining c.args.reader.now) (g.R.Read.remaining c.loop.reader) (g.R.Read.remaining c.read_line.new.reader)
+    stopped (g.R.Read.remaining c.args.reader.now) (g.R.Read.remaining c.loop.reader)
+    (g.R.Read.remaining c.read_line.new.reader)
     es c.loop.self c.loop.self End so so.read (piece.1, piece.2)
 
 pub returns-in-Cut-clause-read : goal.returns-in-Cut-clause-read
 returns-in-Cut-clause-read g c es read =
     let so = c.loop.invariant.so_far es read in
     let piece = rw c.in-Cut.is at c.in_ok-read_line.ensures in
-    stopped (g.R.Read.remaining c.args.reader.now) (g.R.Read.remaining c.loop.reader) (g.R.Read.remaining c.read_line.new.reader)
+    stopped (g.R.Read.remaining c.args.reader.now) (g.R.Read.remaining c.loop.reader)
+    (g.R.Read.remaining c.read_line.new.reader)
     es c.loop.self c.loop.self (Unread Cut) so so.read (c.read_line.new.line.items, piece.0, piece.1, piece.2)
 
 pub loop-preserved : goal.loop-preserved
@@ -45,7 +47,8 @@ loop-preserved g c = record {
       let so = c.loop.invariant.so_far es read in
       let piece = rw c.in-Line.is at c.in_ok-read_line.ensures in
       let more = rw c.in-None.is at c.in_ok-line-in-Line.ensures.read (es ++ so.more) so.read in
-      one_more (g.R.Read.remaining c.args.reader.now) (g.R.Read.remaining c.loop.reader) (g.R.Read.remaining c.read_line.new.reader)
+      one_more (g.R.Read.remaining c.args.reader.now) (g.R.Read.remaining c.loop.reader)
+      (g.R.Read.remaining c.read_line.new.reader)
       es c.loop.self c.line.new.self c.read_line.new.line.items more.0 so piece.0 piece.1
       (subst (λ l. entry_told l ≡ Ok more.0) c.deref.ensures.value more.1) more.2;
   same = record {

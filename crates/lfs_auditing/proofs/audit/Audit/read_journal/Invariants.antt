@@ -6,6 +6,7 @@ use Rattle.lfs_auditing.proofs.audit.Audit.read_journal.Given as goal
 
 abbrev pub invariant-loop : goal.invariant-loop
 invariant-loop g l = record {
-  so_far : (es : List Entry) → HasRead l.fn.self es → SoFar (g.R.Read.remaining l.fn.reader) (g.R.Read.remaining l.reader) es l.self;
+  so_far : (es : List Entry) → HasRead l.fn.self es
+      → SoFar (g.R.Read.remaining l.fn.reader) (g.R.Read.remaining l.reader) es l.self;
   same : IsOfSame l.fn.self l.self;
 }

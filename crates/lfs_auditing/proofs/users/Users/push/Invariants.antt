@@ -4,4 +4,5 @@ use Rattle.lfs_auditing.specs.Users.{user_text}
 use Rattle.lfs_auditing.proofs.users.Users.push.Given as goal
 
 abbrev pub invariant-loop-uid : goal.invariant-loop-uid
-invariant-loop-uid l = l.out.items ++ flat_map user_text l.uid-iterator ≡ l.fn.out.items ++ flat_map user_text l.self.counts.entries
+invariant-loop-uid l = l.out.items ++ flat_map user_text l.uid-iterator ≡ l.fn.out.items
+    ++ flat_map user_text l.self.counts.entries

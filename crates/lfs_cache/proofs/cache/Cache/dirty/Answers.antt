@@ -15,30 +15,39 @@ other_queue Empty is = λ e. absurd (cc)
 
 pub returns-in_err-frame-clause-value : goal.returns-in_err-frame-clause-value
 returns-in_err-frame-clause-value c =
-    let l = c.self.inside.frames in let keys = c.self.inside.index in let v = c.self.inside.locked in let k = c.args.key in
-    let none : block_in k c.args.self.now.locked ≡ None = sym (ap (λ (s : Contents). block_in k s.locked) c.self.view_is) ∙ none_locked l keys v.items (vec_capacity v) k c.self.invariant c.in_err-frame.ensures in
+    let l = c.self.inside.frames in let keys = c.self.inside.index in let v = c.self.inside.locked in let k =
+    c.args.key in
+    let none : block_in k c.args.self.now.locked
+    ≡ None = sym (ap (λ (s : Contents). block_in k s.locked) c.self.view_is)
+    ∙ none_locked l keys v.items (vec_capacity v) k c.self.invariant c.in_err-frame.ensures in
     ap option_copied c.from_residual.ensures ∙ sym none
 
 pub returns-in_err-frame-clause-formed : goal.returns-in_err-frame-clause-formed
 returns-in_err-frame-clause-formed c =
-    let v = c.self.inside.locked in formed_as c.self.inside.frames c.self.inside.index v.items (vec_capacity v) c.args.self.now c.self.view_is c.self.invariant
+    let v = c.self.inside.locked in formed_as c.self.inside.frames c.self.inside.index v.items
+    (vec_capacity v) c.args.self.now c.self.view_is c.self.invariant
 
 pub returns-in-Locked-clause-value : goal.returns-in-Locked-clause-value
 returns-in-Locked-clause-value c =
-    let l = c.self.inside.frames in let keys = c.self.inside.index in let v = c.self.inside.locked in let k = c.args.key in
+    let l = c.self.inside.frames in let keys = c.self.inside.index in let v = c.self.inside.locked in let k =
+    c.args.key in
     ap Some c.bytes.ensures
-    ∙ (sym (dirty_held l keys v.items (vec_capacity v) c.in_ok-frame.frame k c.self.invariant c.in_ok-frame.ensures.1 c.queue.result c.queue.ensures c.in-Locked.is)
+    ∙ (sym (dirty_held l keys v.items (vec_capacity v) c.in_ok-frame.frame k c.self.invariant c.in_ok-frame.ensures.1
+    c.queue.result c.queue.ensures c.in-Locked.is)
     ∙ ap (λ (s : Contents). block_in k s.locked) c.self.view_is)
 
 pub returns-in-Locked-clause-formed : goal.returns-in-Locked-clause-formed
 returns-in-Locked-clause-formed c =
-    let v = c.self.inside.locked in formed_as c.self.inside.frames c.self.inside.index v.items (vec_capacity v) c.args.self.now c.self.view_is c.self.invariant
+    let v = c.self.inside.locked in formed_as c.self.inside.frames c.self.inside.index v.items
+    (vec_capacity v) c.args.self.now c.self.view_is c.self.invariant
 
 pub returns-in-Lru : goal.returns-in-Lru
 returns-in-Lru c =
-    let l = c.self.inside.frames in let keys = c.self.inside.index in let v = c.self.inside.locked in let k = c.args.key in
+    let l = c.self.inside.frames in let keys = c.self.inside.index in let v = c.self.inside.locked in let k =
+    c.args.key in
     record {
       value = sym (sym (ap (λ (s : Contents). block_in k s.locked) c.self.view_is)
-          ∙ clean_held l keys v.items (vec_capacity v) c.in_ok-frame.frame k c.self.invariant c.in_ok-frame.ensures.1 c.queue.result c.queue.ensures (other_queue c.queue.result c.in-Lru.is));
+          ∙ clean_held l keys v.items (vec_capacity v) c.in_ok-frame.frame k c.self.invariant c.in_ok-frame.ensures.1
+          c.queue.result c.queue.ensures (other_queue c.queue.result c.in-Lru.is));
       formed = formed_as l keys v.items (vec_capacity v) c.args.self.now c.self.view_is c.self.invariant;
     }

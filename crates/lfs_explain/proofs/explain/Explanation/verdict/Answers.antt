@@ -8,7 +8,8 @@ loop-check-preserved c =
     let at = c.loop-check.check-index in
     c.loop-check.invariant
     ∙ ap (λ (l : List Check). first_failing (drop at l)) (sym c.deref-check-items.ensures.value)
-    ∙ failing_next c.deref-check-items.result.now at c.check-item.result c.loop-check-test.true c.check-item.is (sym c.if-not-is_met.ensures)
+    ∙ failing_next c.deref-check-items.result.now at c.check-item.result c.loop-check-test.true c.check-item.is
+    (sym c.if-not-is_met.ensures)
     ∙ ap (λ (l : List Check). first_failing (drop (at + 1) l)) c.deref-check-items.ensures.value
 
 pub returns-then-not-is_met : goal.returns-then-not-is_met
@@ -17,7 +18,8 @@ returns-then-not-is_met c =
     ap Some c.denial.ensures
     ∙ sym (c.loop-check.invariant
     ∙ ap (λ (l : List Check). first_failing (drop at l)) (sym c.deref-check-items.ensures.value)
-    ∙ failing_here c.deref-check-items.result.now at c.check-item.result c.loop-check-test.true c.check-item.is (sym c.if-not-is_met.ensures))
+    ∙ failing_here c.deref-check-items.result.now at c.check-item.result c.loop-check-test.true c.check-item.is
+    (sym c.if-not-is_met.ensures))
 
 pub returns : goal.returns
 returns c =

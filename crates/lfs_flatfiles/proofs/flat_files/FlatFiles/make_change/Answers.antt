@@ -13,7 +13,10 @@ pub set_attrs-requires : goal.set_attrs-requires
 set_attrs-requires c =
     let places = c.args.self.now.places in
     let can = rw c.in-SetAttrs.is at c.requires.can in
-    record { within = omega (arith, places.ok.0, used_within places.items c.in-SetAttrs.ino _ can); used = file_used places.items c.in-SetAttrs.ino _ can }
+    record {
+      within = omega (arith, places.ok.0, used_within places.items c.in-SetAttrs.ino _ can);
+      used = file_used places.items c.in-SetAttrs.ino _ can;
+    }
 
 pub put-requires : goal.put-requires
 put-requires c =
@@ -30,7 +33,10 @@ pub remove-requires : goal.remove-requires
 remove-requires c =
     let places = c.args.self.now.places in
     let can = rw c.in-Remove.is at c.requires.can in
-    record { within = omega (arith, places.ok.0, content_below places.items c.in-Remove.ino can); used = ap is_some (sym (get-content_of places.items c.in-Remove.ino)) ∙ can }
+    record {
+      within = omega (arith, places.ok.0, content_below places.items c.in-Remove.ino can);
+      used = ap is_some (sym (get-content_of places.items c.in-Remove.ino)) ∙ can;
+    }
 
 pub set_length-requires : goal.set_length-requires
 set_length-requires c =

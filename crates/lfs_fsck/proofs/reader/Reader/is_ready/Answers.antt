@@ -7,9 +7,11 @@ pub returns-then-not-self : goal.returns-then-not-self
 returns-then-not-self c =
     let r = c.self.inside in
     let held = c.self.invariant in (
-      λ t. sym (nothing r.entries r.next r.count r.is_ended c.args.self.now c.self.view_is (cc) (leb-true r.count r.next t)),
+      λ t. sym (nothing r.entries r.next r.count r.is_ended c.args.self.now c.self.view_is (cc)
+          (leb-true r.count r.next t)),
       λ e. elim (cases_lt r.next r.count) [
-        | inl below ↦ absurd (something r.entries r.next r.count r.is_ended c.args.self.now c.self.view_is (cc) below (omega arith) e)
+        | inl below ↦ absurd (something r.entries r.next r.count r.is_ended c.args.self.now c.self.view_is (cc) below
+            (omega arith) e)
         | inr past ↦ le-leb r.count r.next past
       ],
     )

@@ -6,4 +6,9 @@ use Rattle.lfs_fuse_reply.proofs.listing.DirEntryPlus.size.Goals as goal
 pub returns-clause-bytes : goal.returns-clause-bytes
 returns-clause-bytes c =
     let e = c.args.self.now in
-    omega (arith, length-append (looked_up_bytes e.entry) (dirent_bytes e.dirent), length-looked_up e.entry, c.size.ensures.bytes)
+    omega (
+      arith,
+      length-append (looked_up_bytes e.entry) (dirent_bytes e.dirent),
+      length-looked_up e.entry,
+      c.size.ensures.bytes,
+    )

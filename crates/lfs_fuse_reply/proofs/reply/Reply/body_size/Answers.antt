@@ -1,4 +1,5 @@
-use Rattle.lfs_fuse_reply.proofs.Lengths.{length-attr_body, length-count, length-create, length-entry, length-extended, length-flags, length-init, length-ioctl, length-open, length-statfs, size_is}
+use Rattle.lfs_fuse_reply.proofs.Lengths.{length-attr_body, length-count, length-create, length-entry, length-extended}
+use Rattle.lfs_fuse_reply.proofs.Lengths.{length-flags, length-init, length-ioctl, length-open, length-statfs, size_is}
 use Rattle.lfs_fuse_reply.proofs.reply.Reply.body_size.Goals as goal
 
 pub returns-in-Entry-clause-size : goal.returns-in-Entry-clause-size

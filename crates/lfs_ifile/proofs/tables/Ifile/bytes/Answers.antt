@@ -8,10 +8,14 @@ written : (c : goal.In_ok-push_rows) → c.push_rows.new.bytes.items ≡ ifile_b
 written c =
     let file = c.self.inside in
     let tables : Tables = record { live = file.live.items; states = file.states.items; rows = file.rows.items } in
-    bytes_told tables c.len-segments.result c.len-inodes.result c.deref.result.now c.deref-2.result.now c.deref-3.result.now
-    c.in_ok-bytes.bytes.items c.push_u32.new.bytes.items c.push_u32-2.new.bytes.items c.push_u32-3.new.bytes.items c.push_segments.new.bytes.items c.push_rows.new.bytes.items
-    (c.len-segments.ensures ∙ file.live.ok.0) (c.len-inodes.ensures ∙ file.rows.ok.0) c.deref.ensures.value c.deref-2.ensures.value c.deref-3.ensures.value
-    c.in_ok-bytes.ensures.items c.in_ok-push_u32.ensures c.in_ok-push_u32-2.ensures c.in_ok-push_u32-3.ensures c.in_ok-push_segments.ensures c.in_ok-push_rows.ensures
+    bytes_told tables c.len-segments.result c.len-inodes.result c.deref.result.now c.deref-2.result.now
+    c.deref-3.result.now
+    c.in_ok-bytes.bytes.items c.push_u32.new.bytes.items c.push_u32-2.new.bytes.items c.push_u32-3.new.bytes.items
+    c.push_segments.new.bytes.items c.push_rows.new.bytes.items
+    (c.len-segments.ensures ∙ file.live.ok.0) (c.len-inodes.ensures
+    ∙ file.rows.ok.0) c.deref.ensures.value c.deref-2.ensures.value c.deref-3.ensures.value
+    c.in_ok-bytes.ensures.items c.in_ok-push_u32.ensures c.in_ok-push_u32-2.ensures c.in_ok-push_u32-3.ensures
+    c.in_ok-push_segments.ensures c.in_ok-push_rows.ensures
     ∙ ap ifile_bytes c.self.view_is
 
 pub returns-clause-layout : goal.returns-clause-layout
@@ -29,4 +33,5 @@ pub returns-clause-read_back : goal.returns-clause-read_back
 returns-clause-read_back c = λ seg within.
     let file = c.args.self.now in
     let formed : IsIfile file = subst IsIfile c.self.view_is c.self.invariant.0 in
-    subst (λ (bytes : List ℕ). ReadsUse bytes seg (usage_of file seg)) (sym (written c)) (use-ifile_bytes file seg formed within)
+    subst (λ (bytes : List ℕ). ReadsUse bytes seg (usage_of file seg)) (sym (written c))
+    (use-ifile_bytes file seg formed within)

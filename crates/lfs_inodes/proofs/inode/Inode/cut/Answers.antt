@@ -7,5 +7,6 @@ pub returns-clause-addresses : goal.returns-clause-addresses
 returns-clause-addresses c =
     let v = c.args.self.now in
     let n = c.blocks-count.result in
-    cut_roots v c.cut_direct-kept.result c.kept_if.result c.kept_if-2.result n c.cut_direct-kept.ensures c.kept_if.ensures c.kept_if-2.ensures
+    cut_roots v c.cut_direct-kept.result c.kept_if.result c.kept_if-2.result n c.cut_direct-kept.ensures
+    c.kept_if.ensures c.kept_if-2.ensures
     ∙ ap (λ m. kept_roots m (addresses v)) c.blocks-count.ensures

@@ -12,14 +12,16 @@ returns-in_err-inode-clause-found c = search rules
 
 pub returns-in_err-inode-clause-none : goal.returns-in_err-inode-clause-none
 returns-in_err-inode-clause-none c =
-    let none : (v : Inode) → IsRecord c.args.bytes.now v → ⊥ = λ v h. c.in_err-inode.ensures.none v h.identity h.attributes in
+    let none : (v : Inode) → IsRecord c.args.bytes.now v
+    → ⊥ = λ v h. c.in_err-inode.ensures.none v h.identity h.attributes in
     IfNone-always _ _ none
 
 pub returns-in_err-inode-clause-only : goal.returns-in_err-inode-clause-only
 returns-in_err-inode-clause-only c = λ v h. absurd (c.in_err-inode.ensures.none v h.identity h.attributes)
 
 pub returns-in_err-inode-clause-reading : goal.returns-in_err-inode-clause-reading
-returns-in_err-inode-clause-reading c = fields_in-answer _ _ (returns-in_err-inode-clause-found c) (returns-in_err-inode-clause-none c)
+returns-in_err-inode-clause-reading c = fields_in-answer _ _ (returns-in_err-inode-clause-found c)
+    (returns-in_err-inode-clause-none c)
 
 pub returns-in_err-inode-clause-bounds : goal.returns-in_err-inode-clause-bounds
 returns-in_err-inode-clause-bounds c = AreFields-fields_in _

@@ -7,4 +7,5 @@ returns-clause-attributes c = refl
 
 pub returns-clause-addresses : goal.returns-clause-addresses
 returns-clause-addresses c =
-    let v = c.args.self.now in sym (set-append_right v.direct (v.single ∷ v.double ∷ []) 12 12 c.args.address v.whole (omega arith))
+    let v = c.args.self.now in sym (set-append_right v.direct (v.single ∷ v.double ∷ []) 12 12 c.args.address v.whole
+    (omega arith))

@@ -9,5 +9,6 @@ use Rattle.lfs_known.proofs.names.NameCache.new.Goals as goal
 pub returns : goal.returns
 unfolding says
 returns c dir name =
-    let empty : get_or c.in_ok-slots.slots.items (place_of dir name) None ≡ None = grind (arith, common_steps, c.in_ok-slots.ensures.items_if_clones_equal) in
+    let empty : get_or c.in_ok-slots.slots.items (place_of dir name) None
+    ≡ None = grind (arith, common_steps, c.in_ok-slots.ensures.items_if_clones_equal) in
     ap (λ s. kept_of name (slot_says s dir name)) empty ∙ kept_none name

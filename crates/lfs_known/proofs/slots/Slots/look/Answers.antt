@@ -7,7 +7,8 @@ pub returns-then-number-lt-MOST_INODES : goal.returns-then-number-lt-MOST_INODES
 unfolding says
 returns-then-number-lt-MOST_INODES g c =
     let slots = c.args.self.now.slots in
-    get_or_read_under slots.items c.args.number slots.len c.index.result.now None c.index.ensures (omega arith) slots.ok.0
+    get_or_read_under slots.items c.args.number slots.len c.index.result.now None c.index.ensures
+    (omega arith) slots.ok.0
 
 pub returns-else-number-lt-MOST_INODES : goal.returns-else-number-lt-MOST_INODES
 unfolding says

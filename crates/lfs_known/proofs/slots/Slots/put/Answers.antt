@@ -15,7 +15,8 @@ returns-then-slot-lt-SLOTS-clause-put g c =
 
 pub returns-then-slot-lt-SLOTS-clause-others : goal.returns-then-slot-lt-SLOTS-clause-others
 unfolding says
-returns-then-slot-lt-SLOTS-clause-others g c n apart = get_or-set_other c.args.self.now.slots.items c.args.number n c.args.value None apart
+returns-then-slot-lt-SLOTS-clause-others g c n apart =
+    get_or-set_other c.args.self.now.slots.items c.args.number n c.args.value None apart
 
 pub returns-else-slot-lt-SLOTS-clause-put : goal.returns-else-slot-lt-SLOTS-clause-put
 unfolding says

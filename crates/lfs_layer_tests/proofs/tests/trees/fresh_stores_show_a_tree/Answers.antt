@@ -14,11 +14,13 @@ root_alone : (n : ℕ) → IsSome (map.get opening_content n) → n < 16
 root_alone n used = ⊎_elim
     (λ same. omega arith)
     (λ other.
-    let none : map.get opening_content n ≡ None = get-insert_other map.empty 2 fresh_root n other ∙ map.get-empty nat_cmp n in
+    let none : map.get opening_content n ≡ None = get-insert_other map.empty 2 fresh_root n other
+    ∙ map.get-empty nat_cmp n in
     let there = there_of (map.get opening_content n) used in
     none_there (map.get opening_content n) there.value none there.is)
     (cases_eq n 2)
 
 pub check_tree-requires : goal.check_tree-requires
 check_tree-requires g c =
-    subst (λ (s : StoreState). (n : ℕ) → IsSome (map.get s.content n) → n < 16) (sym c.fresh_log-store.ensures) root_alone
+    subst (λ (s : StoreState). (n : ℕ) → IsSome (map.get s.content n) → n < 16)
+    (sym c.fresh_log-store.ensures) root_alone

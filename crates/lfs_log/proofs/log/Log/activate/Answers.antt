@@ -8,22 +8,33 @@ use Rattle.lfs_log.proofs.log.Log.activate.Goals as goal
 
 pub overflow_sub-self : goal.overflow_sub-self
 overflow_sub-self c =
-    let p : LogParts = record { memory = c.self.inside.segments; tables = c.self.inside.ifile; clean = c.self.inside.clean } in
+    let p : LogParts = record {
+      memory = c.self.inside.segments;
+      tables = c.self.inside.ifile;
+      clean = c.self.inside.clean;
+    } in
     let inside = subst (λ (q : LogParts). c.args.segment < q.memory.segments) (sym c.self.view_is) c.requires.inside in
-    let clean = subst (λ (q : LogParts). state_of q.tables c.args.segment ≡ Clean) (sym c.self.view_is) c.requires.clean in
+    let clean = subst (λ (q : LogParts). state_of q.tables c.args.segment ≡ Clean) (sym c.self.view_is) c.requires.clean
+    in
     opened_some p c.args.segment c.self.invariant inside clean
 
 pub invariant_of-self : goal.invariant_of-self
 invariant_of-self c =
-    let p : LogParts = record { memory = c.self.inside.segments; tables = c.self.inside.ifile; clean = c.self.inside.clean } in
+    let p : LogParts = record {
+      memory = c.self.inside.segments;
+      tables = c.self.inside.ifile;
+      clean = c.self.inside.clean;
+    } in
     let segment = c.args.segment in
     let inside = subst (λ (q : LogParts). segment < q.memory.segments) (sym c.self.view_is) c.requires.inside in
     let clean = subst (λ (q : LogParts). state_of q.tables segment ≡ Clean) (sym c.self.view_is) c.requires.clean in
     let tables : c.set_state-2.new.self ≡ opened_tables p.tables p.memory.active segment =
     c.set_state-2.ensures.after
-    ∙ ap (λ (t : Tables). with_state t segment Active) (c.set_state.ensures.after ∙ ap (λ a. with_state p.tables a Dirty) c.active-active.ensures.active) in
+    ∙ ap (λ (t : Tables). with_state t segment Active) (c.set_state.ensures.after
+    ∙ ap (λ a. with_state p.tables a Dirty) c.active-active.ensures.active) in
     rw (c.open_next.ensures.opened, tables)
-    (IsParts-opened p segment c.self.invariant inside clean (subst IsLaidOut c.open_next.ensures.opened c.open_next.ensures.laid_out)
+    (IsParts-opened p segment c.self.invariant inside clean
+    (subst IsLaidOut c.open_next.ensures.opened c.open_next.ensures.laid_out)
     (subst IsIfile tables c.set_state-2.ensures.formed))
 
 pub returns-clause-kept : goal.returns-clause-kept

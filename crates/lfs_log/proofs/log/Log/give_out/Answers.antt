@@ -5,8 +5,13 @@ use Rattle.lfs_log.proofs.log.Log.give_out.Goals as goal
 
 pub invariant_of-self : goal.invariant_of-self
 invariant_of-self c =
-    let p : LogParts = record { memory = c.self.inside.segments; tables = c.self.inside.ifile; clean = c.self.inside.clean } in
-    IsParts-moved p c.give_out.new.self c.self.invariant (ap (λ xs. length xs) c.give_out.ensures.kept.live) c.give_out.ensures.kept.states c.give_out.ensures.formed
+    let p : LogParts = record {
+      memory = c.self.inside.segments;
+      tables = c.self.inside.ifile;
+      clean = c.self.inside.clean;
+    } in
+    IsParts-moved p c.give_out.new.self c.self.invariant
+    (ap (λ xs. length xs) c.give_out.ensures.kept.live) c.give_out.ensures.kept.states c.give_out.ensures.formed
 
 pub returns-clause-kept : goal.returns-clause-kept
 returns-clause-kept c = invariant_of-self c

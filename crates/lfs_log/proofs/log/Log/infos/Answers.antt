@@ -15,4 +15,5 @@ returns-clause-named c = λ place owner here named.
 pub returns-clause-only : goal.returns-clause-only
 returns-clause-only c = λ info stands.
     infos_of-only c.args.self.now.memory c.args.segment info
-    (subst (λ (infos : List BlockInfo). Contains infos info) (c.scan.ensures ∙ ap (λ (p : LogParts). infos_of p.memory c.args.segment) c.self.view_is) stands)
+    (subst (λ (infos : List BlockInfo). Contains infos info) (c.scan.ensures
+    ∙ ap (λ (p : LogParts). infos_of p.memory c.args.segment) c.self.view_is) stands)

@@ -23,7 +23,8 @@ returns-in_err-segment-clause-none c =
 inside : (c : goal.After-activate) → c.in_ok-segment.segment < c.args.self.now.memory.segments
 inside c =
     let found = c.in_ok-segment.ensures.some in
-    subst (λ (p : LogParts). c.in_ok-segment.segment < p.memory.segments) c.self.view_is (subst (λ (n : ℕ). c.in_ok-segment.segment < n) c.self.invariant.agree found.in_range)
+    subst (λ (p : LogParts). c.in_ok-segment.segment < p.memory.segments) c.self.view_is
+    (subst (λ (n : ℕ). c.in_ok-segment.segment < n) c.self.invariant.agree found.in_range)
 
 was_clean : (c : goal.After-activate) → state_of c.args.self.now.tables c.in_ok-segment.segment ≡ Clean
 was_clean c =
@@ -33,11 +34,13 @@ was_clean c =
 pub returns-clause-blocks : goal.returns-clause-blocks
 returns-clause-blocks c = λ a apart.
     ap (λ (p : LogParts). block_at p.memory a) c.activate.ensures.opened
-    ∙ block_at-opened_apart c.args.self.now.memory c.in_ok-segment.segment c.activate.ensures.was_kept.laid_out (inside c) a apart
+    ∙ block_at-opened_apart c.args.self.now.memory c.in_ok-segment.segment c.activate.ensures.was_kept.laid_out
+    (inside c) a apart
 
 pub returns-clause-step : goal.returns-clause-step
 returns-clause-step c = λ at.
-    subst (λ (q : LogParts). Opens (log_state c.args.self.now at) (log_state q at) c.in_ok-segment.segment) (sym c.activate.ensures.opened)
+    subst (λ (q : LogParts). Opens (log_state c.args.self.now at) (log_state q at) c.in_ok-segment.segment)
+    (sym c.activate.ensures.opened)
     (Opens-opened c.args.self.now c.in_ok-segment.segment at c.activate.ensures.was_kept (inside c) (was_clean c))
 
 pub activate-requires-clause-clean : goal.activate-requires-clause-clean

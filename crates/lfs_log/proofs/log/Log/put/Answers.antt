@@ -16,7 +16,8 @@ returns-clause-step c = λ at.
 pub returns-clause-owners : goal.returns-clause-owners
 returns-clause-owners c = λ entry entries slot expected low.
     named_at-entry c.put.new.self c.put.result slot entry c.args.block.now low
-    (c.put.ensures.names entry entries (subst (λ (p : LogParts). Expects p.memory (entry ∷ entries)) (sym c.self.view_is) expected)) c.put.ensures.block
+    (c.put.ensures.names entry entries (subst (λ (p : LogParts). Expects p.memory (entry ∷ entries))
+    (sym c.self.view_is) expected)) c.put.ensures.block
 
 pub returns-clause-block : goal.returns-clause-block
 returns-clause-block c = search rules

@@ -15,10 +15,16 @@ overflow_add-self c =
 
 pub invariant_of-self : goal.invariant_of-self
 invariant_of-self c =
-    let p : LogParts = record { memory = c.self.inside.segments; tables = c.self.inside.ifile; clean = c.self.inside.clean } in
+    let p : LogParts = record {
+      memory = c.self.inside.segments;
+      tables = c.self.inside.ifile;
+      clean = c.self.inside.clean;
+    } in
     let inside = subst (λ (q : LogParts). c.args.segment < q.memory.segments) (sym c.self.view_is) c.requires.inside in
-    let dirty = subst (λ (q : LogParts). state_of q.tables c.args.segment ≡ Dirty) (sym c.self.view_is) c.requires.dirty in
-    rw c.set_state.ensures.after (IsParts-reclaimed p c.args.segment c.self.invariant inside dirty (subst IsIfile c.set_state.ensures.after c.set_state.ensures.formed))
+    let dirty = subst (λ (q : LogParts). state_of q.tables c.args.segment ≡ Dirty) (sym c.self.view_is) c.requires.dirty
+    in
+    rw c.set_state.ensures.after (IsParts-reclaimed p c.args.segment c.self.invariant inside dirty
+    (subst IsIfile c.set_state.ensures.after c.set_state.ensures.formed))
 
 pub returns-clause-kept : goal.returns-clause-kept
 returns-clause-kept c = invariant_of-self c

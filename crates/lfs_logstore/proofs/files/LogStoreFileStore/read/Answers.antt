@@ -11,5 +11,7 @@ pub returns-clause-state : goal.returns-clause-state
 returns-clause-state c = same_state c.self.inside.parts c.read.new.self c.read.ensures.kept ∙ ap state_of c.self.view_is
 
 pub invariant_of-self : goal.invariant_of-self
-invariant_of-self c =
-    (same_store c.self.inside.parts c.read.new.self c.read.ensures.kept c.self.invariant.0, same_room c.self.inside.parts c.read.new.self c.read.ensures.kept c.self.invariant.1)
+invariant_of-self c = (
+  same_store c.self.inside.parts c.read.new.self c.read.ensures.kept c.self.invariant.0,
+  same_room c.self.inside.parts c.read.new.self c.read.ensures.kept c.self.invariant.1,
+)

@@ -3,7 +3,8 @@ use Rattle.lfs_model.proofs.CountLemmas.{cleaner_denied_counted, done_counted, f
 use Rattle.lfs_model.proofs.counts.Counts.add_outcome.Goals as goal
 
 pub returns-in-Denied : goal.returns-in-Denied
-returns-in-Denied c = λ kind. cleaner_denied_counted c.args.self.now kind c.args.outcome _ c.in-Denied.is c.count_denial.ensures
+returns-in-Denied c = λ kind. cleaner_denied_counted c.args.self.now kind c.args.outcome _ c.in-Denied.is
+    c.count_denial.ensures
 
 pub returns-in-Fault : goal.returns-in-Fault
 returns-in-Fault c = λ kind. elim c.in-Fault.is [

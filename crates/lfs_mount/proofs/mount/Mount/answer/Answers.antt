@@ -21,9 +21,11 @@ returns-clause-answered g c =
     let before = c.args.self.now.beside in
     let after = c.heard-told.new.self.beside in
     let found : header_in bytes ≡ Some header = sym c.decode.ensures ∙ c.in-Some.is in
-    subst (λ h. IsAnsweredOf state settled sizes now nodes others h (said bytes) c.args.out.now.items c.append_if.new.out.items old new before after) (sym found) (record {
+    subst (λ h. IsAnsweredOf state settled sizes now nodes others h
+    (said bytes) c.args.out.now.items c.append_if.new.out.items old new before after) (sym found) (record {
       reply = heard.0;
       wanted = heard.1;
-      heard = subst (λ (who : Caller). IsHeard state settled sizes now who nodes header.node (said bytes) heard.0 heard.1 old new before after) c.caller-cred.ensures c.heard-told.ensures.heard;
+      heard = subst (λ (who : Caller). IsHeard state settled sizes now who nodes header.node
+          (said bytes) heard.0 heard.1 old new before after) c.caller-cred.ensures c.heard-told.ensures.heard;
       written = c.in_ok-append_if.ensures;
     })

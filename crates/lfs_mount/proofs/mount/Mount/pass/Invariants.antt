@@ -4,7 +4,8 @@ use Rattle.lfs_mount.proofs.mount.Mount.pass.Given as goal
 
 abbrev pub invariant-loop-call : goal.invariant-loop-call
 invariant-loop-call g l = record {
-  content : (g.F.FileStore.state l.self.tree.volume.store).content ≡ (g.F.FileStore.state l.fn.self.tree.volume.store).content;
+  content : (g.F.FileStore.state l.self.tree.volume.store).content
+      ≡ (g.F.FileStore.state l.fn.self.tree.volume.store).content;
   level : l.self.tree.volume.level ≡ l.fn.self.tree.volume.level;
 }
 

@@ -15,10 +15,12 @@ returns-in-None g c =
     let from = c.args.from.now in
     let to = c.args.to.now in
     let leads : IsPathOf hangs to.node (Some to.name.now) c.in-Ok.path =
-    subst (λ r. IfOk r (λ (path : List (List ℕ)). IsPathOf hangs to.node (Some to.name.now) path)) c.in-Ok.is c.path_of.ensures in
+    subst (λ r. IfOk r (λ (path : List (List ℕ)). IsPathOf hangs to.node (Some to.name.now) path)) c.in-Ok.is
+    c.path_of.ensures in
     let served : refusal_in c.in-Ok-one.answers.items ≡ None =
     sym (ap refusal_in c.as_slice.ensures.value) ∙ sym c.refusal_in.ensures ∙ c.in-None.is in
-    inl (sought_there state settled c.args.cred.now hangs from.node from.name.now to.node to.name.now (Error EEXIST) c.args.self.now.volume c.one.new.self.volume
+    inl (sought_there state settled c.args.cred.now hangs from.node from.name.now to.node to.name.now
+    (Error EEXIST) c.args.self.now.volume c.one.new.self.volume
     c.in-Ok.path c.in-Ok-one.answers.items leads c.in-Ok-one.ensures.made served refl)
 
 pub returns-then-is_missing : goal.returns-then-is_missing
@@ -31,13 +33,17 @@ returns-then-is_missing g c =
     let between = c.one.new.self.volume in
     let new = c.renamed.new.self.volume in
     let leads : IsPathOf hangs to.node (Some to.name.now) c.in-Ok.path =
-    subst (λ r. IfOk r (λ (path : List (List ℕ)). IsPathOf hangs to.node (Some to.name.now) path)) c.in-Ok.is c.path_of.ensures in
+    subst (λ r. IfOk r (λ (path : List (List ℕ)). IsPathOf hangs to.node (Some to.name.now) path)) c.in-Ok.is
+    c.path_of.ensures in
     let refused : refusal_in c.in-Ok-one.answers.items ≡ Some c.in-Some.errno =
     sym (ap refusal_in c.as_slice.ensures.value) ∙ sym c.refusal_in.ensures ∙ c.in-Some.is in
     let missing : is_missing c.in-Some.errno ≡ true = sym c.is_missing.ensures ∙ c.if-is_missing.true in
-    inl (sought_free state settled c.args.cred.now hangs from.node from.name.now to.node to.name.now c.renamed.result c.args.self.now.volume between new
+    inl (sought_free state settled c.args.cred.now hangs from.node from.name.now to.node to.name.now c.renamed.result
+    c.args.self.now.volume between new
     c.in-Ok.path c.in-Ok-one.answers.items c.in-Some.errno leads c.in-Ok-one.ensures.made refused missing
-    (subst (λ n. IsRenamed state settled c.args.cred.now (hangs_in n) from.node from.name.now to.node to.name.now c.renamed.result between new) c.one.ensures.nodes c.renamed.ensures))
+    (subst (λ n. IsRenamed state settled c.args.cred.now
+    (hangs_in n) from.node from.name.now to.node to.name.now c.renamed.result between new) c.one.ensures.nodes
+    c.renamed.ensures))
 
 pub returns : goal.returns
 returns g c =
@@ -47,9 +53,11 @@ returns g c =
     let from = c.args.from.now in
     let to = c.args.to.now in
     let leads : IsPathOf hangs to.node (Some to.name.now) c.in-Ok.path =
-    subst (λ r. IfOk r (λ (path : List (List ℕ)). IsPathOf hangs to.node (Some to.name.now) path)) c.in-Ok.is c.path_of.ensures in
+    subst (λ r. IfOk r (λ (path : List (List ℕ)). IsPathOf hangs to.node (Some to.name.now) path)) c.in-Ok.is
+    c.path_of.ensures in
     let refused : refusal_in c.in-Ok-one.answers.items ≡ Some c.in-Some.errno =
     sym (ap refusal_in c.as_slice.ensures.value) ∙ sym c.refusal_in.ensures ∙ c.in-Some.is in
     let other : is_missing c.in-Some.errno ≡ false = sym c.is_missing.ensures ∙ c.if-is_missing.false in
-    inl (sought_refused state settled c.args.cred.now hangs from.node from.name.now to.node to.name.now (Error c.in-Some.errno) c.args.self.now.volume c.one.new.self.volume
+    inl (sought_refused state settled c.args.cred.now hangs from.node from.name.now to.node to.name.now
+    (Error c.in-Some.errno) c.args.self.now.volume c.one.new.self.volume
     c.in-Ok.path c.in-Ok-one.answers.items c.in-Some.errno leads c.in-Ok-one.ensures.made refused other refl)

@@ -18,8 +18,10 @@ returns-in-Some g c =
     let new = c.calls.new.self.volume in
     let refused : refusal_in c.in-Ok.answers.items ≡ Some c.in-Some.errno =
     sym (ap refusal_in c.as_slice.ensures.value) ∙ sym c.refusal_in.ensures ∙ c.in-Some.is in
-    inl (looked_refused state settled c.args.cred.now hangs c.args.node (setattr c.args.fields.now) reply c.args.self.now.volume new
-    (λ between (present : Attrs). IsSetJudged state settled c.args.cred.now hangs c.args.node c.args.fields.now reply between new present)
+    inl (looked_refused state settled c.args.cred.now hangs c.args.node
+    (setattr c.args.fields.now) reply c.args.self.now.volume new
+    (λ between (present : Attrs). IsSetJudged state settled c.args.cred.now hangs c.args.node c.args.fields.now reply
+    between new present)
     c.in-Ok.answers.items c.in-Some.errno c.in-Ok.ensures.made refused refl)
 
 pub returns-in-Some-seen_in : goal.returns-in-Some-seen_in
@@ -34,10 +36,14 @@ returns-in-Some-seen_in g c =
     let served : refusal_in c.in-Ok.answers.items ≡ None = grind (arith, common_steps) in
     let was : seen_in c.in-Ok.answers.items ≡ Some seen =
     sym (ap seen_in c.as_slice-2.ensures.value) ∙ sym c.seen_in.ensures ∙ c.in-Some-seen_in.is in
-    inl (looked_on state settled c.args.cred.now hangs c.args.node (setattr c.args.fields.now) reply c.args.self.now.volume between new
-    (λ between (present : Attrs). IsSetJudged state settled c.args.cred.now hangs c.args.node c.args.fields.now reply between new present)
+    inl (looked_on state settled c.args.cred.now hangs c.args.node
+    (setattr c.args.fields.now) reply c.args.self.now.volume between new
+    (λ between (present : Attrs). IsSetJudged state settled c.args.cred.now hangs c.args.node c.args.fields.now reply
+    between new present)
     c.in-Ok.answers.items seen c.in-Ok.ensures.made served was
-    (subst (λ n. IsSetJudged state settled c.args.cred.now (hangs_in n) c.args.node c.args.fields.now reply between new seen.attrs) c.calls.ensures.nodes c.set_judged.ensures))
+    (subst (λ n. IsSetJudged state settled c.args.cred.now
+    (hangs_in n) c.args.node c.args.fields.now reply between new seen.attrs) c.calls.ensures.nodes
+    c.set_judged.ensures))
 
 pub returns : goal.returns
 returns g c =
@@ -49,6 +55,8 @@ returns g c =
     let served : refusal_in c.in-Ok.answers.items ≡ None = grind (arith, common_steps) in
     let unseen : seen_in c.in-Ok.answers.items ≡ None =
     sym (ap seen_in c.as_slice-2.ensures.value) ∙ sym c.seen_in.ensures ∙ c.in-None.is in
-    inl (looked_unseen state settled c.args.cred.now hangs c.args.node (setattr c.args.fields.now) reply c.args.self.now.volume new
-    (λ between (present : Attrs). IsSetJudged state settled c.args.cred.now hangs c.args.node c.args.fields.now reply between new present)
+    inl (looked_unseen state settled c.args.cred.now hangs c.args.node
+    (setattr c.args.fields.now) reply c.args.self.now.volume new
+    (λ between (present : Attrs). IsSetJudged state settled c.args.cred.now hangs c.args.node c.args.fields.now reply
+    between new present)
     c.in-Ok.answers.items c.in-Ok.ensures.made served unseen refl)

@@ -13,8 +13,10 @@ unwrap-requires c = c.insert-put.ensures.succeeds c.requires
 
 pub returns-clause-there : goal.returns-clause-there
 unfolding id_at room_in
-returns-clause-there c = (on_ok c.insert-put.result (c.insert-put.ensures.succeeds c.requires) c.insert-put.ensures.updates).1
+returns-clause-there c = (on_ok c.insert-put.result
+    (c.insert-put.ensures.succeeds c.requires) c.insert-put.ensures.updates).1
 
 pub returns-clause-others : goal.returns-clause-others
 unfolding id_at room_in
-returns-clause-others c q apart = (on_ok c.insert-put.result (c.insert-put.ensures.succeeds c.requires) c.insert-put.ensures.updates).2 q (same_place-apart _ q apart)
+returns-clause-others c q apart = (on_ok c.insert-put.result
+    (c.insert-put.ensures.succeeds c.requires) c.insert-put.ensures.updates).2 q (same_place-apart _ q apart)

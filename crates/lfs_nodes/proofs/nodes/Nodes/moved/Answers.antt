@@ -17,6 +17,8 @@ returns-clause-nodes c w p t n tree are up down hangs empty =
     let down2 = subst (λ x. live_row (known x c.args.to.0) ≡ Some t) (sym c.self.view_is) down in
     let L = known c.rehang.new.self in
     ⊎_elim
-    (λ same. stayed_nodes parts c.self.invariant w tree are2 from to p t n up2 down2 hangs same L (c.rehang.ensures.stays same) (child w.rows t to.name) refl)
-    (λ apart. renamed_nodes parts c.self.invariant w tree are2 from to p t n up2 down2 hangs apart empty L (c.rehang.ensures.moved apart (live_known parts to.parent t down2)) (child w.rows t to.name) refl)
+    (λ same. stayed_nodes parts c.self.invariant w tree are2 from to p t n up2 down2 hangs same L
+    (c.rehang.ensures.stays same) (child w.rows t to.name) refl)
+    (λ apart. renamed_nodes parts c.self.invariant w tree are2 from to p t n up2 down2 hangs apart empty L
+    (c.rehang.ensures.moved apart (live_known parts to.parent t down2)) (child w.rows t to.name) refl)
     (cases_place from to)

@@ -10,6 +10,8 @@ pub invariant_of-result : goal.invariant_of-result
 invariant_of-result c =
     let F = node_at c.put.new.self in
     let made : F ROOT_ID ≡ Some root_node = c.put.ensures.there ∙ ap Some c.root.ensures in
-    let none = λ (q : ℕ) (ne : q ≢ ROOT_ID). c.put.ensures.others q ne ∙ c.reserve.ensures.same q ∙ c.new-table.ensures q in
+    let none = λ (q : ℕ) (ne : q ≢ ROOT_ID). c.put.ensures.others q ne ∙ c.reserve.ensures.same q
+    ∙ c.new-table.ensures q in
     whole_alone (λ q. hang_in (F q)) (λ q. number_in (F q)) (λ q. children_in (F q)) (id_at c.new.result)
-    (ap hang_in made) (ap number_in made) (ap children_in made) (λ q ne. ap hang_in (none q ne)) (λ q ne. ap children_in (none q ne)) c.new.ensures
+    (ap hang_in made) (ap number_in made) (ap children_in made) (λ q ne. ap hang_in (none q ne))
+    (λ q ne. ap children_in (none q ne)) c.new.ensures

@@ -12,7 +12,9 @@ returns-clause-whole c =
     let F = node_at parts.table in
     let E = node_at c.put.new.self in
     let made : E parts.next ≡ Some (fresh Gone c.args.row) = c.put.ensures.there ∙ ap Some c.new.ensures in
-    whole_grown (λ q. hang_in (F q)) (λ q. number_in (F q)) (λ q. children_in (F q)) (id_at parts.index) parts.next c.requires.whole
+    whole_grown (λ q. hang_in (F q)) (λ q. number_in (F q)) (λ q. children_in (F q))
+    (id_at parts.index) parts.next c.requires.whole
     (λ q. hang_in (E q)) (λ q. number_in (E q)) (λ q. children_in (E q)) (id_at parts.index)
-    (ap hang_in made) (λ q ne. ap hang_in (c.put.ensures.others q ne)) (λ q ne. ap number_in (c.put.ensures.others q ne))
+    (ap hang_in made) (λ q ne. ap hang_in (c.put.ensures.others q ne))
+    (λ q ne. ap number_in (c.put.ensures.others q ne))
     (ap children_in made) (omega arith) (λ q ne. ap children_in (c.put.ensures.others q ne)) (λ p. refl)

@@ -10,5 +10,6 @@ returns-in-Some-clause-nodes c rows are =
     let K = known c.args.self.now in
     let M = known c.set_look_ups.new.self in
     let L = known c.release.new.self in
-    let mid = counted_nodes K c.args.id (counted c.saturating_sub-look_ups.result) (λ n. refl) (λ n. refl) rows are M c.set_look_ups.ensures.changed in
+    let mid = counted_nodes K c.args.id (counted c.saturating_sub-look_ups.result) (λ n. refl)
+    (λ n. refl) rows are M c.set_look_ups.ensures.changed in
     nodes_fewer rows M mid L c.release.ensures.others (parents_known c.release.new.self c.release.ensures.whole)

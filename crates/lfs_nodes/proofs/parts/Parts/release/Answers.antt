@@ -13,13 +13,16 @@ loop-above-init c =
     record {
       whole = step.whole;
       dropped = step.dropped;
-      held = step_held (known parts) (known after) (node_at parts.table c.args.id) c.args.id refl step.dropped step.held step.others;
-      others = step_left (known parts) (known after) (node_at parts.table c.args.id) c.args.id refl step.dropped step.held step.others;
+      held = step_held (known parts) (known after)
+          (node_at parts.table c.args.id) c.args.id refl step.dropped step.held step.others;
+      others = step_left (known parts) (known after)
+          (node_at parts.table c.args.id) c.args.id refl step.dropped step.held step.others;
       next = step.next;
     }
 
 pub loop-above-smaller : goal.loop-above-smaller
-loop-above-smaller c = measured _ _ c.loop-above.above _ c.in-Some.parent c.in-Some.is c.drop_unheld-above-in-Some.ensures.fewer c.drop_unheld-above-in-Some.ensures.no_more
+loop-above-smaller c = measured _ _ c.loop-above.above _ c.in-Some.parent c.in-Some.is
+    c.drop_unheld-above-in-Some.ensures.fewer c.drop_unheld-above-in-Some.ensures.no_more
 
 pub loop-above-preserved : goal.loop-above-preserved
 loop-above-preserved c =
@@ -28,8 +31,10 @@ loop-above-preserved c =
     let step = c.drop_unheld-above-in-Some.ensures in
     let after = c.drop_unheld-above-in-Some.new.self in
     let id = c.in-Some.parent in
-    let held = step_held (known before) (known after) (node_at before.table id) id refl step.dropped step.held step.others in
-    let left = step_left (known before) (known after) (node_at before.table id) id refl step.dropped step.held step.others in
+    let held = step_held (known before) (known after)
+    (node_at before.table id) id refl step.dropped step.held step.others in
+    let left = step_left (known before) (known after)
+    (node_at before.table id) id refl step.dropped step.held step.others in
     record {
       whole = step.whole;
       dropped = λ h. none_stays (known before c.args.id) (known after c.args.id) (left c.args.id) (inv.dropped h);

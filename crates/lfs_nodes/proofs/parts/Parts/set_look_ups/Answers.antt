@@ -12,12 +12,15 @@ returns-clause-whole c =
     let F = node_at parts.table in
     let E = node_at c.set_look_ups.new.self in
     let after = c.set_look_ups.ensures.changed in
-    whole_same (λ q. hang_in (F q)) (λ q. number_in (F q)) (λ q. children_in (F q)) (id_at parts.index) parts.next c.requires
+    whole_same (λ q. hang_in (F q)) (λ q. number_in (F q)) (λ q. children_in (F q))
+    (id_at parts.index) parts.next c.requires
     (λ q. hang_in (E q)) (λ q. number_in (E q)) (λ q. children_in (E q)) (id_at parts.index)
     (λ q. ap hang_in (after q) ∙ changed_keeps F c.args.id (counted c.args.look_ups) (λ n. n.hang) (λ n. refl) q)
     (λ q. ap number_in (after q) ∙ changed_keeps F c.args.id (counted c.args.look_ups) (λ n. n.row) (λ n. refl) q)
-    (λ q. ap children_in (after q) ∙ changed_keeps F c.args.id (counted c.args.look_ups) (λ n. n.children) (λ n. refl) q)
+    (λ q. ap children_in (after q) ∙ changed_keeps F c.args.id (counted c.args.look_ups) (λ n. n.children)
+    (λ n. refl) q)
     (λ p. refl)
 
 pub returns-clause-children : goal.returns-clause-children
-returns-clause-children c q = ap children_in (c.set_look_ups.ensures.changed q) ∙ changed_keeps (node_at c.args.self.now.table) c.args.id (counted c.args.look_ups) (λ n. n.children) (λ n. refl) q
+returns-clause-children c q = ap children_in (c.set_look_ups.ensures.changed q)
+    ∙ changed_keeps (node_at c.args.self.now.table) c.args.id (counted c.args.look_ups) (λ n. n.children) (λ n. refl) q

@@ -13,19 +13,23 @@ returns-in-Some-clause-changed c =
     let was : node_at c.args.self.now c.args.id ≡ Some c.in-Some.node.now = sym c.in-Some.ensures.value in
     let after = record c.in-Some.node.now { children = c.saturating_sub-node.result } in
     let put = (c.get_mut.follows.holds after).3 (present was) in
-    changed_there (node_at c.args.self.now) (node_at (record { nodes = c.get_mut.follows.lender after })) c.args.id one_child_fewer c.in-Some.node.now was
+    changed_there (node_at c.args.self.now) (node_at (record { nodes = c.get_mut.follows.lender after })) c.args.id
+    one_child_fewer c.in-Some.node.now was
     (put.1 ∙ ap (λ (x : ℕ). Some (record c.in-Some.node.now { children = x })) c.saturating_sub-node.ensures) put.2
 
 pub returns-in-Some-clause-as_many : goal.returns-in-Some-clause-as_many
 unfolding nodes_in
-returns-in-Some-clause-as_many c = (c.get_mut.follows.holds (record c.in-Some.node.now { children = c.saturating_sub-node.result })).2
+returns-in-Some-clause-as_many c = (c.get_mut.follows.holds
+    (record c.in-Some.node.now { children = c.saturating_sub-node.result })).2
 
 pub returns-in_default-clause-changed : goal.returns-in_default-clause-changed
 unfolding node_at
 returns-in_default-clause-changed c =
-    changed_none (node_at c.args.self.now) (node_at (record { nodes = c.get_mut.follows.lender-at-none })) c.args.id (one_child_fewer) (sym c.in_default.ensures.value)
+    changed_none (node_at c.args.self.now) (node_at (record { nodes = c.get_mut.follows.lender-at-none })) c.args.id
+    (one_child_fewer) (sym c.in_default.ensures.value)
     (λ q. ap (λ m. hash.get nat_eq m q) c.get_mut.follows.holds-at-none)
 
 pub returns-in-Some-clause-spare : goal.returns-in-Some-clause-spare
 unfolding spare_in
-returns-in-Some-clause-spare c = (c.get_mut.follows.holds (record c.in-Some.node.now { children = c.saturating_sub-node.result })).6
+returns-in-Some-clause-spare c = (c.get_mut.follows.holds
+    (record c.in-Some.node.now { children = c.saturating_sub-node.result })).6

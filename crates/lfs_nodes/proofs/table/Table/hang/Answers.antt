@@ -15,7 +15,8 @@ returns-in-Some-clause-changed c =
     let was : node_at c.args.self.now c.args.id ≡ Some c.in-Some.node.now = sym c.in-Some.ensures.value in
     let after = record c.in-Some.node.now { hang = c.replace.new.dest } in
     let put = (c.get_mut.follows.holds after).3 (present was) in
-    changed_there (node_at c.args.self.now) (node_at (record { nodes = c.get_mut.follows.lender after })) c.args.id (hung c.args.hang) c.in-Some.node.now was
+    changed_there (node_at c.args.self.now) (node_at (record { nodes = c.get_mut.follows.lender after })) c.args.id
+    (hung c.args.hang) c.in-Some.node.now was
     (put.1 ∙ ap (λ (h : Hang). Some (record c.in-Some.node.now { hang = h })) c.replace.ensures.after) put.2
 
 pub returns-in-Some-clause-as_many : goal.returns-in-Some-clause-as_many
@@ -25,7 +26,8 @@ returns-in-Some-clause-as_many c = (c.get_mut.follows.holds (record c.in-Some.no
 pub returns-in-None-clause-changed : goal.returns-in-None-clause-changed
 unfolding node_at
 returns-in-None-clause-changed c =
-    changed_none (node_at c.args.self.now) (node_at (record { nodes = c.get_mut.follows.lender-at-none })) c.args.id (hung c.args.hang) (sym c.in-None.ensures.value)
+    changed_none (node_at c.args.self.now) (node_at (record { nodes = c.get_mut.follows.lender-at-none })) c.args.id
+    (hung c.args.hang) (sym c.in-None.ensures.value)
     (λ q. ap (λ m. hash.get nat_eq m q) c.get_mut.follows.holds-at-none)
 
 pub returns-in-Some-clause-was : goal.returns-in-Some-clause-was

@@ -12,8 +12,11 @@ unwrap-requires c = c.insert-put.ensures.succeeds c.requires
 
 pub returns-clause-there : goal.returns-clause-there
 unfolding node_at spare_in
-returns-clause-there c = (on_ok c.insert-put.result (c.insert-put.ensures.succeeds c.requires) c.insert-put.ensures.updates).1
+returns-clause-there c = (on_ok c.insert-put.result
+    (c.insert-put.ensures.succeeds c.requires) c.insert-put.ensures.updates).1
 
 pub returns-clause-others : goal.returns-clause-others
 unfolding node_at spare_in
-returns-clause-others c q apart = (on_ok c.insert-put.result (c.insert-put.ensures.succeeds c.requires) c.insert-put.ensures.updates).2 q (ne_eqb c.args.id q (λ e. apart (sym e)))
+returns-clause-others c q apart = (on_ok c.insert-put.result
+    (c.insert-put.ensures.succeeds c.requires) c.insert-put.ensures.updates).2 q
+    (ne_eqb c.args.id q (λ e. apart (sym e)))

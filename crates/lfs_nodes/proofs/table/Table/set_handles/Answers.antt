@@ -12,7 +12,9 @@ unfolding node_at
 returns-in-Some-clause-changed c =
     let was : node_at c.args.self.now c.args.id ≡ Some c.in-Some.node.now = sym c.in-Some.ensures.value in
     let put = (c.get_mut.follows.holds (opened c.args.handles c.in-Some.node.now)).3 (present was) in
-    changed_there (node_at c.args.self.now) (node_at (record { nodes = c.get_mut.follows.lender (opened c.args.handles c.in-Some.node.now) })) c.args.id (opened c.args.handles) c.in-Some.node.now was put.1 put.2
+    changed_there (node_at c.args.self.now) (node_at
+    (record { nodes = c.get_mut.follows.lender (opened c.args.handles c.in-Some.node.now) })) c.args.id
+    (opened c.args.handles) c.in-Some.node.now was put.1 put.2
 
 pub returns-in-Some-clause-as_many : goal.returns-in-Some-clause-as_many
 unfolding nodes_in
@@ -21,5 +23,6 @@ returns-in-Some-clause-as_many c = (c.get_mut.follows.holds (opened c.args.handl
 pub returns-in_default-clause-changed : goal.returns-in_default-clause-changed
 unfolding node_at
 returns-in_default-clause-changed c =
-    changed_none (node_at c.args.self.now) (node_at (record { nodes = c.get_mut.follows.lender-at-none })) c.args.id (opened c.args.handles) (sym c.in_default.ensures.value)
+    changed_none (node_at c.args.self.now) (node_at (record { nodes = c.get_mut.follows.lender-at-none })) c.args.id
+    (opened c.args.handles) (sym c.in_default.ensures.value)
     (λ q. ap (λ m. hash.get nat_eq m q) c.get_mut.follows.holds-at-none)

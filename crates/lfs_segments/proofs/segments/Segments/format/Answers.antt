@@ -21,5 +21,6 @@ returns-clause-ready c =
     let inodes = c.args.inodes in
     let ready : Expects (seen (set c.in_ok-blocks.blocks.items 0 c.label.result) 0 1) [] =
     rw (c.in_ok-blocks.ensures, c.label.ensures, set-replicate_first (segments * 64) zero_block _ (omega arith))
-    (subst (λ (m : SegmentMemory). Expects m []) (sym (fresh_is segments inodes (omega arith))) (Expects-fresh segments inodes (omega arith))) in
+    (subst (λ (m : SegmentMemory). Expects m []) (sym (fresh_is segments inodes (omega arith)))
+    (Expects-fresh segments inodes (omega arith))) in
     ready

@@ -28,6 +28,7 @@ returns-clause-ready c =
     let count : segment * 64 + 64 - (segment * 64 + log_start segment) ≡ 64 - log_start segment = omega arith in
     let ready : Expects (seen c.clear.new.blocks.items segment c.log_start-self-inside.result) [] =
     rw (c.clear.ensures, c.log_start-self-inside.ensures, count)
-    (subst (λ (m : SegmentMemory). Expects m []) (sym (opened_is old.blocks.items old.active old.fill segment c.self.invariant inside))
+    (subst (λ (m : SegmentMemory). Expects m [])
+    (sym (opened_is old.blocks.items old.active old.fill segment c.self.invariant inside))
     (Expects-opened (seen old.blocks.items old.active old.fill) segment c.self.invariant inside)) in
     ready

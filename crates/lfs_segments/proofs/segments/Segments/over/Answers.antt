@@ -28,4 +28,5 @@ returns-else-is_volume-clause-none c = λ laid.
       begun = laid.begun;
       within = laid.within;
     } in
-    false≢true (sym c.if-is_volume.false ∙ c.is_volume.ensures.1 (subst (λ n. IsVolume n c.args.active c.args.fill) (sym count) volume))
+    false≢true (sym c.if-is_volume.false ∙ c.is_volume.ensures.1
+    (subst (λ n. IsVolume n c.args.active c.args.fill) (sym count) volume))

@@ -17,7 +17,8 @@ pub returns-clause-expects : goal.returns-clause-expects
 returns-clause-expects c = λ entry entries before.
     let fit = before.fit in
     subst (λ (m : SegmentMemory). Expects m entries) (sym c.append.ensures.appended)
-    (Expects-put c.args.self.now c.args.block.now c.append.ensures.was_laid_out c.requires (entry ∷ entries) entries before refl (omega arith))
+    (Expects-put c.args.self.now c.args.block.now c.append.ensures.was_laid_out c.requires (entry
+    ∷ entries) entries before refl (omega arith))
 
 pub returns-clause-names : goal.returns-clause-names
 returns-clause-names c = λ entry entries before. rw (c.append.ensures.appended, c.append.ensures.address)

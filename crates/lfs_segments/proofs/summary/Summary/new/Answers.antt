@@ -20,4 +20,5 @@ invariant_of-result c =
 pub returns-clause-entries : goal.returns-clause-entries
 returns-clause-entries c =
     let entries = c.args.entries.now in
-    ap (take (length entries)) c.padded.ensures ∙ take_at entries (replicate (40 - length entries) unused) (length entries) refl
+    ap (take (length entries)) c.padded.ensures
+    ∙ take_at entries (replicate (40 - length entries) unused) (length entries) refl

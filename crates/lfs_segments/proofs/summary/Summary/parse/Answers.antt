@@ -11,7 +11,8 @@ returns-clause-found c = record {
   count = sym c.half-count.ensures;
   gap = omega arith;
   entries = c.in_ok-entries.ensures.found.spelled;
-  rest = λ i past. zero_to_end c.args.block.now c.entry_place.result 512 (omega arith) (c.if-not-is_zero.ensures.0 refl) i (omega arith);
+  rest = λ i past. zero_to_end c.args.block.now c.entry_place.result 512 (omega arith)
+      (c.if-not-is_zero.ensures.0 refl) i (omega arith);
 }
 
 pub returns-clause-only : goal.returns-clause-only

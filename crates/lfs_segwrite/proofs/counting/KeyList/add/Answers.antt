@@ -9,7 +9,10 @@ use Rattle.lfs_segwrite.proofs.counting.KeyList.add.Goals as goal
 
 pub returns-then-not-contains : goal.returns-then-not-contains
 returns-then-not-contains c =
-    let there = contains_decides same_key same_decides c.keys.result.now c.args.key c.contains.result c.contains.ensures.cases in
-    let none = not_from_Decides c.contains.result (Decides-contains c.keys.result.now c.args.key c.contains.result there) c.if-not-contains.true in
+    let there = contains_decides same_key same_decides c.keys.result.now c.args.key c.contains.result
+    c.contains.ensures.cases in
+    let none = not_from_Decides c.contains.result
+    (Decides-contains c.keys.result.now c.args.key c.contains.result there) c.if-not-contains.true in
     subst (AddsKeys (c.args.key ∷ []) c.args.self.now) (sym c.push.ensures)
-    (adds_new c.args.key c.args.self.now (λ has. none (subst (λ keys. Contains keys c.args.key) (sym c.keys.ensures.keys) has)))
+    (adds_new c.args.key c.args.self.now (λ has. none
+    (subst (λ keys. Contains keys c.args.key) (sym c.keys.ensures.keys) has)))

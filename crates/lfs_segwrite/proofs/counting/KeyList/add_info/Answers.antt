@@ -33,4 +33,5 @@ returns-in_default c =
           absurd (c.in_default.not-Some b (c.from_code.ensures.only b (file_block_of-is h.0 h.1) code))
       | inr other ↦ ap codes_to_mark (code_named-none info.lbn other) ∙ codes-none
     ] in
-    subst (λ (cs : List ℕ). AddsKeys (map (key_of info.ino info.version) cs) c.args.self.now c.args.self.now) (sym none) (adds_none c.args.self.now)
+    subst (λ (cs : List ℕ). AddsKeys (map (key_of info.ino info.version) cs) c.args.self.now c.args.self.now) (sym none)
+    (adds_none c.args.self.now)

@@ -20,12 +20,15 @@ use Rattle.lfs_staging.proofs.parts.Parts.+stage_parents.Goals as goal
 
 pub returns-in-Record : goal.returns-in-Record
 returns-in-Record t c =
-    parents_own c.args.self.now c.stage_own_record.new.self c.args.inode.now.number c.args.block c.stage_own_record.ensures (sym c.table-table.ensures ∙ c.in-Record.is)
+    parents_own c.args.self.now c.stage_own_record.new.self c.args.inode.now.number c.args.block
+    c.stage_own_record.ensures (sym c.table-table.ensures ∙ c.in-Record.is)
 
 -- what holds a block's address has a lesser code, where it isn't the record
-lesser : (block table : FileBlock) → IsFileBlock block → table ≡ table_of block → code_of table ≢ 0 → code_of table < code_of block
+lesser : (block table : FileBlock) → IsFileBlock block → table ≡ table_of block → code_of table ≢ 0
+    → code_of table < code_of block
 lesser block table can is some =
-    let other : code_of block ≢ 0 = λ none. some (ap code_of is ∙ ap (λ b. code_of (table_of b)) (same_block block Record can tt none)) in
+    let other : code_of block ≢ 0 = λ none. some (ap code_of is
+    ∙ ap (λ b. code_of (table_of b)) (same_block block Record can tt none)) in
     subst (λ x. code_of x < code_of block) (sym is) (table_of-less block other)
 
 pub stage_parents-requires : goal.stage_parents-requires
@@ -40,14 +43,16 @@ stage_parents-requires t c =
         (
           subst IsFileBlock (sym c.table-table.ensures) (table_of-is c.args.block c.requires.block),
           subst (λ x. HasFrames p v.number (codes_on (way_to (table_of x)))) (sym c.table-table.ensures)
-              (frames_above p v.number (table_of c.args.block) (table_of-is c.args.block c.requires.block) other c.requires.room),
+              (frames_above p v.number (table_of c.args.block)
+              (table_of-is c.args.block c.requires.block) other c.requires.room),
         ),
       ),
     )
 
 pub stage_table-requires : goal.stage_table-requires
 stage_table-requires t c =
-    let p = c.args.self.now in let q = c.stage_parents.new.self in let v = c.args.inode.now in let x = table_of c.args.block in
+    let p = c.args.self.now in let q = c.stage_parents.new.self in let v = c.args.inode.now in let x =
+    table_of c.args.block in
     let some = code-other c.table-table.result c.in-Single.is in
     let other : code_of x ≢ 0 = subst (λ b. code_of b ≢ 0) c.table-table.ensures some in
     let parents = subst (λ b. StagesParents v.number b p q) c.table-table.ensures c.stage_parents.ensures in
@@ -57,14 +62,20 @@ stage_table-requires t c =
       here = parents.same.records v.number ∙ c.requires.may.here;
       block = subst IsFileBlock (sym c.table-table.ensures) (table_of-is c.args.block c.requires.block);
       other = some;
-      room = subst (λ b. IsLocked (key_of v.number (version_of q v.number) (code_of b)) q.cache ⊎ (length q.cache.locked < LOCKED_LIMIT)) (sym c.table-table.ensures)
-          (block_room p q v.number x (table_of-is c.args.block c.requires.block) other (version-same p q v.number parents.same.log) parents.takes parents.files.cache c.requires.room);
+      room = subst (λ b. IsLocked (key_of v.number (version_of q v.number) (code_of b)) q.cache
+          ⊎ (length q.cache.locked < LOCKED_LIMIT)) (sym c.table-table.ensures)
+          (block_room p q v.number x (table_of-is c.args.block c.requires.block) other
+          (version-same p q v.number parents.same.log) parents.takes parents.files.cache c.requires.room);
     }
 
 pub returns-in-Single : goal.returns-in-Single
 returns-in-Single t c =
-    let p = c.args.self.now in let q = c.stage_parents.new.self in let r = c.stage_table.new.self in let v = c.args.inode.now in let x = table_of c.args.block in
-    let other : code_of x ≢ 0 = subst (λ b. code_of b ≢ 0) c.table-table.ensures (code-other c.table-table.result c.in-Single.is) in
+    let p = c.args.self.now in let q = c.stage_parents.new.self in let r = c.stage_table.new.self in let v =
+    c.args.inode.now in let x = table_of c.args.block in
+    let other : code_of x ≢ 0 = subst (λ b. code_of b ≢ 0) c.table-table.ensures
+    (code-other c.table-table.result c.in-Single.is) in
     let parents = subst (λ b. StagesParents v.number b p q) c.table-table.ensures c.stage_parents.ensures in
-    let staged = subst (λ b. StagesBlock v.number b (read (tree_of q v.number) (way_to b)) q r) c.table-table.ensures c.stage_table.ensures in
-    table_parents p r v.number c.args.block (table_again p q r v x c.requires.may (table_of-is c.args.block c.requires.block) other parents staged)
+    let staged = subst (λ b. StagesBlock v.number b (read (tree_of q v.number) (way_to b)) q r) c.table-table.ensures
+    c.stage_table.ensures in
+    table_parents p r v.number c.args.block (table_again p q r v x c.requires.may
+    (table_of-is c.args.block c.requires.block) other parents staged)

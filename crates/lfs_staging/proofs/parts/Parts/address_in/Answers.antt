@@ -13,7 +13,8 @@ address_of-requires-clause-inside c =
     let v = c.in-Some.inode in
     let has = given_record p c.args.ino c.record.result v c.record.ensures.shown c.in-Some.is in
     let same = tree_from-of p c.args.ino v has (c.requires.store.whole.files c.args.ino (fields_of v) has) in
-    subst (LiesIn (blocks_of p)) (sym same) (lies_in p c.args.ino 0 c.requires.in_range c.requires.store.whole.parts.laid_out c.requires.store.log)
+    subst (LiesIn (blocks_of p)) (sym same) (lies_in p c.args.ino 0 c.requires.in_range
+    c.requires.store.whole.parts.laid_out c.requires.store.log)
 
 pub returns-in-Some : goal.returns-in-Some
 returns-in-Some c =

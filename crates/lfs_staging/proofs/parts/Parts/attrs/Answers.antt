@@ -17,7 +17,8 @@ returns c =
     let p = c.args.self.now in
     let v = c.in_ok-record.field-0 in
     let has = given_record p c.args.ino c.record.result v c.record.ensures.shown c.in_ok-record.was in
-    ap Some c.attrs.ensures ∙ sym (shown-record p c.args.ino (fields_of v) has (c.requires.whole.files c.args.ino (fields_of v) has))
+    ap Some c.attrs.ensures ∙ sym (shown-record p c.args.ino (fields_of v) has
+    (c.requires.whole.files c.args.ino (fields_of v) has))
 
 pub record-requires : goal.record-requires
 record-requires c = omega arith

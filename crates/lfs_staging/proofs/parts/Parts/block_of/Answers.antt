@@ -8,4 +8,5 @@ use Rattle.lfs_staging.proofs.parts.Parts.block_of.Goals as goal
 pub returns : goal.returns
 returns c =
     let t = tree_from c.args.self.now c.args.inode.now in
-    c.bytes_via.ensures ∙ ap (bytes_via t (way_to c.args.block)) c.address_of.ensures ∙ sym (read-via t (way_to c.args.block))
+    c.bytes_via.ensures ∙ ap (bytes_via t (way_to c.args.block)) c.address_of.ensures
+    ∙ sym (read-via t (way_to c.args.block))

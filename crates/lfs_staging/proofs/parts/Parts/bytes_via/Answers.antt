@@ -10,8 +10,10 @@ use Rattle.lfs_staging.proofs.parts.Parts.bytes_via.Goals as goal
 pub returns-in-Some : goal.returns-in-Some
 returns-in-Some c =
     let held = ap option_copied (sym c.in-Some.is) ∙ c.dirty.ensures.value in
-    let waits = tree_dirty c.args.self.now c.args.inode.now c.args.block c.code.result (Some c.in-Some.waiting.now) c.code.ensures held in
-    sym (via-waits (tree_from c.args.self.now c.args.inode.now) (way_to c.args.block) c.args.address c.in-Some.waiting.now waits)
+    let waits = tree_dirty c.args.self.now c.args.inode.now c.args.block c.code.result
+    (Some c.in-Some.waiting.now) c.code.ensures held in
+    sym (via-waits (tree_from c.args.self.now c.args.inode.now)
+    (way_to c.args.block) c.args.address c.in-Some.waiting.now waits)
 
 pub returns-in-None : goal.returns-in-None
 unfolding zero_block
@@ -25,4 +27,5 @@ pub returns-in-None-2 : goal.returns-in-None-2
 returns-in-None-2 c =
     let held = ap option_copied (sym c.in-None-2.is) ∙ c.dirty.ensures.value in
     let waits = tree_dirty c.args.self.now c.args.inode.now c.args.block c.code.result None c.code.ensures held in
-    c.block.ensures.block ∙ sym (via-log (tree_from c.args.self.now c.args.inode.now) (way_to c.args.block) c.args.address waits c.if-address-eq0.false)
+    c.block.ensures.block ∙ sym (via-log (tree_from c.args.self.now c.args.inode.now)
+    (way_to c.args.block) c.args.address waits c.if-address-eq0.false)

@@ -12,7 +12,8 @@ use Rattle.lfs_staging.proofs.SettingLemmas.{waiting_record}
 use Rattle.lfs_staging.proofs.parts.Parts.clear.Goals as goal
 
 pub address_of-from-requires-clause-inside : goal.address_of-from-requires-clause-inside
-address_of-from-requires-clause-inside c = waiting_inside c.args.self.now c.args.inode.now c.requires.may.staged c.requires.is
+address_of-from-requires-clause-inside c =
+    waiting_inside c.args.self.now c.args.inode.now c.requires.may.staged c.requires.is
 
 pub set_address-requires-clause-within : goal.set_address-requires-clause-within
 set_address-requires-clause-within c =
@@ -20,15 +21,19 @@ set_address-requires-clause-within c =
     c.requires.may.within (fields_of v) (waiting_record p v c.requires.is)
 
 pub set_address-requires-clause-parent : goal.set_address-requires-clause-parent
-set_address-requires-clause-parent c = parent_of c.args.self.now c.args.inode.now c.args.block c.requires.may c.requires.is.at_version
+set_address-requires-clause-parent c = parent_of c.args.self.now c.args.inode.now c.args.block c.requires.may
+    c.requires.is.at_version
 
 pub move_live-requires : goal.move_live-requires
 move_live-requires c =
     let p = c.args.self.now in let v = c.args.inode.now in let b = c.args.block in
     let w = way_some b c.requires.may.can c.requires.may.other in
-    let there = sym (c.address_of-from.ensures ∙ ap (λ t. address t (way_to b)) (waiting_tree p v c.requires.may.staged c.requires.is)) in
-    subst (λ (l : LogParts). MayMoveLive l (code_of b) c.address_of-from.result 0) (sym (c.set_address.ensures.set w.0 w.1 w.2).log)
-    (may_lose p v.number b c.address_of-from.result c.requires.may.staged c.requires.is.in_use c.requires.may.can c.requires.may.other there)
+    let there = sym (c.address_of-from.ensures
+    ∙ ap (λ t. address t (way_to b)) (waiting_tree p v c.requires.may.staged c.requires.is)) in
+    subst (λ (l : LogParts). MayMoveLive l (code_of b) c.address_of-from.result 0)
+    (sym (c.set_address.ensures.set w.0 w.1 w.2).log)
+    (may_lose p v.number b c.address_of-from.result c.requires.may.staged c.requires.is.in_use c.requires.may.can
+    c.requires.may.other there)
 
 pub returns : goal.returns
 returns c =
@@ -36,11 +41,15 @@ returns c =
     let s = c.set_address.new.self in
     let q : Parts = record { log = c.move_live.new.self; cache = c.forget.new.self; waiting = s.waiting } in
     let w = way_some b c.requires.may.can c.requires.may.other in
-    let there = sym (c.address_of-from.ensures ∙ ap (λ t. address t (way_to b)) (waiting_tree p v c.requires.may.staged c.requires.is)) in
+    let there = sym (c.address_of-from.ensures
+    ∙ ap (λ t. address t (way_to b)) (waiting_tree p v c.requires.may.staged c.requires.is)) in
     let gives = gives_forgotten s q v (code_of b) c.address_of-from.result (key_of v.number v.version c.code.result)
-    (ap (key_of v.number v.version) c.code.ensures) c.move_live.ensures.memory c.move_live.ensures.others c.move_live.ensures.clean c.move_live.ensures.kept
-    (λ at is. c.move_live.ensures.step at v.number is) refl c.forget.ensures.formed c.forget.ensures.unlocked c.forget.ensures.gone c.forget.ensures.others in
-    given_back p s q v b w.0 w.1 c.address_of-from.result c.requires.is c.requires.may w.2 (c.set_address.ensures.set w.0 w.1 w.2) c.set_address.ensures.waiting there gives
+    (ap (key_of v.number v.version) c.code.ensures) c.move_live.ensures.memory c.move_live.ensures.others
+    c.move_live.ensures.clean c.move_live.ensures.kept
+    (λ at is. c.move_live.ensures.step at v.number is) refl c.forget.ensures.formed c.forget.ensures.unlocked
+    c.forget.ensures.gone c.forget.ensures.others in
+    given_back p s q v b w.0 w.1 c.address_of-from.result c.requires.is c.requires.may w.2
+    (c.set_address.ensures.set w.0 w.1 w.2) c.set_address.ensures.waiting there gives
 
 pub set_address-requires-clause-in_volume : goal.set_address-requires-clause-in_volume
 set_address-requires-clause-in_volume c = search rules

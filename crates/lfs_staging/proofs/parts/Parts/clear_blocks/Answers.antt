@@ -8,16 +8,19 @@ loop-index-init c = clears_none c.args.self.now c.args.ino c.args.first c.args.e
 
 pub clear_block-requires : goal.clear_block-requires
 clear_block-requires c =
-    may_clear c.args.self.now c.loop-index.self c.args.ino c.args.first c.loop-index.index c.args.end c.requires.may c.loop-index.invariant
+    may_clear c.args.self.now c.loop-index.self c.args.ino c.args.first c.loop-index.index c.args.end c.requires.may
+    c.loop-index.invariant
     (omega (arith, c.loop-index.auto.index)) (omega (arith, c.loop-index-test.true))
 
 pub loop-index-preserved : goal.loop-index-preserved
 loop-index-preserved c =
     let bounded = c.requires.may.bounded in
     let low = c.loop-index-test.true in
-    clears_more c.args.self.now c.loop-index.self c.clear_block.new.self c.args.ino c.args.first c.loop-index.index (omega (arith, c.loop-index.auto.index)) (omega arith) c.loop-index.invariant c.clear_block.ensures
+    clears_more c.args.self.now c.loop-index.self c.clear_block.new.self c.args.ino c.args.first c.loop-index.index
+    (omega (arith, c.loop-index.auto.index)) (omega arith) c.loop-index.invariant c.clear_block.ensures
 
 pub returns : goal.returns
 returns c =
-    let ends : c.loop-index.index ≡ c.args.end = omega (arith, c.loop-index-test.false, c.loop-index.auto.index, c.requires.ordered) in
+    let ends : c.loop-index.index ≡ c.args.end =
+    omega (arith, c.loop-index-test.false, c.loop-index.auto.index, c.requires.ordered) in
     subst (λ n. ClearsBlocks c.args.ino c.args.first n c.args.self.now c.loop-index.self) ends c.loop-index.invariant

@@ -13,12 +13,14 @@ pub block_of-requires-clause-inside : goal.block_of-requires-clause-inside
 block_of-requires-clause-inside c =
     let p = c.args.self.now in
     let v = c.args.inode.now in
-    let same = tree_from-of p v.number v c.requires.may.here (c.requires.may.files.files v.number (fields_of v) c.requires.may.here) in
+    let same = tree_from-of p v.number v c.requires.may.here
+    (c.requires.may.files.files v.number (fields_of v) c.requires.may.here) in
     subst (LiesIn (blocks_of p)) (sym same) c.requires.may.inside
 
 pub stage_data-requires-clause-zeros : goal.stage_data-requires-clause-zeros
 stage_data-requires-clause-zeros c =
-    cut_zeros c.args.index c.args.len c.args.inode.now.size c.block_of.result.now c.cut_piece.new.block c.cut_piece.ensures c.requires.less
+    cut_zeros c.args.index c.args.len c.args.inode.now.size c.block_of.result.now c.cut_piece.new.block
+    c.cut_piece.ensures c.requires.less
 
 pub returns : goal.returns
 returns c =
@@ -29,6 +31,8 @@ returns c =
     let most = file.formed.sized.0 in
     let inside = c.requires.within in
     let low : c.args.index < FILE_BLOCKS = omega arith in
-    let block = c.block_of.ensures ∙ ap (λ t. read t (data_way c.args.index)) same ∙ sym (data_block-read (tree_of p v.number) c.args.index low) in
-    cut_one p c.stage_data.new.self v c.args.index c.args.len c.block_of.result.now c.cut_piece.new.block (c.stage_data.ensures.kept 0 c.requires.staged)
+    let block = c.block_of.ensures ∙ ap (λ t. read t (data_way c.args.index)) same
+    ∙ sym (data_block-read (tree_of p v.number) c.args.index low) in
+    cut_one p c.stage_data.new.self v c.args.index c.args.len c.block_of.result.now c.cut_piece.new.block
+    (c.stage_data.ensures.kept 0 c.requires.staged)
     c.stage_data.ensures.staged block c.cut_piece.ensures

@@ -6,7 +6,8 @@ use Rattle.lfs_staging.proofs.parts.Parts.cut_last.Goals as goal
 
 pub returns-then-not-is_multiple_of : goal.returns-then-not-is_multiple_of
 returns-then-not-is_multiple_of c =
-    let some : c.args.len % 512 ≢ 0 = λ e. false≢true (sym c.if-not-is_multiple_of.true ∙ c.is_multiple_of.ensures.1 e) in
+    let some : c.args.len % 512 ≢ 0 = λ e. false≢true (sym c.if-not-is_multiple_of.true ∙ c.is_multiple_of.ensures.1 e)
+    in
     last_cut c.args.self.now c.cut_block.new.self c.args.inode.now c.args.len c.requires.may some
     (last_index c.args.inode.now c.args.self.now c.args.len c.requires.may c.requires.less) c.cut_block.ensures
 

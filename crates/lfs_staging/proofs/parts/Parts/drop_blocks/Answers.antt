@@ -8,12 +8,15 @@ clear_blocks-requires-clause-may c =
     let q = c.drop_tables.new.self in let end = c.data_run-direct.result.end in
     subst (λ n. MayClearBetween q c.args.ino n c.min-2.result) (sym c.min.ensures)
     (subst (λ n. MayClearBetween q c.args.ino (min c.args.left end) n) (sym c.min-2.ensures)
-    (may_direct c.args.self.now c.args.ino c.args.left c.args.blocks c.requires q c.data_run-direct.result.start end c.data_run-direct.ensures.own c.data_run-direct.ensures.start
+    (may_direct c.args.self.now c.args.ino c.args.left c.args.blocks c.requires q c.data_run-direct.result.start end
+    c.data_run-direct.ensures.own c.data_run-direct.ensures.start
     c.drop_tables.ensures))
 
 pub returns : goal.returns
 returns c =
     let q = c.drop_tables.new.self in let r = c.clear_blocks.new.self in let end = c.data_run-direct.result.end in
-    drops_all c.args.self.now c.args.ino c.args.left c.args.blocks c.requires q c.data_run-direct.result.start end c.data_run-direct.ensures.own c.data_run-direct.ensures.start
+    drops_all c.args.self.now c.args.ino c.args.left c.args.blocks c.requires q c.data_run-direct.result.start end
+    c.data_run-direct.ensures.own c.data_run-direct.ensures.start
     c.drop_tables.ensures r
-    (subst (λ n. ClearsBlocks c.args.ino n (min c.args.blocks end) q r) c.min.ensures (subst (λ n. ClearsBlocks c.args.ino c.min.result n q r) c.min-2.ensures c.clear_blocks.ensures))
+    (subst (λ n. ClearsBlocks c.args.ino n (min c.args.blocks end) q r) c.min.ensures
+    (subst (λ n. ClearsBlocks c.args.ino c.min.result n q r) c.min-2.ensures c.clear_blocks.ensures))

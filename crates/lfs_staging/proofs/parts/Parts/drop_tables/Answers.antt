@@ -9,9 +9,11 @@ use Rattle.lfs_staging.proofs.parts.Parts.drop_tables.Goals as goal
 pub loop-code-init : goal.loop-code-init
 loop-code-init c =
     let p = c.args.self.now in
-    let last : c.code-last.result ≡ code_of (table_of (Data (c.args.blocks - 1))) = c.code-last.ensures ∙ ap code_of c.table-2.ensures in
+    let last : c.code-last.result ≡ code_of (table_of (Data (c.args.blocks - 1))) = c.code-last.ensures
+    ∙ ap code_of c.table-2.ensures in
     record {
-      down = subst (λ n. DropsDown c.args.ino c.args.left (n + 1) p p) (sym last) (down_none p c.args.ino c.args.left c.args.blocks c.requires);
+      down = subst (λ n. DropsDown c.args.ino c.args.left (n + 1) p p) (sym last)
+          (down_none p c.args.ino c.args.left c.args.blocks c.requires);
       most = omega (arith, last);
     }
 
@@ -28,7 +30,8 @@ drop_table-requires c =
     let bounded = c.requires.bounded in let some = c.requires.some in
     let few = table_of-code (Data (c.args.blocks - 1)) (omega arith) in
     let next : c.loop-code.code ≡ code_of t + 1 = omega arith in
-    may_drop p c.args.ino c.args.left c.args.blocks c.requires c.loop-code.self t found.0 (λ e. omega arith) (omega arith) (omega arith) (omega arith)
+    may_drop p c.args.ino c.args.left c.args.blocks c.requires c.loop-code.self t found.0 (λ e. omega arith)
+    (omega arith) (omega arith) (omega arith)
     (subst (λ n. DropsDown c.args.ino c.args.left n p c.loop-code.self) next c.loop-code.invariant.down)
 
 pub loop-code-preserved-in-Some : goal.loop-code-preserved-in-Some
@@ -46,8 +49,10 @@ loop-code-preserved-in-Some c =
     let next : c.loop-code.code ≡ code_of t + 1 = omega arith in
     record {
       down = subst (λ n. DropsDown c.args.ino c.args.left n p c.drop_table.new.self) code
-          (drops_more p c.args.ino c.args.left c.args.blocks c.requires c.loop-code.self c.drop_table.new.self t found.0 (λ e. omega arith) (omega arith) (omega arith) (omega arith)
-          (subst (λ n. DropsDown c.args.ino c.args.left n p c.loop-code.self) next c.loop-code.invariant.down) c.drop_table.ensures);
+          (drops_more p c.args.ino c.args.left c.args.blocks c.requires c.loop-code.self c.drop_table.new.self t found.0
+          (λ e. omega arith) (omega arith) (omega arith) (omega arith)
+          (subst (λ n. DropsDown c.args.ino c.args.left n p c.loop-code.self) next c.loop-code.invariant.down)
+          c.drop_table.ensures);
       most = omega arith;
     }
 
@@ -71,4 +76,5 @@ returns c =
     = c.code-first.ensures ∙ ap code_of (c.table.ensures ∙ ap (λ n. table_of (Data n)) c.saturating_sub.ensures) in
     let from = c.max-code-start.ensures in
     let end = c.loop-code-test.false in
-    drops_down p c.args.ino c.args.left c.args.blocks c.requires c.loop-code.self c.loop-code.code (omega arith) c.loop-code.invariant.down
+    drops_down p c.args.ino c.args.left c.args.blocks c.requires c.loop-code.self c.loop-code.code
+    (omega arith) c.loop-code.invariant.down

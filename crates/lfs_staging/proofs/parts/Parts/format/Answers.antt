@@ -14,7 +14,8 @@ enter_root-requires-clause-fresh c =
     let same = c.write_root.ensures.tables ∙ ap (λ (l : LogParts). l.tables) c.in_ok-log.ensures.fresh in
     let live = ap (λ (t : Tables). length t.live) same ∙ length-replicate c.args.segments 0 in
     let rows = ap (λ (t : Tables). length t.rows) same ∙ length-replicate c.args.inodes fresh_row in
-    subst (λ n. t ≡ fresh_used n (length t.rows)) (sym live) (subst (λ n. t ≡ fresh_used c.args.segments n) (sym rows) same)
+    subst (λ n. t ≡ fresh_used n (length t.rows)) (sym live)
+    (subst (λ n. t ≡ fresh_used c.args.segments n) (sym rows) same)
 
 pub returns-clause-opening : goal.returns-clause-opening
 returns-clause-opening c = record {
@@ -29,10 +30,12 @@ returns-clause-opening c = record {
       let rows = ap (λ (t : Tables). length t.rows) same ∙ length-replicate c.args.inodes fresh_row in
       subst (λ (l : LogParts). HasRootRow c.args.segments c.args.inodes l.tables) (sym c.in_ok-over.ensures.log)
       (subst (λ n. HasRootRow n c.args.inodes c.enter_root.new.log.tables) live
-      (subst (λ n. HasRootRow (length c.write_root.new.log.tables.live) n c.enter_root.new.log.tables) rows c.enter_root.ensures.entered)));
+      (subst (λ n. HasRootRow (length c.write_root.new.log.tables.live) n c.enter_root.new.log.tables) rows
+      c.enter_root.ensures.entered)));
   cache = c.in_ok-over.ensures.cache;
   no_record = c.in_ok-over.ensures.no_record;
-  clean = (let clean = ap (λ (l : LogParts). l.clean) c.in_ok-over.ensures.log ∙ c.enter_root.ensures.clean ∙ c.write_root.ensures.clean ∙ ap (λ (l : LogParts). l.clean) c.in_ok-log.ensures.fresh in
+  clean = (let clean = ap (λ (l : LogParts). l.clean) c.in_ok-over.ensures.log ∙ c.enter_root.ensures.clean
+      ∙ c.write_root.ensures.clean ∙ ap (λ (l : LogParts). l.clean) c.in_ok-log.ensures.fresh in
       let same = c.write_root.ensures.tables ∙ ap (λ (l : LogParts). l.tables) c.in_ok-log.ensures.fresh in
       let live = ap (λ (t : Tables). length t.live) same ∙ length-replicate c.args.segments 0 in
       let some = c.write_root.ensures.kept.formed.segments_least in
@@ -43,4 +46,5 @@ pub returns-clause-content : goal.returns-clause-content
 returns-clause-content c = opening_shown c.args.segments c.args.inodes c.args.frames _ (returns-clause-opening c)
 
 pub returns-clause-store : goal.returns-clause-store
-returns-clause-store c = opening_store c.args.segments c.args.inodes c.args.frames _ (returns-clause-opening c) c.in_ok-over.ensures.formed
+returns-clause-store c = opening_store c.args.segments c.args.inodes c.args.frames _
+    (returns-clause-opening c) c.in_ok-over.ensures.formed

@@ -8,5 +8,6 @@ returns c =
     let size = c.max-size.result in
     let is : size ≡ max v.size c.args.size = omega (arith, c.max-size.ensures) in
     let more : v.size ≤ size = omega arith in
-    grown_to c.args.self.now c.stage_record.new.self v c.grown-grown.result size c.args.size c.requires.may c.stage_record.ensures
+    grown_to c.args.self.now c.stage_record.new.self v c.grown-grown.result size c.args.size c.requires.may
+    c.stage_record.ensures
     c.grown-grown.ensures.attributes c.grown-grown.ensures.addresses more is

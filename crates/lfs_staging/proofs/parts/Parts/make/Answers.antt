@@ -3,7 +3,8 @@ use Rattle.lfs_log.specs.Parts.{IsParts, LogParts}
 use Rattle.lfs_log.specs.Parts as log
 use Rattle.lfs_bmap.specs.Log.{Renews}
 use Rattle.lfs_staging.specs.Keys.{log_state}
-use Rattle.lfs_staging.proofs.NewFileLemmas.{made_content, made_log, made_staged, made_versions, nothing_before, waiting_more, GivesOutFile}
+use Rattle.lfs_staging.proofs.NewFileLemmas.{made_content, made_log, made_staged, made_versions, nothing_before}
+use Rattle.lfs_staging.proofs.NewFileLemmas.{waiting_more, GivesOutFile}
 use Rattle.lfs_staging.proofs.WaitingLemmas.{length-without}
 use Rattle.lfs_staging.proofs.parts.Parts.make.Goals as goal
 
@@ -12,7 +13,8 @@ stage_record-requires-clause-room c =
     let fewer = length-without c.args.self.now.waiting c.new.result.number in
     omega arith
 
-makes : (c : goal.After-stage_record) → GivesOutFile c.args.ino c.give_out-version.result c.args.attrs.now c.new.result c.args.self.now c.stage_record.new.self
+makes : (c : goal.After-stage_record) → GivesOutFile c.args.ino c.give_out-version.result c.args.attrs.now c.new.result
+    c.args.self.now c.stage_record.new.self
 makes c = record {
   memory = ap (λ (l : LogParts). l.memory) c.stage_record.ensures.log ∙ c.give_out-version.ensures.memory;
   tables = ap (λ (l : LogParts). l.tables) c.stage_record.ensures.log ∙ c.give_out-version.ensures.given;
@@ -34,25 +36,30 @@ returns-clause-staged c =
     let step = c.give_out-version.ensures.step (log_state old).at (λ code below. args code) in
     made_staged c.args.ino c.give_out-version.result c.args.attrs.now c.new.result old new (makes c)
     c.requires.least c.requires.in_range c.requires.free c.requires.staged.whole c.requires.staged
-    (subst (λ l. Renews (log.log_state old.log (log_state old).at) (log.log_state l (log_state old).at) c.args.ino) (sym c.stage_record.ensures.log) step)
+    (subst (λ l. Renews (log.log_state old.log (log_state old).at) (log.log_state l (log_state old).at) c.args.ino)
+    (sym c.stage_record.ensures.log) step)
     c.requires.records
 
 pub returns-clause-versions : goal.returns-clause-versions
 returns-clause-versions c =
-    made_versions c.args.ino c.give_out-version.result c.args.attrs.now c.new.result c.args.self.now c.stage_record.new.self (makes c)
+    made_versions c.args.ino c.give_out-version.result c.args.attrs.now c.new.result c.args.self.now
+    c.stage_record.new.self (makes c)
     c.requires.least c.requires.in_range c.requires.free c.requires.staged.whole c.give_out-version.ensures.version
 
 pub returns-clause-content : goal.returns-clause-content
 returns-clause-content c =
-    made_content c.args.ino c.give_out-version.result c.args.attrs.now c.new.result c.args.self.now c.stage_record.new.self (makes c)
+    made_content c.args.ino c.give_out-version.result c.args.attrs.now c.new.result c.args.self.now
+    c.stage_record.new.self (makes c)
     c.requires.least c.requires.in_range c.requires.free c.requires.staged.whole
 
 pub returns-clause-log : goal.returns-clause-log
 returns-clause-log c =
-    made_log c.args.ino c.give_out-version.result c.args.attrs.now c.new.result c.args.self.now c.stage_record.new.self (makes c)
+    made_log c.args.ino c.give_out-version.result c.args.attrs.now c.new.result c.args.self.now c.stage_record.new.self
+    (makes c)
     c.requires.least c.requires.in_range c.requires.free c.requires.staged.whole
 
 pub returns-clause-waiting : goal.returns-clause-waiting
 returns-clause-waiting c =
-    waiting_more c.args.ino c.give_out-version.result c.args.attrs.now c.new.result c.args.self.now c.stage_record.new.self (makes c)
+    waiting_more c.args.ino c.give_out-version.result c.args.attrs.now c.new.result c.args.self.now
+    c.stage_record.new.self (makes c)
     c.requires.least c.requires.in_range c.requires.free c.requires.staged.whole

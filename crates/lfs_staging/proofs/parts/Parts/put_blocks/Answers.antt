@@ -1,11 +1,13 @@
 use Rattle.std.proofs.Common.{length, arith}
-use Rattle.lfs_staging.proofs.PuttingLemmas.{put_all, put_codes, put_more, put_none, takes_first, takes_more, takes_room}
+use Rattle.lfs_staging.proofs.PuttingLemmas.{put_all, put_codes, put_more, put_none, takes_first, takes_more}
+use Rattle.lfs_staging.proofs.PuttingLemmas.{takes_room}
 use Rattle.lfs_staging.proofs.parts.Parts.put_blocks.Goals as goal
 
 pub loop-index-init : goal.loop-index-init
 loop-index-init c =
     record {
-      puts = put_none c.args.self.now c.args.inode.now c.args.off c.args.bytes.now c.blocks_touched-touched.result.start c.requires.may
+      puts = put_none c.args.self.now c.args.inode.now c.args.off c.args.bytes.now c.blocks_touched-touched.result.start
+          c.requires.may
           (λ n touched. (c.blocks_touched-touched.ensures.touched n touched).0);
       takes = takes_first c.args.self.now c.args.inode.now.number (put_codes c.args.off (length c.args.bytes.now));
     }
@@ -18,8 +20,11 @@ put_block-requires-clause-room c =
     let ends = c.blocks_touched-touched.ensures.some (omega (arith, c.requires.some)) in
     let low = c.loop-index-test.true in
     let from = c.loop-index.auto.index in
-    takes_room c.args.self.now c.loop-index.self c.args.inode.now.number c.args.off (length c.args.bytes.now) c.loop-index.index
-    (omega (arith, low, ends.1, c.requires.below)) (omega (arith, ends.0)) (omega (arith, ends.1)) c.requires.some c.requires.room c.loop-index.invariant.puts.log c.loop-index.invariant.takes
+    takes_room c.args.self.now c.loop-index.self c.args.inode.now.number c.args.off
+    (length c.args.bytes.now) c.loop-index.index
+    (omega (arith, low, ends.1, c.requires.below)) (omega (arith, ends.0))
+    (omega (arith, ends.1)) c.requires.some c.requires.room c.loop-index.invariant.puts.log
+    c.loop-index.invariant.takes
 
 pub put_block-requires-clause-within : goal.put_block-requires-clause-within
 put_block-requires-clause-within c =
@@ -33,11 +38,14 @@ loop-index-preserved c =
     let low = c.loop-index-test.true in
     let from = c.loop-index.auto.index in
     record {
-      puts = put_more c.args.self.now c.loop-index.self c.put_block.new.self c.args.inode.now c.args.off c.args.bytes.now c.loop-index.index
+      puts = put_more c.args.self.now c.loop-index.self c.put_block.new.self c.args.inode.now c.args.off
+          c.args.bytes.now c.loop-index.index
           c.loop-index.invariant.puts c.put_block.ensures;
-      takes = takes_more c.args.self.now c.loop-index.self c.put_block.new.self c.args.inode.now.number c.args.off (length c.args.bytes.now) c.loop-index.index
+      takes = takes_more c.args.self.now c.loop-index.self c.put_block.new.self c.args.inode.now.number c.args.off
+          (length c.args.bytes.now) c.loop-index.index
           c.loop-index.invariant.takes c.loop-index.invariant.puts.log c.put_block.ensures.takes
-          (omega (arith, low, ends.1, c.requires.below)) (omega (arith, ends.0)) (omega (arith, ends.1)) c.requires.some;
+          (omega (arith, low, ends.1, c.requires.below)) (omega (arith, ends.0))
+          (omega (arith, ends.1)) c.requires.some;
     }
 
 pub returns : goal.returns
@@ -45,5 +53,7 @@ returns c =
     let ends = c.blocks_touched-touched.ensures.some (omega (arith, c.requires.some)) in
     let high = c.loop-index-test.false in
     let to = c.loop-index.auto.index-end in
-    put_all c.args.self.now c.loop-index.self c.args.inode.now c.args.off c.args.bytes.now c.loop-index.index c.requires.may c.loop-index.invariant.puts
-    (λ n touched. let under = (c.blocks_touched-touched.ensures.touched n touched).1 in omega arith) c.loop-index.invariant.takes
+    put_all c.args.self.now c.loop-index.self c.args.inode.now c.args.off c.args.bytes.now c.loop-index.index
+    c.requires.may c.loop-index.invariant.puts
+    (λ n touched. let under = (c.blocks_touched-touched.ensures.touched n touched).1 in omega arith)
+    c.loop-index.invariant.takes

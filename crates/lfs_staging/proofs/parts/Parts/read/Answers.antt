@@ -43,7 +43,8 @@ read_blocks-requires-clause-present c =
     let v = c.in-Some.inode in
     let has = given_record p c.args.ino c.record.result v c.record.ensures.shown c.in-Some.is in
     let file = c.requires.whole.files c.args.ino (fields_of v) has in
-    subst (λ n. IsPresent p n v.version) (sym file.own_number) (record { in_use = record_used p c.args.ino (fields_of v) has; at_version = file.own_version })
+    subst (λ n. IsPresent p n v.version) (sym file.own_number)
+    (record { in_use = record_used p c.args.ino (fields_of v) has; at_version = file.own_version })
 
 pub read_blocks-requires-clause-here : goal.read_blocks-requires-clause-here
 read_blocks-requires-clause-here c =
@@ -58,7 +59,8 @@ read_blocks-requires-clause-inside c =
     let v = c.in-Some.inode in
     let has = given_record p c.args.ino c.record.result v c.record.ensures.shown c.in-Some.is in
     let own = (c.requires.whole.files c.args.ino (fields_of v) has).own_number in
-    subst (λ n. LiesIn (blocks_of p) (tree_of p n)) (sym own) (lies_in p c.args.ino 0 (omega arith) c.requires.whole.parts.laid_out c.requires.log)
+    subst (λ n. LiesIn (blocks_of p) (tree_of p n)) (sym own)
+    (lies_in p c.args.ino 0 (omega arith) c.requires.whole.parts.laid_out c.requires.log)
 
 pub read_blocks-requires-clause-below : goal.read_blocks-requires-clause-below
 read_blocks-requires-clause-below c = omega (arith, length-take c.min-count.result c.args.into.now)
@@ -71,6 +73,10 @@ returns-clause-reads c =
     let file = c.requires.whole.files c.args.ino (fields_of v) has in
     let bytes = file_bytes (data_block (tree_of p c.args.ino)) v.size in
     let long : length bytes ≡ v.size = file_bytes-length (data_block (tree_of p c.args.ino)) file.padded.whole v.size in
-    let front = c.read_blocks.ensures.filled ∙ ap (λ n. slice_of (file_bytes (data_block (tree_of p n)) v.size) c.args.off (length (take c.min-count.result c.args.into.now))) file.own_number in
-    subst (λ xs. Reads (slice_of xs c.args.off (length c.args.into.now)) c.min-count.result c.args.into.now (c.read_blocks.new.into ++ drop c.min-count.result c.args.into.now)) (sym (bytes_of-record p c.args.ino (fields_of v) has))
+    let front = c.read_blocks.ensures.filled
+    ∙ ap (λ n. slice_of (file_bytes (data_block (tree_of p n)) v.size) c.args.off
+    (length (take c.min-count.result c.args.into.now))) file.own_number in
+    subst (λ xs. Reads (slice_of xs c.args.off (length c.args.into.now)) c.min-count.result c.args.into.now
+    (c.read_blocks.new.into ++ drop c.min-count.result c.args.into.now))
+    (sym (bytes_of-record p c.args.ino (fields_of v) has))
     (read_front bytes c.args.off c.min-count.result c.args.into.now c.read_blocks.new.into (omega arith) front)

@@ -7,36 +7,43 @@ use Rattle.lfs_staging.proofs.parts.Parts.read_block.Goals as goal
 
 pub read_logged-requires-clause-mirrors : goal.read_logged-requires-clause-mirrors
 read_logged-requires-clause-mirrors c =
-    mirrored c.args.self.now c.args.inode.now c.args.index c.address_of-address.result c.key_of-key.result c.requires.files c.requires.here c.requires.block
+    mirrored c.args.self.now c.args.inode.now c.args.index c.address_of-address.result c.key_of-key.result
+    c.requires.files c.requires.here c.requires.block
     c.address_of-address.ensures c.key_of-key.ensures
 
 pub read_logged-requires-clause-inside : goal.read_logged-requires-clause-inside
 read_logged-requires-clause-inside c =
-    address_inside c.args.self.now c.args.inode.now c.args.index c.address_of-address.result c.key_of-key.result c.requires.files c.requires.here c.requires.block
+    address_inside c.args.self.now c.args.inode.now c.args.index c.address_of-address.result c.key_of-key.result
+    c.requires.files c.requires.here c.requires.block
     c.address_of-address.ensures c.key_of-key.ensures c.requires.inside
 
 pub bytes_via-requires-clause-inside : goal.bytes_via-requires-clause-inside
 bytes_via-requires-clause-inside c =
-    address_inside c.args.self.now c.args.inode.now c.args.index c.address_of-address.result c.key_of-key.result c.requires.files c.requires.here c.requires.block
+    address_inside c.args.self.now c.args.inode.now c.args.index c.address_of-address.result c.key_of-key.result
+    c.requires.files c.requires.here c.requires.block
     c.address_of-address.ensures c.key_of-key.ensures c.requires.inside
 
 pub returns-then-is_logged-clause-got : goal.returns-then-is_logged-clause-got
 returns-then-is_logged-clause-got c =
     let is = c.is_logged.ensures.0 c.if-is_logged.true in
     subst (λ block. IsGot c.args.index c.args.off block c.args.into.now c.read_logged.new.into)
-    (data_logged c.args.self.now c.args.inode.now c.args.index c.address_of-address.result c.key_of-key.result c.requires.files c.requires.here c.requires.block
+    (data_logged c.args.self.now c.args.inode.now c.args.index c.address_of-address.result c.key_of-key.result
+    c.requires.files c.requires.here c.requires.block
     c.address_of-address.ensures c.key_of-key.ensures is.0 is.1) c.read_logged.ensures.got
 
 pub returns-then-is_logged-clause-kept : goal.returns-then-is_logged-clause-kept
 returns-then-is_logged-clause-kept c =
     let p = c.args.self.now in
     let is = c.is_logged.ensures.0 c.if-is_logged.true in
-    held_clean p c.read_logged.new.self c.key_of-key.result (block_at p.log.memory c.address_of-address.result) c.requires.files.mirrors c.read_logged.ensures.held
-    (logged p c.args.inode.now c.args.index c.address_of-address.result c.key_of-key.result c.requires.files c.requires.here c.requires.block
+    held_clean p c.read_logged.new.self c.key_of-key.result
+    (block_at p.log.memory c.address_of-address.result) c.requires.files.mirrors c.read_logged.ensures.held
+    (logged p c.args.inode.now c.args.index c.address_of-address.result c.key_of-key.result c.requires.files
+    c.requires.here c.requires.block
     c.address_of-address.ensures c.key_of-key.ensures c.requires.present is.0)
 
 pub returns-else-is_logged-clause-got : goal.returns-else-is_logged-clause-got
 returns-else-is_logged-clause-got c =
     subst (λ block. IsGot c.args.index c.args.off block c.args.into.now c.get_piece.new.buffer)
-    (c.bytes_via.ensures ∙ data_via c.args.self.now c.args.inode.now c.args.index c.address_of-address.result c.key_of-key.result c.requires.files c.requires.here
+    (c.bytes_via.ensures ∙ data_via c.args.self.now c.args.inode.now c.args.index c.address_of-address.result
+    c.key_of-key.result c.requires.files c.requires.here
     c.requires.block c.address_of-address.ensures c.key_of-key.ensures) c.get_piece.ensures

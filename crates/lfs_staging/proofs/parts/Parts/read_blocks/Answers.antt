@@ -12,7 +12,8 @@ use Rattle.lfs_staging.proofs.SettingLemmas.{present_kept}
 use Rattle.lfs_staging.proofs.parts.Parts.read_blocks.Goals as goal
 
 pub read_block-requires-clause-files : goal.read_block-requires-clause-files
-read_block-requires-clause-files c = same_files c.args.self.now c.loop-index.self c.loop-index.invariant.kept c.requires.files
+read_block-requires-clause-files c = same_files c.args.self.now c.loop-index.self c.loop-index.invariant.kept
+    c.requires.files
 
 pub read_block-requires-clause-present : goal.read_block-requires-clause-present
 read_block-requires-clause-present c =
@@ -20,7 +21,8 @@ read_block-requires-clause-present c =
     present_kept c.args.self.now c.loop-index.self v.number v.version c.loop-index.invariant.kept.log c.requires.present
 
 pub read_block-requires-clause-here : goal.read_block-requires-clause-here
-read_block-requires-clause-here c = same_records c.args.self.now c.loop-index.self c.loop-index.invariant.kept c.args.inode.now.number ∙ c.requires.here
+read_block-requires-clause-here c = same_records c.args.self.now c.loop-index.self c.loop-index.invariant.kept
+    c.args.inode.now.number ∙ c.requires.here
 
 pub read_block-requires-clause-inside : goal.read_block-requires-clause-inside
 read_block-requires-clause-inside c =
@@ -40,8 +42,10 @@ loop-index-preserved c =
     let index = c.loop-index.index in
     record {
       whole = c.read_block.ensures.got.whole ∙ c.loop-index.invariant.whole;
-      filled = filled_more (data_block (tree_of p number)) c.args.off index (data_block (tree_of q number) index) c.loop-index.into c.read_block.new.into
-          c.loop-index.invariant.filled (ap (λ t. data_block t index) (same_trees p q kept number)) c.read_block.ensures.got;
+      filled = filled_more (data_block (tree_of p number)) c.args.off index
+          (data_block (tree_of q number) index) c.loop-index.into c.read_block.new.into
+          c.loop-index.invariant.filled (ap (λ t. data_block t index) (same_trees p q kept number))
+          c.read_block.ensures.got;
       kept = SameButClean-trans p q c.read_block.new.self kept c.read_block.ensures.kept;
     }
 
@@ -56,6 +60,7 @@ returns-clause-filled c =
     = λ n h.
     let to = c.blocks_touched-touched.ensures.touched n (subst (λ k. Touches c.args.off (c.args.off + k) n) whole h) in
     omega arith in
-    got_slice (data_block t) size c.args.off c.loop-index.into (c.requires.files.files v.number (fields_of v) c.requires.here).padded (omega arith)
+    got_slice (data_block t) size c.args.off c.loop-index.into
+    (c.requires.files.files v.number (fields_of v) c.requires.here).padded (omega arith)
     (filled_all (data_block t) c.args.off c.loop-index.index c.loop-index.into c.loop-index.invariant.filled last)
     ∙ ap (slice_of (file_bytes (data_block t) size) c.args.off) whole

@@ -6,12 +6,15 @@ use Rattle.lfs_staging.proofs.parts.Parts.read_logged.Goals as goal
 pub returns-in-Some-clause-held : goal.returns-in-Some-clause-held
 returns-in-Some-clause-held c =
     let p = c.args.self.now in
-    held_used p c.args.key (block_at p.log.memory c.args.address) c.get.follows.lender-at-none c.get.follows.holds-at-none
+    held_used p c.args.key (block_at p.log.memory c.args.address) c.get.follows.lender-at-none
+    c.get.follows.holds-at-none
     c.requires.free c.get.ensures.kept c.get.ensures.formed
 
 pub returns-in-None-clause-held : goal.returns-in-None-clause-held
 returns-in-None-clause-held c =
     let p = c.args.self.now in
-    held_filled p c.args.key (block_at p.log.memory c.args.address) c.get.follows.lender-at-none c.fill.new.self c.get.follows.holds-at-none
+    held_filled p c.args.key (block_at p.log.memory c.args.address) c.get.follows.lender-at-none c.fill.new.self
+    c.get.follows.holds-at-none
     c.requires.free c.get.ensures.kept c.get.ensures.formed
-    c.fill.ensures.none_unlocked c.fill.ensures.others c.fill.ensures.formed (c.fill.ensures.there ∙ ap Some c.block-logged.ensures.block)
+    c.fill.ensures.none_unlocked c.fill.ensures.others c.fill.ensures.formed (c.fill.ensures.there
+    ∙ ap Some c.block-logged.ensures.block)

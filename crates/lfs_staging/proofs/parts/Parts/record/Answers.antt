@@ -19,7 +19,8 @@ returns-in_err-place-clause-waits c = λ used waits.
 pub returns-in-Some-clause-shown : goal.returns-in-Some-clause-shown
 returns-in-Some-clause-shown c =
     let used = sym c.place.ensures.place ∙ c.in_ok-place.was in
-    sym (record_of-waiting c.args.self.now c.args.ino c.in_ok-place.place c.in-Some.inode used (sym c.waiting.ensures ∙ c.in-Some.is))
+    sym (record_of-waiting c.args.self.now c.args.ino c.in_ok-place.place c.in-Some.inode used (sym c.waiting.ensures
+    ∙ c.in-Some.is))
 
 pub returns-in-Some-clause-waits : goal.returns-in-Some-clause-waits
 returns-in-Some-clause-waits c = λ used waits. sym c.in-Some.is ∙ c.waiting.ensures

@@ -14,7 +14,8 @@ unreachable-requires c =
     false≢true (sym (ap is_some (sym c.record.ensures.shown ∙ ap (option_map fields_of) c.in-None.is)) ∙ recorded)
 
 pub returns-clause-here : goal.returns-clause-here
-returns-clause-here c = given_record c.args.self.now c.args.ino c.record.result c.in-Some.inode c.record.ensures.shown c.in-Some.is
+returns-clause-here c = given_record c.args.self.now c.args.ino c.record.result c.in-Some.inode c.record.ensures.shown
+    c.in-Some.is
 
 pub returns-clause-waits : goal.returns-clause-waits
 returns-clause-waits c = λ waits. sym (c.record.ensures.waits c.requires.in_use waits) ∙ c.in-Some.is

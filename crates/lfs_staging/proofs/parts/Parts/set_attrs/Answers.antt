@@ -17,7 +17,8 @@ stage_record-requires-clause-in_use c =
     let v = c.record_in_use-inode.result in
     let has = c.record_in_use-inode.ensures.here in
     let own : c.with_attrs-changed.result.number ≡ c.args.ino
-    = ap (λ (a : Attributes). a.number) c.with_attrs-changed.ensures.attributes ∙ (c.requires.may.files.files c.args.ino (fields_of v) has).own_number in
+    = ap (λ (a : Attributes). a.number) c.with_attrs-changed.ensures.attributes
+    ∙ (c.requires.may.files.files c.args.ino (fields_of v) has).own_number in
     ap (λ n. (row_of p.log.tables n).used) own ∙ c.requires.may.in_use
 
 pub stage_record-requires-clause-room : goal.stage_record-requires-clause-room
@@ -26,24 +27,28 @@ stage_record-requires-clause-room c =
     let v = c.record_in_use-inode.result in
     let has = c.record_in_use-inode.ensures.here in
     let own : c.with_attrs-changed.result.number ≡ c.args.ino
-    = ap (λ (a : Attributes). a.number) c.with_attrs-changed.ensures.attributes ∙ (c.requires.may.files.files c.args.ino (fields_of v) has).own_number in
+    = ap (λ (a : Attributes). a.number) c.with_attrs-changed.ensures.attributes
+    ∙ (c.requires.may.files.files c.args.ino (fields_of v) has).own_number in
     subst (λ n. length (without n p.waiting) < 64) (sym own) c.requires.may.records
 
 pub returns-clause-content : goal.returns-clause-content
 returns-clause-content c =
-    attrs_shown c.args.self.now c.stage_record.new.self c.record_in_use-inode.result c.with_attrs-changed.result c.args.ino c.args.attrs.now c.requires.may
+    attrs_shown c.args.self.now c.stage_record.new.self c.record_in_use-inode.result c.with_attrs-changed.result
+    c.args.ino c.args.attrs.now c.requires.may
     c.record_in_use-inode.ensures.here c.stage_record.ensures
     c.with_attrs-changed.ensures.attributes c.with_attrs-changed.ensures.addresses
 
 pub returns-clause-addresses : goal.returns-clause-addresses
 returns-clause-addresses c =
-    (attrs_changed c.args.self.now c.stage_record.new.self c.record_in_use-inode.result c.with_attrs-changed.result c.args.ino c.args.attrs.now c.requires.may
+    (attrs_changed c.args.self.now c.stage_record.new.self c.record_in_use-inode.result c.with_attrs-changed.result
+    c.args.ino c.args.attrs.now c.requires.may
     c.record_in_use-inode.ensures.here c.stage_record.ensures
     c.with_attrs-changed.ensures.attributes c.with_attrs-changed.ensures.addresses).blocks
 
 pub returns-clause-kept : goal.returns-clause-kept
 returns-clause-kept c =
-    (attrs_changed c.args.self.now c.stage_record.new.self c.record_in_use-inode.result c.with_attrs-changed.result c.args.ino c.args.attrs.now c.requires.may
+    (attrs_changed c.args.self.now c.stage_record.new.self c.record_in_use-inode.result c.with_attrs-changed.result
+    c.args.ino c.args.attrs.now c.requires.may
     c.record_in_use-inode.ensures.here c.stage_record.ensures
     c.with_attrs-changed.ensures.attributes c.with_attrs-changed.ensures.addresses).kept
 

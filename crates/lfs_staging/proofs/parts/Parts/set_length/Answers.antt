@@ -16,20 +16,23 @@ use Rattle.lfs_staging.proofs.parts.Parts.set_length.Goals as goal
 pub cut-requires-clause-may : goal.cut-requires-clause-may
 cut-requires-clause-may c =
     let p = c.args.self.now in
-    may_from p c.record_in_use-inode.result c.args.ino (staged_change p c.args.ino 0 c.requires.staged c.requires.in_range c.requires.in_use c.requires.records)
+    may_from p c.record_in_use-inode.result c.args.ino
+    (staged_change p c.args.ino 0 c.requires.staged c.requires.in_range c.requires.in_use c.requires.records)
     c.record_in_use-inode.ensures.here
 
 pub stage_record-requires-clause-in_use : goal.stage_record-requires-clause-in_use
 stage_record-requires-clause-in_use c =
     let p = c.args.self.now in let v = c.record_in_use-inode.result in
-    let may = may_from p v c.args.ino (staged_change p c.args.ino 0 c.requires.staged c.requires.in_range c.requires.in_use c.requires.records)
+    let may = may_from p v c.args.ino (staged_change p c.args.ino 0 c.requires.staged c.requires.in_range
+    c.requires.in_use c.requires.records)
     c.record_in_use-inode.ensures.here in
     ap (λ (a : Attributes). (row_of p.log.tables a.number).used) c.grown.ensures.attributes ∙ may.in_use
 
 pub stage_record-requires-clause-room : goal.stage_record-requires-clause-room
 stage_record-requires-clause-room c =
     let p = c.args.self.now in let v = c.record_in_use-inode.result in
-    let may = may_from p v c.args.ino (staged_change p c.args.ino 0 c.requires.staged c.requires.in_range c.requires.in_use c.requires.records)
+    let may = may_from p v c.args.ino (staged_change p c.args.ino 0 c.requires.staged c.requires.in_range
+    c.requires.in_use c.requires.records)
     c.record_in_use-inode.ensures.here in
     subst (λ (a : Attributes). length (without a.number p.waiting) < 64) (sym c.grown.ensures.attributes) may.records
 
@@ -38,7 +41,8 @@ returns-then-len-inode-clause-content c =
     let p = c.args.self.now in let v = c.record_in_use-inode.result in
     let has = c.record_in_use-inode.ensures.here in
     let own = (c.requires.staged.whole.files c.args.ino (fields_of v) has).own_number in
-    let may = may_from p v c.args.ino (staged_change p c.args.ino 0 c.requires.staged c.requires.in_range c.requires.in_use c.requires.records) has in
+    let may = may_from p v c.args.ino (staged_change p c.args.ino 0 c.requires.staged c.requires.in_range
+    c.requires.in_use c.requires.records) has in
     cut_content p c.cut.new.self v c.args.len may c.cut.ensures ∙ ap (λ n. with_length n c.args.len (content_of p)) own
 
 pub returns-then-len-inode-clause-size : goal.returns-then-len-inode-clause-size
@@ -46,48 +50,61 @@ returns-then-len-inode-clause-size c = λ g is.
     let p = c.args.self.now in let v = c.record_in_use-inode.result in
     let has = c.record_in_use-inode.ensures.here in
     let own = (c.requires.staged.whole.files c.args.ino (fields_of v) has).own_number in
-    length_size c.cut.new.self v.number c.args.len (fields_of v) g (c.cut.ensures.here (fields_of v) (ap (record_of p) own ∙ has)) (ap (record_of c.cut.new.self) own ∙ is)
+    length_size c.cut.new.self v.number c.args.len (fields_of v) g
+    (c.cut.ensures.here (fields_of v) (ap (record_of p) own ∙ has)) (ap (record_of c.cut.new.self) own ∙ is)
 
 pub returns-else-len-inode-clause-staged : goal.returns-else-len-inode-clause-staged
 returns-else-len-inode-clause-staged c =
     let p = c.args.self.now in let v = c.record_in_use-inode.result in
     let has = c.record_in_use-inode.ensures.here in
-    let may = may_from p v c.args.ino (staged_change p c.args.ino 0 c.requires.staged c.requires.in_range c.requires.in_use c.requires.records) has in
-    (grown_length p c.stage_record.new.self v c.grown.result c.args.len may c.stage_record.ensures c.grown.ensures.attributes c.grown.ensures.addresses (omega arith)).kept 0 c.requires.staged
+    let may = may_from p v c.args.ino (staged_change p c.args.ino 0 c.requires.staged c.requires.in_range
+    c.requires.in_use c.requires.records) has in
+    (grown_length p c.stage_record.new.self v c.grown.result c.args.len may c.stage_record.ensures
+    c.grown.ensures.attributes c.grown.ensures.addresses (omega arith)).kept 0 c.requires.staged
 
 pub returns-else-len-inode-clause-content : goal.returns-else-len-inode-clause-content
 returns-else-len-inode-clause-content c =
     let p = c.args.self.now in let v = c.record_in_use-inode.result in
     let has = c.record_in_use-inode.ensures.here in
     let own = (c.requires.staged.whole.files c.args.ino (fields_of v) has).own_number in
-    let may = may_from p v c.args.ino (staged_change p c.args.ino 0 c.requires.staged c.requires.in_range c.requires.in_use c.requires.records) has in
-    let h = grown_length p c.stage_record.new.self v c.grown.result c.args.len may c.stage_record.ensures c.grown.ensures.attributes c.grown.ensures.addresses (omega arith) in
-    grown_content p c.stage_record.new.self v c.grown.result c.args.len may (omega arith) h ∙ ap (λ n. with_length n c.args.len (content_of p)) own
+    let may = may_from p v c.args.ino (staged_change p c.args.ino 0 c.requires.staged c.requires.in_range
+    c.requires.in_use c.requires.records) has in
+    let h = grown_length p c.stage_record.new.self v c.grown.result c.args.len may c.stage_record.ensures
+    c.grown.ensures.attributes c.grown.ensures.addresses (omega arith) in
+    grown_content p c.stage_record.new.self v c.grown.result c.args.len may (omega arith) h
+    ∙ ap (λ n. with_length n c.args.len (content_of p)) own
 
 pub returns-else-len-inode-clause-size : goal.returns-else-len-inode-clause-size
 returns-else-len-inode-clause-size c = λ g is.
     let p = c.args.self.now in let v = c.record_in_use-inode.result in
     let has = c.record_in_use-inode.ensures.here in
     let own = (c.requires.staged.whole.files c.args.ino (fields_of v) has).own_number in
-    let may = may_from p v c.args.ino (staged_change p c.args.ino 0 c.requires.staged c.requires.in_range c.requires.in_use c.requires.records) has in
-    let h = grown_length p c.stage_record.new.self v c.grown.result c.args.len may c.stage_record.ensures c.grown.ensures.attributes c.grown.ensures.addresses (omega arith) in
-    length_size c.stage_record.new.self v.number c.args.len (fields_of v) g (grown_attributes p c.stage_record.new.self v c.grown.result c.args.len (omega arith) h)
+    let may = may_from p v c.args.ino (staged_change p c.args.ino 0 c.requires.staged c.requires.in_range
+    c.requires.in_use c.requires.records) has in
+    let h = grown_length p c.stage_record.new.self v c.grown.result c.args.len may c.stage_record.ensures
+    c.grown.ensures.attributes c.grown.ensures.addresses (omega arith) in
+    length_size c.stage_record.new.self v.number c.args.len (fields_of v) g
+    (grown_attributes p c.stage_record.new.self v c.grown.result c.args.len (omega arith) h)
     (ap (record_of c.stage_record.new.self) own ∙ is)
 
 pub returns-else-len-inode-clause-log : goal.returns-else-len-inode-clause-log
 returns-else-len-inode-clause-log c =
     let p = c.args.self.now in let v = c.record_in_use-inode.result in
     let has = c.record_in_use-inode.ensures.here in
-    let may = may_from p v c.args.ino (staged_change p c.args.ino 0 c.requires.staged c.requires.in_range c.requires.in_use c.requires.records) has in
-    let h = grown_length p c.stage_record.new.self v c.grown.result c.args.len may c.stage_record.ensures c.grown.ensures.attributes c.grown.ensures.addresses (omega arith) in
+    let may = may_from p v c.args.ino (staged_change p c.args.ino 0 c.requires.staged c.requires.in_range
+    c.requires.in_use c.requires.records) has in
+    let h = grown_length p c.stage_record.new.self v c.grown.result c.args.len may c.stage_record.ensures
+    c.grown.ensures.attributes c.grown.ensures.addresses (omega arith) in
     stays_files p c.stage_record.new.self h.log h.blocks
 
 pub returns-else-len-inode-clause-waiting : goal.returns-else-len-inode-clause-waiting
 returns-else-len-inode-clause-waiting c =
     let p = c.args.self.now in let v = c.record_in_use-inode.result in
     let has = c.record_in_use-inode.ensures.here in
-    let may = may_from p v c.args.ino (staged_change p c.args.ino 0 c.requires.staged c.requires.in_range c.requires.in_use c.requires.records) has in
-    let h = grown_length p c.stage_record.new.self v c.grown.result c.args.len may c.stage_record.ensures c.grown.ensures.attributes c.grown.ensures.addresses (omega arith) in
+    let may = may_from p v c.args.ino (staged_change p c.args.ino 0 c.requires.staged c.requires.in_range
+    c.requires.in_use c.requires.records) has in
+    let h = grown_length p c.stage_record.new.self v c.grown.result c.args.len may c.stage_record.ensures
+    c.grown.ensures.attributes c.grown.ensures.addresses (omega arith) in
     one_record p c.stage_record.new.self v.number h.room
 
 pub returns-then-len-inode-clause-others : goal.returns-then-len-inode-clause-others
@@ -95,7 +112,8 @@ returns-then-len-inode-clause-others c =
     let p = c.args.self.now in let v = c.record_in_use-inode.result in
     let has = c.record_in_use-inode.ensures.here in
     let own = (c.requires.staged.whole.files c.args.ino (fields_of v) has).own_number in
-    let less = length-less c.cut.new.self.waiting c.args.ino (subst (λ n. IsSome (waiting_in c.cut.new.self.waiting n)) own c.cut.ensures.waits) in
+    let less = length-less c.cut.new.self.waiting c.args.ino
+    (subst (λ n. IsSome (waiting_in c.cut.new.self.waiting n)) own c.cut.ensures.waits) in
     let more = c.cut.ensures.waiting in
     omega arith
 
@@ -104,8 +122,11 @@ returns-else-len-inode-clause-others c =
     let p = c.args.self.now in let v = c.record_in_use-inode.result in
     let has = c.record_in_use-inode.ensures.here in
     let own = (c.requires.staged.whole.files c.args.ino (fields_of v) has).own_number in
-    let may = may_from p v c.args.ino (staged_change p c.args.ino 0 c.requires.staged c.requires.in_range c.requires.in_use c.requires.records) has in
-    let h = grown_length p c.stage_record.new.self v c.grown.result c.args.len may c.stage_record.ensures c.grown.ensures.attributes c.grown.ensures.addresses (omega arith) in
-    let same = ap (λ (vs : List Inode). length vs) (subst (λ n. without n c.stage_record.new.self.waiting ≡ without n p.waiting) own h.room) in
+    let may = may_from p v c.args.ino (staged_change p c.args.ino 0 c.requires.staged c.requires.in_range
+    c.requires.in_use c.requires.records) has in
+    let h = grown_length p c.stage_record.new.self v c.grown.result c.args.len may c.stage_record.ensures
+    c.grown.ensures.attributes c.grown.ensures.addresses (omega arith) in
+    let same = ap (λ (vs : List Inode). length vs)
+    (subst (λ n. without n c.stage_record.new.self.waiting ≡ without n p.waiting) own h.room) in
     let fewer = length-without p.waiting c.args.ino in
     omega arith

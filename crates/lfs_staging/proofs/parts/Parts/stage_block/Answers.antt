@@ -6,11 +6,13 @@ use Rattle.lfs_staging.proofs.parts.Parts.stage_block.Goals as goal
 
 pub returns : goal.returns
 returns c =
-    staged_block c.args.self.now _ c.args.inode.now.number c.args.inode.now.version c.code.result c.args.block c.args.bytes.now c.requires.block c.requires.version c.code.ensures
+    staged_block c.args.self.now _ c.args.inode.now.number c.args.inode.now.version c.code.result c.args.block
+    c.args.bytes.now c.requires.block c.requires.version c.code.ensures
     refl refl c.write.ensures.dirty c.write.ensures.others c.write.ensures.one_more
     c.write.ensures.none_more c.write.ensures.formed
 
 pub write-requires : goal.write-requires
 write-requires c =
     let v = c.args.inode.now in
-    subst (λ k. IsLocked (key_of v.number v.version k) c.args.self.now.cache ⊎ (length c.args.self.now.cache.locked < 24)) (sym c.code.ensures) c.requires.room
+    subst (λ k. IsLocked (key_of v.number v.version k) c.args.self.now.cache
+    ⊎ (length c.args.self.now.cache.locked < 24)) (sym c.code.ensures) c.requires.room

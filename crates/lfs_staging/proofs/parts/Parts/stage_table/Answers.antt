@@ -13,7 +13,8 @@ pub block_of-requires-clause-inside : goal.block_of-requires-clause-inside
 block_of-requires-clause-inside c =
     let p = c.args.self.now in
     let v = c.args.inode.now in
-    let same = tree_from-of p v.number v c.requires.here (c.requires.files.files v.number (fields_of v) c.requires.here) in
+    let same = tree_from-of p v.number v c.requires.here (c.requires.files.files v.number (fields_of v) c.requires.here)
+    in
     subst (LiesIn (blocks_of p)) (sym same) c.requires.inside
 
 pub returns-then-waits : goal.returns-then-waits
@@ -22,7 +23,8 @@ returns-then-waits c =
     let v = c.args.inode.now in
     let own = (c.requires.files.files v.number (fields_of v) c.requires.here).own_version in
     table_staged p v.number c.args.table c.requires.files.cache
-    (subst (λ version. IsLocked (key_of v.number version (code_of c.args.table)) p.cache) own (c.waits.ensures.0 c.if-waits.true))
+    (subst (λ version. IsLocked (key_of v.number version (code_of c.args.table)) p.cache) own
+    (c.waits.ensures.0 c.if-waits.true))
 
 pub stage_block-requires-clause-version : goal.stage_block-requires-clause-version
 stage_block-requires-clause-version c =
@@ -32,8 +34,10 @@ pub returns : goal.returns
 returns c =
     let p = c.args.self.now in
     let v = c.args.inode.now in
-    let same = tree_from-of p v.number v c.requires.here (c.requires.files.files v.number (fields_of v) c.requires.here) in
-    subst (λ bytes. StagesBlock v.number c.args.table bytes p c.stage_block.new.self) (c.block_of.ensures ∙ ap (λ t. read t (way_to c.args.table)) same) c.stage_block.ensures
+    let same = tree_from-of p v.number v c.requires.here (c.requires.files.files v.number (fields_of v) c.requires.here)
+    in
+    subst (λ bytes. StagesBlock v.number c.args.table bytes p c.stage_block.new.self) (c.block_of.ensures
+    ∙ ap (λ t. read t (way_to c.args.table)) same) c.stage_block.ensures
 
 pub stage_block-requires-clause-room : goal.stage_block-requires-clause-room
 stage_block-requires-clause-room c =
@@ -41,6 +45,7 @@ stage_block-requires-clause-room c =
     let v = c.args.inode.now in
     let own = (c.requires.files.files v.number (fields_of v) c.requires.here).own_version in
     elim c.requires.room [
-      | inl locked ↦ inl (subst (λ version. IsLocked (key_of v.number version (code_of c.args.table)) p.cache) (sym own) locked)
+      | inl locked ↦ inl (subst (λ version. IsLocked (key_of v.number version (code_of c.args.table)) p.cache)
+          (sym own) locked)
       | inr few ↦ inr few
     ]

@@ -6,11 +6,13 @@ use Rattle.lfs_staging.proofs.TakenLemmas.{block_room, frames_above}
 use Rattle.lfs_staging.proofs.parts.Parts.stage_with_parents.Goals as goal
 
 pub stage_parents-requires-clause-room : goal.stage_parents-requires-clause-room
-stage_parents-requires-clause-room c = frames_above c.args.self.now c.args.inode.now.number c.args.block c.requires.block c.requires.other c.requires.room
+stage_parents-requires-clause-room c = frames_above c.args.self.now c.args.inode.now.number c.args.block
+    c.requires.block c.requires.other c.requires.room
 
 pub stage_table-requires-clause-inside : goal.stage_table-requires-clause-inside
 stage_table-requires-clause-inside c =
-    (parents_again c.args.self.now c.stage_parents.new.self c.args.inode.now c.args.block c.requires.may c.stage_parents.ensures).inside
+    (parents_again c.args.self.now c.stage_parents.new.self c.args.inode.now c.args.block c.requires.may
+    c.stage_parents.ensures).inside
 
 pub stage_table-requires-clause-here : goal.stage_table-requires-clause-here
 stage_table-requires-clause-here c = c.stage_parents.ensures.same.records c.args.inode.now.number ∙ c.requires.may.here
@@ -19,9 +21,11 @@ pub stage_table-requires-clause-room : goal.stage_table-requires-clause-room
 stage_table-requires-clause-room c =
     let p = c.args.self.now in let q = c.stage_parents.new.self in let v = c.args.inode.now in
     let parents = c.stage_parents.ensures in
-    block_room p q v.number c.args.block c.requires.block c.requires.other (version-same p q v.number parents.same.log) parents.takes parents.files.cache c.requires.room
+    block_room p q v.number c.args.block c.requires.block c.requires.other
+    (version-same p q v.number parents.same.log) parents.takes parents.files.cache c.requires.room
 
 pub returns : goal.returns
 returns c =
-    table_again c.args.self.now c.stage_parents.new.self c.stage_table.new.self c.args.inode.now c.args.block c.requires.may c.requires.block c.requires.other
+    table_again c.args.self.now c.stage_parents.new.self c.stage_table.new.self c.args.inode.now c.args.block
+    c.requires.may c.requires.block c.requires.other
     c.stage_parents.ensures c.stage_table.ensures

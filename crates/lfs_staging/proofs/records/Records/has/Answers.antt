@@ -7,4 +7,5 @@ use Rattle.lfs_staging.proofs.records.Records.has.Goals as goal
 pub returns-else-number-lt-MOST_INODES : goal.returns-else-number-lt-MOST_INODES
 returns-else-number-lt-MOST_INODES c =
     le-ltb c.args.number 4096 (omega arith)
-    ∙ sym (ap is_some (none_past c.args.self.now c.args.number (subst (All IsNumbered) c.self.view_is c.self.invariant.numbered) (omega arith)))
+    ∙ sym (ap is_some (none_past c.args.self.now c.args.number
+    (subst (All IsNumbered) c.self.view_is c.self.invariant.numbered) (omega arith)))

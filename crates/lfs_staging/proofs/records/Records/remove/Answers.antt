@@ -16,7 +16,8 @@ pub invariant_of-self : goal.invariant_of-self
 invariant_of-self c =
     let some : IsSome (waiting_in c.self.inside.records.items c.args.number)
     = ap (λ vs. is_some (waiting_in vs c.args.number)) c.self.view_is ∙ sym c.has.ensures ∙ c.if-has.true in
-    removed_kept _ _ _ c.self.invariant c.args.number c.drop_record.new.records.items _ some c.drop_record.ensures.items c.drop_record.ensures.capacity
+    removed_kept _ _ _ c.self.invariant c.args.number c.drop_record.new.records.items _ some c.drop_record.ensures.items
+    c.drop_record.ensures.capacity
 
 pub returns-else-has : goal.returns-else-has
 returns-else-has c = sym (without-untold c.args.self.now c.args.number (sym c.has.ensures ∙ c.if-has.false))

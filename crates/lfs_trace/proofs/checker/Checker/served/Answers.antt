@@ -8,8 +8,10 @@ use Rattle.lfs_trace.proofs.checker.Checker.served.Goals as goal
 pub invariant_of-self : goal.invariant_of-self
 invariant_of-self c =
     checked_stands c.self.inside.numbers (standing c.self.inside.tree c.self.inside.level c.self.inside.segments)
-    (standing c.make.new.tree c.make.new.level c.self.inside.segments) c.args.entry.now.cred (User c.args.request.now (Served c.args.shown.now)) c.make.result
-    (c.make.ensures c.self.inside.segments c.args.shown.now (c.may_show.ensures.0 c.if-not-may_show.false) c.requires) c.self.invariant
+    (standing c.make.new.tree c.make.new.level c.self.inside.segments) c.args.entry.now.cred
+    (User c.args.request.now (Served c.args.shown.now)) c.make.result
+    (c.make.ensures c.self.inside.segments c.args.shown.now (c.may_show.ensures.0 c.if-not-may_show.false) c.requires)
+    c.self.invariant
 
 pub returns : goal.returns
 returns c =

@@ -15,7 +15,8 @@ returns-clause-few c =
     let walk = c.args.self.now in
     subst (λ o. IfSome o (λ _. walk.done < length walk.marks.items)) (sym c.copied.ensures)
     (if_copied _ c.get.result (λ some.
-    let inside : walk.done < length c.deref.result.now = ltb-true walk.done (length c.deref.result.now) (sym c.get.ensures.lookup.0 ∙ some) in
+    let inside : walk.done < length c.deref.result.now =
+    ltb-true walk.done (length c.deref.result.now) (sym c.get.ensures.lookup.0 ∙ some) in
     let long = ap length c.deref.ensures.value in
     let few = no_more walk.order.items walk.marks.items walk.marked in
     omega arith))

@@ -1,5 +1,6 @@
 use Rattle.lfs_types.proofs.answer.Served.try_clone.Goals as goal
-use Rattle.lfs_types.proofs.answer.Served.try_clone.Goals.{in-Stat, in-Bytes+in_ok-try_clone-in-Bytes, in-Names+in_ok-try_clone-in-Names, in-Done}
+use Rattle.lfs_types.proofs.answer.Served.try_clone.Goals.{in-Stat, in-Bytes+in_ok-try_clone-in-Bytes}
+use Rattle.lfs_types.proofs.answer.Served.try_clone.Goals.{in-Names+in_ok-try_clone-in-Names, in-Done}
 
 pub returns-clause-copy : goal.returns-clause-copy
 returns-clause-copy c =

@@ -9,7 +9,8 @@ few g c = search rules
 
 pub answer_and_enter-requires : goal.answer_and_enter-requires
 answer_and_enter-requires g c = record {
-  room = subst (λ v. length v.journal < v.limit) c.self.view_is (omega (arith, c.if-len-self.false, c.len.ensures, c.self.inside.journal.ok.0));
+  room = subst (λ v. length v.journal < v.limit) c.self.view_is
+      (omega (arith, c.if-len-self.false, c.len.ensures, c.self.inside.journal.ok.0));
   few = subst (λ v. length v.journal < 2 ^ 32 - 1) c.self.view_is (few g c);
 }
 

@@ -10,22 +10,30 @@ use Rattle.lfs_volume.proofs.volume.Volume.clean.Goals.{After-enter}
 -- the journal after the entry
 longer : (g : _) (c : After-enter g)
     → Since (g.F.FileStore.state c.self.inside.since.value) c.self.inside.since_level
-    (λ from. IsJournal from (g.F.FileStore.state c.cleaned-answer.new.store) c.self.inside.level c.enter.new.journal.items c.self.inside.limit)
+    (λ from. IsJournal from (g.F.FileStore.state c.cleaned-answer.new.store) c.self.inside.level
+    c.enter.new.journal.items c.self.inside.limit)
 longer g c = λ from begins.
     let old = g.F.FileStore.state c.self.inside.store in
     let new = g.F.FileStore.state c.cleaned-answer.new.store in
     let caller = c.args.cred.now in
     let j = c.self.invariant.1 from begins in
     let comes : outcome_of c.cleaned-answer.result ≡ Some c.in-Some.outcome = sym c.outcome.ensures ∙ c.in-Some.is in
-    let step = IsStep-cleaned from old new c.self.inside.level c.self.inside.journal.items c.self.inside.limit caller c.args.call c.cleaned-answer.result
+    let step = IsStep-cleaned from old new c.self.inside.level c.self.inside.journal.items c.self.inside.limit caller
+    c.args.call c.cleaned-answer.result
     c.in-Some.outcome j c.cleaned-answer.ensures.cleaned comes in
     c.enter.ensures.legal from old new c.self.inside.level c.self.inside.level c.self.inside.limit j
     (omega (arith, c.if-len-self.false, c.len.ensures, c.self.inside.journal.ok.0, j.within))
-    (subst (λ k. IsStep old new c.self.inside.level (world_after old.shape.numbers c.self.inside.journal.items from) caller (Cleaner k c.in-Some.outcome))
+    (subst (λ k. IsStep old new c.self.inside.level
+    (world_after old.shape.numbers c.self.inside.journal.items from) caller (Cleaner k c.in-Some.outcome))
     (sym c.of-kind.ensures) step)
 
 pub invariant_of-self-2 : goal.invariant_of-self-2
-invariant_of-self-2 g c = (c.self.invariant.0, longer g c, omega (arith, c.self.invariant.2, c.enter.ensures.room), c.enter.ensures.counted)
+invariant_of-self-2 g c = (
+  c.self.invariant.0,
+  longer g c,
+  omega (arith, c.self.invariant.2, c.enter.ensures.room),
+  c.enter.ensures.counted,
+)
 
 pub returns-clause-legal : goal.returns-clause-legal
 returns-clause-legal g c = longer g c

@@ -10,4 +10,5 @@ over-requires g c = (opening_world, (opening_begins (g.F.FileStore.state c.args.
 
 pub returns-clause-opening : goal.returns-clause-opening
 returns-clause-opening g c =
-    IfOk-weaker c.over.result _ _ (λ v is. subst (λ x. Begins (g.F.FileStore.state x.since) x.since_level opening_world) (sym is) (opening_begins (g.F.FileStore.state c.args.store) c.requires)) c.over.ensures
+    IfOk-weaker c.over.result _ _ (λ v is. subst (λ x. Begins (g.F.FileStore.state x.since) x.since_level opening_world)
+    (sym is) (opening_begins (g.F.FileStore.state c.args.store) c.requires)) c.over.ensures

@@ -9,11 +9,14 @@ invariant_of-result g c =
     let store = c.args.store in
     let level = c.args.level in
     let limit = c.args.journal_limit in (
-      subst (λ x. HasBegun (g.F.FileStore.state x) level) (sym c.of-since.ensures) (begun (g.F.FileStore.state store) level c.requires),
+      subst (λ x. HasBegun (g.F.FileStore.state x) level) (sym c.of-since.ensures)
+          (begun (g.F.FileStore.state store) level c.requires),
       λ from begins.
-          subst (λ x. IsJournal from (g.F.FileStore.state x) level c.in_ok-journal.journal.items limit) (sym c.in_ok-store.ensures)
+          subst (λ x. IsJournal from (g.F.FileStore.state x) level c.in_ok-journal.journal.items limit)
+          (sym c.in_ok-store.ensures)
           (subst (λ es. IsJournal from (g.F.FileStore.state store) level es limit) (sym c.in_ok-journal.ensures.items)
-          (beginning_journal from (g.F.FileStore.state store) level limit (subst (λ x. Begins (g.F.FileStore.state x) level from) c.of-since.ensures begins))),
+          (beginning_journal from (g.F.FileStore.state store) level limit
+          (subst (λ x. Begins (g.F.FileStore.state x) level from) c.of-since.ensures begins))),
       omega (arith, c.in_ok-journal.ensures.exact),
       c.none.ensures ∙ ap counts_of (sym c.in_ok-journal.ensures.items),
     )

@@ -23,28 +23,46 @@ loop-session-preserved g c =
     let settled = g.F.FileStore.is_settled in
     let opening = c.args.self.now in
     let journal = opening.journal ++ kept c.loop-session.yielded c.loop-session.answers.items in
-    let pushed : c.push_within.new.items.items ≡ c.loop-session.answers.items ++ answer ∷ [] = c.push_within.ensures.pushed in
+    let pushed : c.push_within.new.items.items ≡ c.loop-session.answers.items ++ answer
+    ∷ [] = c.push_within.ensures.pushed in
     let still : Since (state opening.since) opening.since_level (Begins (state before.since) before.since_level) =
-    λ from begins. subst (λ l. Begins (state before.since) l from) (sym i.since_level) (subst (λ s. Begins (state s) opening.since_level from) (sym i.since) begins) in
-    let stepped : c.loop-session.session-iterator.rest.items ≡ one ∷ c.next.new.self.rest.items = c.in-Some.ensures.steps.0 in
+    λ from begins. subst (λ l. Begins (state before.since) l from) (sym i.since_level)
+    (subst (λ s. Begins (state s) opening.since_level from) (sym i.since) begins) in
+    let stepped : c.loop-session.session-iterator.rest.items ≡ one
+    ∷ c.next.new.self.rest.items = c.in-Some.ensures.steps.0 in
     record {
-      each = λ from begins. let here = still from begins in subst (λ answers. AreAnswers state settled opening.limit from opening.journal opening.store (c.loop-session.yielded ++ one ∷ []) answers next.store) (sym pushed)
-          (AreAnswers-append state settled opening.limit from opening.journal opening.store before.store next.store c.loop-session.yielded c.loop-session.answers.items one answer (i.each from begins)
-          (subst (λ n. IsCallMade state settled n from journal before.store one.cred one.request answer next.store) i.limit
-          (subst (λ j. IsCallMade state settled before.limit from j before.store one.cred one.request answer next.store) i.entered
-          (call_made state settled from before next one.cred one.request answer made.full made.at_limit (made.shown from here) (λ room. made.outcome room from here) (made.entries from here) made.unserved made.looks made.unasked made.synced made.follows))));
+      each = λ from begins. let here = still from begins in
+          subst (λ answers. AreAnswers state settled opening.limit from opening.journal opening.store
+          (c.loop-session.yielded ++ one ∷ []) answers next.store) (sym pushed)
+          (AreAnswers-append state settled opening.limit from opening.journal opening.store before.store next.store
+          c.loop-session.yielded c.loop-session.answers.items one answer (i.each from begins)
+          (subst (λ n. IsCallMade state settled n from journal before.store one.cred one.request answer next.store)
+          i.limit
+          (subst (λ j. IsCallMade state settled before.limit from j before.store one.cred one.request answer next.store)
+          i.entered
+          (call_made state settled from before next one.cred one.request answer made.full made.at_limit
+          (made.shown from here) (λ room. made.outcome room from here)
+          (made.entries from here) made.unserved made.looks made.unasked made.synced made.follows))));
       entered = made.entered
           ∙ ap (λ j. j ++ kept_entry one.session one.cred one.request answer) i.entered
-          ∙ append_assoc opening.journal (kept c.loop-session.yielded c.loop-session.answers.items) (kept_entry one.session one.cred one.request answer)
-          ∙ ap (λ l. opening.journal ++ l) (sym (kept-append c.loop-session.yielded c.loop-session.answers.items one answer i.count) ∙ ap (kept (c.loop-session.yielded ++ one ∷ [])) (sym pushed));
+          ∙ append_assoc opening.journal (kept c.loop-session.yielded c.loop-session.answers.items)
+          (kept_entry one.session one.cred one.request answer)
+          ∙ ap (λ l. opening.journal ++ l)
+          (sym (kept-append c.loop-session.yielded c.loop-session.answers.items one answer i.count)
+          ∙ ap (kept (c.loop-session.yielded ++ one ∷ [])) (sym pushed));
       legal = made.legal;
-      all = append_assoc c.loop-session.yielded (one ∷ []) c.next.new.self.rest.items ∙ ap (λ l. c.loop-session.yielded ++ l) (sym stepped) ∙ i.all;
+      all = append_assoc c.loop-session.yielded (one ∷ []) c.next.new.self.rest.items
+          ∙ ap (λ l. c.loop-session.yielded ++ l) (sym stepped) ∙ i.all;
       count = simp (pushed, length-append) (omega (arith, i.count));
       room = omega (arith, i.room, c.push_within.ensures.room);
       since = made.since ∙ i.since;
       since_level = made.since_level ∙ i.since_level;
       limit = made.limit ∙ i.limit;
-      follows = record { clean = omega (arith, made.follows.clean, i.follows.clean); shape = made.follows.shape ∙ i.follows.shape };
+      follows = record {
+        clean = omega (arith, made.follows.clean, i.follows.clean);
+        shape = made.follows.shape
+            ∙ i.follows.shape;
+      };
     }
 
 pub returns-clause-each : goal.returns-clause-each

@@ -1,4 +1,5 @@
-use Rattle.std.proofs.Common.{rules, ◌≡◌, ◌∷◌, [], ◌++◌, sym, ap, subst, ◌∙◌, arith, length-append, append_assoc, append-nil}
+use Rattle.std.proofs.Common.{rules, ◌≡◌, ◌∷◌, [], ◌++◌, sym, ap, subst, ◌∙◌, arith, length-append, append_assoc}
+use Rattle.std.proofs.Common.{append-nil}
 use Rattle.std.proofs.lemmas.Grind.{common_steps}
 use Rattle.std.proofs.lemmas.List.{nil_from_length}
 use Rattle.lfs_types.specs.StoreStates.{Shape}
@@ -22,22 +23,33 @@ loop-step-preserved g c =
     let next = c.make-answered.new.self.store in
     let opening = c.args.self.now in
     let kept = kept_steps c.loop-step.yielded c.loop-step.answers.items in
-    let pushed : c.push_within.new.items.items ≡ c.loop-step.answers.items ++ answer ∷ [] = c.push_within.ensures.pushed in
+    let pushed : c.push_within.new.items.items ≡ c.loop-step.answers.items ++ answer
+    ∷ [] = c.push_within.ensures.pushed in
     let still : Since (r.state opening.since) opening.since_level (Begins (r.state before.since) before.since_level) =
-    λ from begins. subst (λ l. Begins (r.state before.since) l from) (sym i.since_level) (subst (λ s. Begins (r.state s) opening.since_level from) (sym i.since) begins) in
-    let stepped : c.loop-step.step-iterator.rest.items ≡ step ∷ c.next.new.self.rest.items = c.in-Some.ensures.steps.0 in
+    λ from begins. subst (λ l. Begins (r.state before.since) l from) (sym i.since_level)
+    (subst (λ s. Begins (r.state s) opening.since_level from) (sym i.since) begins) in
+    let stepped : c.loop-step.step-iterator.rest.items ≡ step
+    ∷ c.next.new.self.rest.items = c.in-Some.ensures.steps.0 in
     record {
-      each = λ from begins. let here = still from begins in subst (λ answers. AreSteps r opening.limit from opening.journal opening.store (c.loop-step.yielded ++ step ∷ []) answers next) (sym pushed)
-          (AreSteps-append r opening.limit from opening.journal opening.store before.store next c.loop-step.yielded c.loop-step.answers.items step answer (i.each from begins)
-          (subst (λ j. IsVolume (r.state before.store) (world_after (r.state before.store).shape.numbers j from)) i.entered (i.legal from here).shown)
+      each = λ from begins. let here = still from begins in
+          subst (λ answers. AreSteps r opening.limit from opening.journal opening.store (c.loop-step.yielded ++ step
+          ∷ []) answers next) (sym pushed)
+          (AreSteps-append r opening.limit from opening.journal opening.store before.store next c.loop-step.yielded
+          c.loop-step.answers.items step answer (i.each from begins)
+          (subst (λ j. IsVolume (r.state before.store) (world_after (r.state before.store).shape.numbers j from))
+          i.entered (i.legal from here).shown)
           (subst (λ n. IsActMade r n from (opening.journal ++ kept) before.store step.cred step.act answer next) i.limit
-          (subst (λ j. IsActMade r before.limit from j before.store step.cred step.act answer next) i.entered (made.made from here))));
+          (subst (λ j. IsActMade r before.limit from j before.store step.cred step.act answer next) i.entered
+          (made.made from here))));
       entered = made.entered
           ∙ ap (λ j. j ++ kept_step step answer) i.entered
           ∙ append_assoc opening.journal kept (kept_step step answer)
-          ∙ ap (λ l. opening.journal ++ l) (sym (kept_steps-append c.loop-step.yielded c.loop-step.answers.items step answer i.count) ∙ ap (kept_steps (c.loop-step.yielded ++ step ∷ [])) (sym pushed));
+          ∙ ap (λ l. opening.journal ++ l)
+          (sym (kept_steps-append c.loop-step.yielded c.loop-step.answers.items step answer i.count)
+          ∙ ap (kept_steps (c.loop-step.yielded ++ step ∷ [])) (sym pushed));
       legal = made.legal;
-      all = append_assoc c.loop-step.yielded (step ∷ []) c.next.new.self.rest.items ∙ ap (λ l. c.loop-step.yielded ++ l) (sym stepped) ∙ i.all;
+      all = append_assoc c.loop-step.yielded (step ∷ []) c.next.new.self.rest.items
+          ∙ ap (λ l. c.loop-step.yielded ++ l) (sym stepped) ∙ i.all;
       count = simp (pushed, length-append) (omega (arith, i.count));
       room = omega (arith, i.room, c.push_within.ensures.room);
       since = made.since ∙ i.since;
@@ -62,11 +74,13 @@ returns-clause-users_alone g c =
     let now = c.loop-step.self in
     λ from begins.
     let here : Begins (state now.since) now.since_level from =
-    subst (λ l. Begins (state now.since) l from) (sym i.since_level) (subst (λ s. Begins (state s) opening.since_level from) (sym i.since) begins) in
+    subst (λ l. Begins (state now.since) l from) (sym i.since_level)
+    (subst (λ s. Begins (state s) opening.since_level from) (sym i.since) begins) in
     let legal : IsLegal shape.numbers shape.segments (opening.journal ++ kept) from =
     subst (λ j. IsLegal shape.numbers shape.segments j from) entered
     (subst (λ (s : Shape). IsLegal s.numbers s.segments now.journal from) i.shape (i.legal from here).legal) in
-    subst (λ j. AreLegalAlone shape kept (world_after shape.numbers opening.journal from) (world_after shape.numbers j from)) (sym entered)
+    subst (λ j. AreLegalAlone shape kept (world_after shape.numbers opening.journal from)
+    (world_after shape.numbers j from)) (sym entered)
     (AreLegalAlone-behind from shape opening.journal kept legal)
 
 pub returns-in-Err-clause-legal : goal.returns-in-Err-clause-legal

@@ -9,9 +9,12 @@ abbrev pub invariant-loop-step : goal.invariant-loop-step
 invariant-loop-step g l =
     let r = g.F.CleanedStore in
     record {
-      each : Since (g.F.FileStore.state l.fn.self.since) l.fn.self.since_level (λ from. AreSteps (cleaner_of g.F.FileStore.state g.F.FileStore.is_settled r.cleaner) l.fn.self.limit from l.fn.self.journal l.fn.self.store l.yielded l.answers.items l.self.store);
+      each : Since (g.F.FileStore.state l.fn.self.since) l.fn.self.since_level
+          (λ from. AreSteps (cleaner_of g.F.FileStore.state g.F.FileStore.is_settled r.cleaner) l.fn.self.limit from
+          l.fn.self.journal l.fn.self.store l.yielded l.answers.items l.self.store);
       entered : l.self.journal ≡ l.fn.self.journal ++ kept_steps l.yielded l.answers.items;
-      legal : Since (g.F.FileStore.state l.self.since) l.self.since_level (λ from. IsJournal from (g.F.FileStore.state l.self.store) l.self.level l.self.journal l.self.limit);
+      legal : Since (g.F.FileStore.state l.self.since) l.self.since_level
+          (λ from. IsJournal from (g.F.FileStore.state l.self.store) l.self.level l.self.journal l.self.limit);
       since : l.self.since ≡ l.fn.self.since;
       since_level : l.self.since_level ≡ l.fn.self.since_level;
       all : l.yielded ++ l.step-iterator.rest.items ≡ l.fn.steps.items;

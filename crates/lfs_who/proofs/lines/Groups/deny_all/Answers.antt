@@ -5,7 +5,18 @@ use Rattle.lfs_who.proofs.lines.Groups.deny_all.Goals as goal
 
 pub returns : goal.returns
 returns c who rest =
-    let made : c.push.new.self.items ≡ c.args.lines.now.items ++ record { inside = c.args.self.now.inside.items; outside = c.args.self.now.outside.items; denial = Some c.args.denial } ∷ [] =
-    c.in_ok-push.ensures.items ∙ ap (λ (l : Told). c.args.lines.now.items ++ l ∷ []) (c.new.ensures ∙ (λ k. record { inside = c.in_ok-inside.ensures k; outside = c.in_ok-outside.ensures k; denial = Some c.args.denial })) in
-    all_denied who c.args.self.now.inside.items c.args.self.now.outside.items 0 c.args.lines.now.items (Some c.args.denial) rest
+    let made : c.push.new.self.items ≡ c.args.lines.now.items
+    ++ record {
+      inside = c.args.self.now.inside.items;
+      outside = c.args.self.now.outside.items;
+      denial = Some c.args.denial;
+    } ∷ [] =
+    c.in_ok-push.ensures.items ∙ ap (λ (l : Told). c.args.lines.now.items ++ l ∷ []) (c.new.ensures
+    ∙ (λ k. record {
+      inside = c.in_ok-inside.ensures k;
+      outside = c.in_ok-outside.ensures k;
+      denial = Some c.args.denial;
+    })) in
+    all_denied who c.args.self.now.inside.items c.args.self.now.outside.items 0 c.args.lines.now.items
+    (Some c.args.denial) rest
     ∙ ap (λ (ls : List Told). told_to who ls ++ []) (sym made)

@@ -10,5 +10,12 @@ apply-requires g c = record {
   few_puts = omega arith;
   few_lengths = omega arith;
   few_bytes = omega arith;
-  each = ((omega arith, omega (arith, (ap numbers_of c.fresh-store.ensures)), ap (λ m. map.get m 5) (ap contents_of c.fresh-store.ensures) ∙ free_at_opening 5 (omega arith)), tt);
+  each = (
+    (
+      omega arith,
+      omega (arith, (ap numbers_of c.fresh-store.ensures)),
+      ap (λ m. map.get m 5) (ap contents_of c.fresh-store.ensures) ∙ free_at_opening 5 (omega arith),
+    ),
+    tt,
+  );
 }

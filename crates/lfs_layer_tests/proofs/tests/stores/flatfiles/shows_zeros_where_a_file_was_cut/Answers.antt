@@ -9,7 +9,8 @@ use Rattle.lfs_layer_tests.proofs.FirstChanges.{numbers_of, contents_of}
 use Rattle.lfs_layer_tests.proofs.FirstChanges.{at_file, first_file, made_and_put}
 use Rattle.lfs_layer_tests.proofs.tests.stores.flatfiles.shows_zeros_where_a_file_was_cut.Goals as goal
 
-asked : (n : ℕ) (c : Content) (a : Attrs) (p : Bor (List ℕ)) → n ≡ 16 → c ≡ opening_content → a.kind ≡ Regular → p.now ≡ 97 ∷ 98 ∷ 99 ∷ 100 ∷ [] → CanApply n (Make 4 a ∷ Put 4 0 p ∷ SetLength 4 1 ∷ []) c
+asked : (n : ℕ) (c : Content) (a : Attrs) (p : Bor (List ℕ)) → n ≡ 16 → c ≡ opening_content → a.kind ≡ Regular → p.now
+    ≡ 97 ∷ 98 ∷ 99 ∷ 100 ∷ [] → CanApply n (Make 4 a ∷ Put 4 0 p ∷ SetLength 4 1 ∷ []) c
 asked n c a p is_n is_c is_a is_p =
     let fits : 1 ≤ 8460288 = omega arith in
     record {
@@ -24,4 +25,5 @@ asked n c a p is_n is_c is_a is_p =
 pub apply-requires : goal.apply-requires
 apply-requires g c =
     let store = c.fresh-store.result in
-    asked (vec_len store.places) (content_of store.places.items) c.attrs_of-made.result _ (ap numbers_of c.fresh-store.ensures) (ap contents_of c.fresh-store.ensures) c.attrs_of-made.ensures refl
+    asked (vec_len store.places) (content_of store.places.items) c.attrs_of-made.result _
+    (ap numbers_of c.fresh-store.ensures) (ap contents_of c.fresh-store.ensures) c.attrs_of-made.ensures refl

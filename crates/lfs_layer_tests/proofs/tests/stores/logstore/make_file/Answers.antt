@@ -10,5 +10,13 @@ apply-requires g c = record {
   few_puts = omega arith;
   few_lengths = omega arith;
   few_bytes = omega arith;
-  each = ((omega arith, omega (arith, (ap numbers_of c.requires)), ap (λ m. map.get m 4) (ap contents_of c.requires) ∙ free_at_opening 4 (omega arith)), tt);
+  each = (
+    (
+      omega arith,
+      omega (arith, (ap numbers_of c.requires)),
+      ap (λ m. map.get m 4) (ap contents_of c.requires)
+          ∙ free_at_opening 4 (omega arith),
+    ),
+    tt,
+  );
 }
