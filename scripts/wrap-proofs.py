@@ -7,6 +7,7 @@ where the fewest brackets are open: before an arrow or another operator, behind 
 changes nothing, names each line above 150 columns, and its status is 1 where there is one. A text in quotes stays whole. A long `use` becomes several of the same module. Run
 `rt fmt` in the crate's folder behind it.
 """
+import itertools
 import pathlib
 import re
 import sys
@@ -71,13 +72,11 @@ def broken(line):
     return [*found, " " * margin + text]
 
 
-def comment(line):
-    """The lines that a comment becomes."""
-    indent = len(line) - len(line.lstrip(" "))
-    words, found = line[indent + 2 :].split(), []
-    start = " " * indent + "--"
-    now = start
-    for word in words:
+def comment(lines):
+    """A comment's lines, of which one is long, filled again."""
+    start = lines[0][: len(lines[0]) - len(lines[0].lstrip(" "))] + "--"
+    found, now = [], start
+    for word in " ".join(it.lstrip(" ")[2:] for it in lines).split():
         if len(now) + 1 + len(word) > WIDE and now != start:
             found.append(now)
             now = start
@@ -99,18 +98,25 @@ def imports(line):
     return [*found, now + "}"]
 
 
+def is_comment(line):
+    return line.lstrip(" ").startswith("-- ") and not line.lstrip(" ").startswith("-- --")
+
+
 def wrapped(text):
     """A file's text with no long line, where one can be broken."""
     found = []
-    for line in text.split("\n"):
-        if len(line) <= WIDE:
-            found.append(line)
-        elif line.lstrip().startswith("--"):
-            found += comment(line)
-        elif re.fullmatch(r" *(?:pub )?use [^{}]*\{[^{}]*\}", line):
-            found += imports(line)
-        else:
-            found += broken(line)
+    for of_comment, lines in itertools.groupby(text.split("\n"), key=is_comment):
+        lines = list(lines)
+        if of_comment:
+            found += comment(lines) if any(len(it) > WIDE for it in lines) else lines
+            continue
+        for line in lines:
+            if len(line) <= WIDE:
+                found.append(line)
+            elif re.fullmatch(r" *(?:pub )?use [^{}]*\{[^{}]*\}", line):
+                found += imports(line)
+            else:
+                found += broken(line)
     return "\n".join(found)
 
 

@@ -35,8 +35,7 @@ use Rattle.lfs_audit.specs.Runs.{AreAsked, TellsCleaning, IsAsked, Passes, Runs,
 use Rattle.lfs_audit.specs.Runs.{call_step, cleaning_step, first_pass, lines_text}
 
 -- a volume became this one by the steps of a pass so far, which stands there, told this answer, and the lines were
--- added
--- to a text
+-- added to a text
 pub record IsPassing {F : Type 0} (r : Cleaner F) (old new : Seen F) (session : ℕ) (caller : Caller) (pass : Pass)
     (last : Option CleanerAnswer) (before after : List ℕ) : Type 0 where
   pub made : List Made

@@ -31,8 +31,7 @@ abbrev pub HasPlan : Option (List ℕ) → Type 0
 HasPlan script = IfSome script (λ bytes. (plan : Planned) × IsRead bytes plan)
 
 -- a script of these bytes, where they are known, may not be read and parsed for this fault: it is too long only with
--- more
--- than 1,048,576 bytes, and the fault of a line is that of parsing one that isn't
+-- more than 1,048,576 bytes, and the fault of a line is that of parsing one that isn't
 abbrev pub IsReadingFault : Option (List ℕ) → RunFault → Type 0
 IsReadingFault script Read = Unit {0}
 IsReadingFault script TooLong = IfSome script (λ bytes. 1048576 < length bytes)

@@ -14,12 +14,9 @@ use Rattle.lfs_volume.specs.StepRuns.{AreSteps}
 use Rattle.lfs_audit.specs.Runs.{AreAsked, lines_text}
 
 -- A text is that of a run of a plan on a volume over this store, whose journal began in such a world, has no entries
--- and may
--- have so many: the line of each answer to what the plan's lines ask for, a pass's calls among it, and the report of
--- the
--- entries that are kept. These are legal from there; an answer is JournalFull exactly where there are as many entries
--- as
--- there may be by then, and each other has its cause there.
+-- and may have so many: the line of each answer to what the plan's lines ask for, a pass's calls among it, and the
+-- report of the entries that are kept. These are legal from there; an answer is JournalFull exactly where there are as
+-- many entries as there may be by then, and each other has its cause there.
 pub record IsRun {F : Type 0} (r : Cleaner F) (begins : World → Type 0) (limit : ℕ) (store : F) (steps : List Step)
     (text : List ℕ) : Type 0 where
   pub made : List Made

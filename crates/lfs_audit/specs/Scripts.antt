@@ -25,8 +25,7 @@ pub record IsLogOutput (script : List ℕ) (segments inodes frames limit : ℕ) 
   pub output : IsOutput log_cleaner (λ from. from ≡ opening_world) script limit store text
 
 -- a run of a script of these bytes, where they are known, on a fresh volume over such a log may end in this fault: the
--- log is
--- laid out only once the script is parsed, and something is written only once the log is laid out
+-- log is laid out only once the script is parsed, and something is written only once the log is laid out
 abbrev pub IsScriptFault : Option (List ℕ) → ℕ → ℕ → ℕ → RunFault → Type 0
 IsScriptFault script segments inodes frames (Format fault) = HasPlan script × IsFormatFault segments inodes frames fault
 IsScriptFault script segments inodes frames Write = HasPlan script × IsInRange segments inodes frames

@@ -47,8 +47,7 @@ IsClosedText journal setup transcripts old new =
     Appends old new (closed_text journal setup (map (λ (transcript : Vec Answer). transcript.items) transcripts))
 
 -- calls are those of a script, split: no line is the cleaner's, the setup has those of session 0, and each script those
--- of its
--- session, from 1 to the highest that a line names
+-- of its session, from 1 to the highest that a line names
 pub record IsSplit (script : List ℕ) (setup : List (Caller × Request))
     (scripts : List (List (Caller × Request))) : Type 0 where
   pub plan : Planned
@@ -58,9 +57,8 @@ pub record IsSplit (script : List ℕ) (setup : List (Caller × Request))
   pub sorted : Sorts plan.steps (plan.sessions + 1) (setup ∷ scripts)
 
 -- A text is that of a run of a script on threads, on a volume of so many segments and inode numbers whose journal may
--- have so
--- many entries: the setup and the scripts are the script's, split; the journal is legal from the opening tree and an
--- interleaving of them with these answers, of which the lines are printed, and the report.
+-- have so many entries: the setup and the scripts are the script's, split; the journal is legal from the opening tree
+-- and an interleaving of them with these answers, of which the lines are printed, and the report.
 pub record IsThreadsOutput (script : List ℕ) (segments inodes limit : ℕ) (text : List ℕ) : Type 0 where
   pub run : Run
   pub split : IsSplit script run.setup run.scripts
@@ -91,10 +89,8 @@ IsSplittingFault script threads.CleanerLine = IfSome script HasCleanerLine
 IsSplittingFault script (threads.Serve fault) = ⊥
 
 -- a run of such a script on threads, on a volume over a log of so many segments, inode numbers and frames, may end in
--- this
--- fault, of which an earlier one here comes before a later one: those of reading and parsing, a line of the cleaner's,
--- those of
--- serving, a write that failed; memory may run out at any step
+-- this fault, of which an earlier one here comes before a later one: those of reading and parsing, a line of the
+-- cleaner's, those of serving, a write that failed; memory may run out at any step
 abbrev pub IsThreadsFault : Option (List ℕ) → ℕ → ℕ → ℕ → ThreadsFault → Type 0
 IsThreadsFault script segments inodes frames (threads.Run Write) =
     IfSome script (λ bytes. (sessions : ℕ) × HasSessions bytes sessions × (0 < sessions) × (sessions ≤ 8))

@@ -20,8 +20,7 @@ abbrev pub behind : Audit → List Entry → World
 behind a entries = world_after (numbers_of a.checker) entries opening_world
 
 -- an audit has read these entries: they are legal from the tree of a fresh volume, and it stands behind them, has
--- counted
--- them, and each user's
+-- counted them, and each user's
 pub record HasRead (a : Audit) (entries : List Entry) : Type 0 where
   pub legal : IsLegal (numbers_of a.checker) a.checker.segments entries opening_world
   pub stands : StandsAt a.checker (behind a entries)
@@ -64,8 +63,7 @@ StopsAtLine a entries line (Unread TooLong) = ⊥
 StopsAtLine a entries line (Unread (Line fault)) = entry_told line ≡ Err fault
 
 -- what an audit that has read these entries read further, and where it stopped: at the end; behind a line that tells no
--- legal
--- entry; at the end, behind bytes that no line feed ends; or within a line that is too long
+-- legal entry; at the end, behind bytes that no line feed ends; or within a line that is too long
 abbrev pub StopsBehind : Option (List ℕ) → Option (List ℕ) → Audit → List Entry → Stop → Type 0
 StopsBehind known left a entries End = Consumes known left [] × IsAtEnd left
 StopsBehind known left a entries (Unread Cut) = (part : List ℕ) × IsPart known left part × IsAtEnd left
@@ -75,8 +73,7 @@ StopsBehind known left a entries stop =
     (line : List ℕ) × HasNoLineFeed line × Consumes known left (line ++ 10 ∷ []) × StopsAtLine a entries line stop
 
 -- An audit that has read these entries read on, from these bytes, where they are known: lines that tell more entries,
--- all of
--- them legal, up to where it stopped.
+-- all of them legal, up to where it stopped.
 pub record HasReadOn (known left : Option (List ℕ)) (entries : List Entry) (a : Audit) (stop : Stop) : Type 0 where
   pub lines : List (List ℕ)
   pub more : List Entry
@@ -94,8 +91,7 @@ status_of (Illegal entry) = 1
 status_of (Unread why) = 1
 
 -- A journal of these bytes, where they are known, of a volume with these numbers was audited from its beginning, and
--- the audit
--- ended with this status by where it stopped.
+-- the audit ended with this status by where it stopped.
 pub record IsAudited (known : Option (List ℕ)) (inodes segments status : ℕ) : Type 0 where
   pub audit : Audit
   pub stop : Stop

@@ -168,8 +168,7 @@ child_code k c has = elim (code_cases c (3 + k) (2 ∷ []) (subst (λ cs. Contai
 ]
 
 -- What leads to the holder of a data block's address is this one itself, or on the way of each block behind it that
--- holds
--- addresses.
+-- holds addresses.
 behind_child : (t : FileBlock) → 3 ≤ code_of t → code_of t < FIRST_DATA_CODE → (c : ℕ) → c ≡ 2
     → Contains (codes_on (way_to t)) c
 behind_child Record from few c two = absurd (omega arith)

@@ -10,8 +10,7 @@ unfoldable pub rank_of : ℕ → ℕ
 rank_of code = if nat_le FIRST_DATA_CODE code then 0 else (if nat_le FIRST_CHILD_CODE code then 1 else 2)
 
 -- How many indirect blocks lead to the data blocks from one to another: those with codes behind the first one's holder
--- up to
--- the last one's, and those on the way to the first one's.
+-- up to the last one's, and those on the way to the first one's.
 abbrev pub tables_between : ℕ → ℕ → ℕ
 tables_between first last =
     code_of (table_of (Data last)) - code_of (table_of (Data first)) + length (way_to (table_of (Data first)))

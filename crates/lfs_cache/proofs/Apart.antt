@@ -44,12 +44,13 @@ module _ (keys : List (Option Key)) (apart : (f g : ℕ) (k : Key) → key_at ke
   lacks x (y ∷ ys) own all =
       let here = all y (let h = times_head y ys in omega arith) in
       let a = some_is (key_at keys x) own in let b = some_is (key_at keys y) here.1 in (
-        elim (same_cases (name_at keys y) (name_at keys x)) as (λ _. same_key (name_at keys y) (name_at keys x) ≡ false) [
-          | inl t ↦ absurd (let same : b.0 ≡ a.0 = sym (ap name_or b.1)
-              ∙ (same_is (name_at keys y) (name_at keys x) t ∙ ap name_or a.1) in
-              here.0 (apart y x a.0 (b.1 ∙ ap Some same) a.1))
-          | inr t ↦ t
-        ],
+        elim (same_cases (name_at keys y) (name_at keys x)) as (λ _. same_key (name_at keys y) (name_at keys x)
+            ≡ false) [
+              | inl t ↦ absurd (let same : b.0 ≡ a.0 = sym (ap name_or b.1)
+                  ∙ (same_is (name_at keys y) (name_at keys x) t ∙ ap name_or a.1) in
+                  here.0 (apart y x a.0 (b.1 ∙ ap Some same) a.1))
+              | inr t ↦ t
+            ],
         lacks x ys own (λ z some. all z (let more = times_tail z y ys in omega arith)),
       )
 

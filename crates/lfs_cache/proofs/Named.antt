@@ -98,10 +98,12 @@ index_put keys ps taken f s at k below room starts from free h =
       found = λ g k' is. subst (λ z. IsReached (set ps at (Some f)) (start_of k' (4 * z)) g) (sym n)
           (elim (cases_eq g f) as (λ _. IsReached (set ps at (Some f)) (start_of k' (4 * length keys)) g) [
             | inl same ↦ (let key_same : k ≡ k' = some_same (key_at (set keys f (Some k)) f) k k'
-                (get_or-set_same keys f (Some k) None below) (subst (λ z. key_at (set keys f (Some k)) z ≡ Some k') same is)
+                (get_or-set_same keys f (Some k) None below)
+                (subst (λ z. key_at (set keys f (Some k)) z ≡ Some k') same is)
                 in
                 subst (λ z. IsReached (set ps at (Some f)) (start_of k' (4 * length keys)) z) (sym same)
-                (subst (λ z. IsReached (set ps at (Some f)) z f) (starts ∙ ap (λ z. start_of z (4 * length keys)) key_same)
+                (subst (λ z. IsReached (set ps at (Some f)) z f) (starts
+                ∙ ap (λ z. start_of z (4 * length keys)) key_same)
                 (entered_new ps f s at from free)))
             | inr other ↦ entered_old ps f s at from free g (start_of k' (4 * length keys))
                 (h.found g k' (sym (get_or-set_other keys f g (Some k) None other) ∙ is))

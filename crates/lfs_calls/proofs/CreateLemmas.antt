@@ -114,7 +114,11 @@ module _ {c : Content} {w : World} (shows : Shows c w) {path : List (List ℕ)} 
         number_is
         ∙ ap (λ g. record w {
           rows = map.insert w.rows number
-              (record { parent = reached w.rows root (front path); name = last path; file = new_file caller kind g mode });
+              (record {
+                parent = reached w.rows root (front path);
+                name = last path;
+                file = new_file caller kind g mode;
+              });
         }) gid_is
         ∙ ap (λ p. record w {
           rows = map.insert w.rows number

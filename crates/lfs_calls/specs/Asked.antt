@@ -22,8 +22,7 @@ use Rattle.lfs_calls.specs.Content.{Shows}
 use Rattle.lfs_calls.specs.Volumes.{InWorld}
 
 -- A store was asked for these changes, with this result. Where there are none it is not asked: then the result is good,
--- and
--- the state is as it was.
+-- and the state is as it was.
 abbrev pub ComesOf : {F : Type 0} → (F → StoreState)
     → (F → List Change → Reserve → Result (Unit {0}) StoreRefusal → F → Type 0)
     → F → List Change → Reserve → Result (Unit {0}) StoreRefusal → F → Type 0

@@ -14,8 +14,7 @@ use Rattle.lfs_calls.specs.Removes.{ClosesUp}
 use Rattle.lfs_calls.specs.Renames.{PlacesName}
 
 -- what a served call does to the bytes of directories: a new name goes to the first block where it fits, a removal
--- closes
--- its block up and gives none back, a Rename does both or swaps a number, and no other call writes one
+-- closes its block up and gives none back, a Rename does both or swaps a number, and no other call writes one
 abbrev pub LeavesEntries : Request → Content → Content → Rows → Type 0
 LeavesEntries (Create path mode) old new rows = EntersFirst old new rows path
 LeavesEntries (Mkdir path mode) old new rows = EntersFirst old new rows path

@@ -88,8 +88,7 @@ pub record ArePlaces (c : Content) (move : Move) (old new : List ℕ) (places : 
       move.removal.file.number new places.room k
 
 -- A Rename's new name stands in the first block of its directory where it fits, once the old name was taken away from
--- its
--- own, or else in a new one at the end; nothing but these two blocks was written.
+-- its own, or else in a new one at the end; nothing but these two blocks was written.
 pub record MovesFirst (old new : Content) (rows : Rows) (from to : List (List ℕ)) : Type 0 where
   pub taken : Room
   pub takes : (k : ℕ) × IsTaking (bytes_of old (reached rows root (front from))) (last from) taken k
@@ -129,8 +128,7 @@ SwapsBlocks old new first taken second room gone =
     (q : ℕ) → map.get new q ≡ map.get (map.remove (block_put second room (block_put first taken old)) gone) q
 
 -- A Rename over another row: its old name was taken away, and the new one has its number in the entry's place; nothing
--- but
--- these two blocks was written, and nothing but the other row removed.
+-- but these two blocks was written, and nothing but the other row removed.
 pub record SwapsInPlace (old new : Content) (rows : Rows) (from to : List (List ℕ)) (gone : ℕ) : Type 0 where
   pub taken : Room
   pub takes : (k : ℕ) × IsTaking (bytes_of old (reached rows root (front from))) (last from) taken k

@@ -76,8 +76,7 @@ own_tests level caller request attrs k = []
 -- ---- a path
 
 -- what is known of a path: the rows that it leads through, how many names it has, and whether the row that they all
--- lead
--- to has no child
+-- lead to has no child
 pub record Path : Type 0 where
   pub rows : List ShownRow
   pub names : ℕ

@@ -11,8 +11,7 @@ use Rattle.lfs_film.specs.declared.tree.TheConstants.{TREE}
 use Rattle.lfs_film.specs.declared.words.TheConstants.{WORDS}
 
 -- What a film keeps: the rows and what waits as the last line left them, how many lines it was shown, the text of its
--- frames,
--- and whether a frame found no room.
+-- frames, and whether a frame found no room.
 pub record Reel : Type 0 where
   pub rows : List (List ℕ)
   pub waiting : List ℕ

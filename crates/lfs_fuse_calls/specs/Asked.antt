@@ -52,8 +52,7 @@ abbrev pub lacking : ℕ → ℕ
 lacking mode = (if mode / 256 % 2 == 0 then 256 else 0) + (if mode / 128 % 2 == 0 then 128 else 0)
 
 -- The mode with which a file is made that is opened too: as its message tells, and with its owner's right to read and
--- write,
--- by which the one who makes it fills it.
+-- write, by which the one who makes it fills it.
 abbrev pub lent_mode : ℕ → ℕ
 lent_mode permissions = mode_of permissions + lacking (mode_of permissions)
 

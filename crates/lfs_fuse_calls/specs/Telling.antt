@@ -122,8 +122,7 @@ named_in (rmdir name) = Some name
 named_in message = None
 
 -- The error that is told of answers: the first refusal; of reads and writes in pieces the first piece's alone, since
--- pieces
--- before a refused one are told.
+-- pieces before a refused one are told.
 abbrev pub refusal_told : Said → List Answer → Option Errno
 refusal_told (read fields) given = refusal_at_once given
 refusal_told (write fields bytes) given = refusal_at_once given

@@ -16,8 +16,7 @@ level_word Secure = 2
 level_word HighlySecure = 3
 
 -- The head, one block: LFSI, the form, how many segments and inode numbers there are, the active segment and how many
--- of
--- its blocks are used, and the securelevel; zeros fill it up.
+-- of its blocks are used, and the securelevel; zeros fill it up.
 unfoldable pub head_bytes : Head → List ℕ
 head_bytes h =
     u32_bytes 0x4c46_5349 ++ u32_bytes 1 ++ u32_bytes h.segments ++ u32_bytes h.inodes

@@ -41,8 +41,7 @@ module _ {T : Type 0} where
     at false kept = absurd (cc)
 
   -- what is said after the slot of a number was put is true of the files, where a change touches that number's alone
-  -- and
-  -- what is said of it is true
+  -- and what is said of it is true
   pub true_put : (P : Option File → T → Type 0) (old new : Slots T) (number : ℕ) (c after : Content)
       → SaysTheSame old new number
       → ((n : ℕ) → n ≢ number → map.get after n ≡ map.get c n)

@@ -289,8 +289,7 @@ flags_between numbers segments entries w n r s tree legal there after differs =
 -- ---- the level, and being there
 
 -- What differs at the end of a run from what was at its beginning was changed by a served call: Q is what was, and each
--- served
--- call leaves it, or does what is looked for.
+-- served call leaves it, or does what is looked for.
 module _ (numbers segments : ℕ) (Q : World → Type 0) (P : World → Caller → Request → World → Type 0)
     (law : (w : World) (caller : Caller) (request : Request) (answer : Answer) → IsTree w.rows
     → IsAnswer numbers w caller request answer → Q w

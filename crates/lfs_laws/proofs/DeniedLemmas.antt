@@ -857,7 +857,8 @@ module _ (w : World) (caller : Caller) (tree : IsTree w.rows) where
           (
             λ f. object (Chflags path flags) path n a KeepsSystemLocks
                 (λ r there. let b = both_of (is_above_zero w.level) _
-                (of_row w.rows n r there (λ x. keeps_system_locks w.level x.flags flags ≡ false) f) in (refl, b.0, b.1)),
+                (of_row w.rows n r there (λ x. keeps_system_locks w.level x.flags flags ≡ false) f) in
+                (refl, b.0, b.1)),
             tt,
           ),
         ),

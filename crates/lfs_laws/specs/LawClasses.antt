@@ -10,8 +10,7 @@ use Rattle.lfs_model.specs.Rules.{decide}
 use Rattle.lfs_laws.specs.LawSeen.{IsOn, Sees}
 
 -- User 0 is granted all. The owner is by the first of three bits alone; else who is in the group, by the second alone;
--- else, by
--- the third.
+-- else, by the third.
 abbrev pub IsGranted : Caller → Attrs → ℕ → ℕ → ℕ → Type 0
 IsGranted caller attrs owner group others =
     (caller.uid ≡ 0)

@@ -1,6 +1,5 @@
 -- A denial tells the truth, and tells only of a row on the call's path that the caller may ask for: every row before it
--- is
--- a directory that he may search.
+-- is a directory that he may search.
 use Rattle.std.specs.Prelude.{◌≡◌, ◌≢◌, ◌<◌, ◌≤◌, ◌||◌, ℕ, ◌+◌, true, false, List, [], ◌∷◌, ◌++◌, length, slice_get}
 use Rattle.std.specs.Prelude.{Option, None, Some, IsSomeAnd}
 use Rattle.std.specs.FinMap as map
@@ -121,8 +120,7 @@ SaysAt w caller request rule behind None = IsOfNone rule
 SaysAt w caller request rule behind (Some n) = IsSomeAnd (map.get w.rows n) (Says w caller request rule behind n)
 
 -- A denial by a rule at a component of a path: the caller may pass the names before it, and the rule is broken by the
--- row
--- there.
+-- row there.
 pub record Tells (w : World) (caller : Caller) (request : Request) (path : List (List ℕ)) (rule : Rule) (at : ℕ)
     : Type 0 where
   pub front : List (List ℕ)
@@ -133,8 +131,7 @@ pub record Tells (w : World) (caller : Caller) (request : Request) (path : List 
   pub says : SaysAt w caller request rule behind (led w.rows (Some root) front)
 
 -- what a denial of a SetLevel says, which has no path: the caller isn't the superuser, or not init where the level
--- would
--- fall
+-- would fall
 abbrev pub SaysOfLevel : World → Caller → Level → Rule → Type 0
 SaysOfLevel w caller level IsSuperuser = caller.uid ≢ 0
 SaysOfLevel w caller level MaySetLevel = (is_lower level w.level ≡ true) × (caller.init ≡ false)

@@ -1,6 +1,5 @@
 -- A row is gone only by the Unlink of a file, the Rmdir of an empty directory, or a Rename of another row into its
--- place, of
--- a caller who may take it away.
+-- place, of a caller who may take it away.
 use Rattle.std.specs.Prelude.{◌≡◌, ◌≢◌, ℕ, List, None, Some, IsSomeAnd}
 use Rattle.std.specs.FinMap as map
 use Rattle.lfs_types.specs.Caller.{Caller}

@@ -31,8 +31,7 @@ abbrev pub IsHidden : Rows → ℕ → ℕ → Type 0
 IsHidden rows d n = (map.get rows n ≡ None) ⊎ IsBeneath rows d n
 
 -- Two worlds differ only beneath a directory: in how many rows stand there, under which numbers and names, with what
--- kinds,
--- attributes and bytes. The level, the directory itself and all other rows are the same.
+-- kinds, attributes and bytes. The level, the directory itself and all other rows are the same.
 pub record DifferBeneath (d : ℕ) (dir : Row) (w v : World) : Type 0 where
   pub level : w.level ≡ v.level
   pub one : map.get w.rows d ≡ Some dir
@@ -55,10 +54,8 @@ IsOnto w d (Rename from to) = reached w.rows root to ≡ d
 IsOnto w d request = ⊥
 
 -- Such worlds decide alike the call of one whom the directory doesn't grant search, but that a Rmdir of the directory
--- and a
--- Rename onto it tell whether it is empty; and where they allow it, they answer it alike. If the call lists the
--- directory, which
--- grants him read, the same names hang in it.
+-- and a Rename onto it tell whether it is empty; and where they allow it, they answer it alike. If the call lists the
+-- directory, which grants him read, the same names hang in it.
 abbrev pub HidesFromCall : Type 0
 HidesFromCall =
     (w v : World) (d : ℕ) (dir : Row) (caller : Caller) (request : Request)
@@ -106,10 +103,8 @@ IsToldEmpty w d request (Denied denial) = IsOnto w d request × IsDeniedBehind r
 IsToldEmpty w d request (Refused resource) = IsOnto w d request
 
 -- Whoever makes a user's call in this world sees no more than is the same: he lists the directory, where he may read
--- it, only if
--- the names in it are; he is allowed to make a row only if the numbers in use are; and he is told whether the directory
--- is empty
--- only if it is so in both worlds or in neither.
+-- it, only if the names in it are; he is allowed to make a row only if the numbers in use are; and he is told whether
+-- the directory is empty only if it is so in both worlds or in neither.
 abbrev pub SeesTheSame : World → ℕ → Row → Type 0 → Type 0 → Type 0 → Caller → Event → Type 0
 SeesTheSame w d dir SameNames SameNumbers EmptyAlike caller (User request answer) =
     (IsListing w d request → grants_of caller (attrs_of dir.file) bits.Read ≡ true → SameNames)
@@ -130,12 +125,10 @@ abbrev pub IsEmptyAlike : ℕ → World → World → Type 0
 IsEmptyAlike d w v = IsFilled w.rows d ↔ IsFilled v.rows d
 
 -- A list of entries of users whom the directory doesn't grant search, and none of whom owns it, that is legal in one of
--- the
--- worlds is legal in the other: each call may have the same answer all along, a refusal for a resource too. If one of
--- them lists
--- the directory, which he may read, the same names hang in it; if one is allowed to make a row, the same numbers are in
--- use, since
--- its number and NoInodes tell of them; if one is told whether the directory is empty, it is so in both or in neither.
+-- the worlds is legal in the other: each call may have the same answer all along, a refusal for a resource too. If one
+-- of them lists the directory, which he may read, the same names hang in it; if one is allowed to make a row, the same
+-- numbers are in use, since its number and NoInodes tell of them; if one is told whether the directory is empty, it is
+-- so in both or in neither.
 abbrev pub HidesFromRun : Type 0
 HidesFromRun =
     (numbers segments : ℕ) (entries : List Entry) (w v : World) (d : ℕ) (dir : Row)

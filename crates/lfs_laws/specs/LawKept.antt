@@ -16,8 +16,7 @@ use Rattle.lfs_laws.specs.LawOneThing.{KeepsMode}
 use Rattle.lfs_laws.specs.Rights.{is_fixed}
 
 -- a caller is kept from a row in a directory: the directory grants him no write or no search, or is sticky, or fixed by
--- a flag; or
--- the row is fixed by one
+-- a flag; or the row is fixed by one
 abbrev pub Guards : Row → Row → Caller → Type 0
 Guards dir row caller =
     (grants_of caller (attrs_of dir.file) bits.Write ≡ false)
@@ -47,8 +46,7 @@ pub record IsStillHere (old new : Row) : Type 0 where
   pub mode : KeepsMode old.file.mode new.file.mode
 
 -- Through any calls of such strangers a row stays in its directory under its name; of both nothing changes but the
--- bytes of a file
--- and the directory's own place, whatever becomes of the directories above.
+-- bytes of a file and the directory's own place, whatever becomes of the directories above.
 abbrev pub RowIsKept : Type 0
 RowIsKept =
     (numbers segments : ℕ) (entries : List Entry) (w : World) (n : ℕ) (row dir : Row)

@@ -147,8 +147,7 @@ abbrev pub bits_taken : Caller → Option ℕ
 bits_taken caller = if caller.uid == 0 then None else Some 0
 
 -- its set-id bits, which are 04000 and 02000 of a mode below 010000: the same; and of a Write of a byte, a SetLength
--- and a Chown of
--- another than user 0, none
+-- and a Chown of another than user 0, none
 abbrev pub set_ids_given : Giving ℕ
 set_ids_given w caller (Chmod path mode) = Some (mode / 0o2000)
 set_ids_given w caller (Create path mode) = Some (mode / 0o2000)

@@ -31,8 +31,7 @@ Replaces w after n m (Rename from to) =
 Replaces w after n m request = ⊥
 
 -- after an event a path that led to a row leads to it still; or nowhere, as a served call cut it off; or, after a
--- served
--- Rename, to the row that was moved, whole, into the place of the first
+-- served Rename, to the row that was moved, whole, into the place of the first
 abbrev pub LeadsAfter : World → List (List ℕ) → ℕ → Event → World → Type 0
 LeadsAfter w path n event after =
     (led after.rows (Some root) path ≡ Some n)

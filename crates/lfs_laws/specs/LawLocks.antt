@@ -1,6 +1,5 @@
 -- What each flag locks, by bits: UF_IMMUTABLE is 0x2, SF_IMMUTABLE 0x20000, UF_APPEND 0x4, SF_APPEND 0x40000.
--- UF_NODUMP, 0x1, and
--- SF_ARCHIVED, 0x10000, lock nothing. User 0, whom no mode stops, is stopped by them.
+-- UF_NODUMP, 0x1, and SF_ARCHIVED, 0x10000, lock nothing. User 0, whom no mode stops, is stopped by them.
 use Rattle.std.specs.Prelude.{◌≡◌, ◌↔◌, ℕ, ◌<◌, List, [], ◌∷◌, ◌++◌, None}
 use Rattle.lfs_types.specs.Caller.{Caller}
 use Rattle.lfs_types.specs.Tree.{World}

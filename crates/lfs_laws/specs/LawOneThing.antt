@@ -1,7 +1,6 @@
 -- A call changes one thing at most: one row, or the level; a Rename two rows, where one gets the place of the other,
--- which
--- is gone. Of a row that stays it changes only its bytes, or parent and name, or mode, or owner and group, or flags. A
--- call that only looks, a Sync, and a call that isn't served change nothing.
+-- which is gone. Of a row that stays it changes only its bytes, or parent and name, or mode, or owner and group, or
+-- flags. A call that only looks, a Sync, and a call that isn't served change nothing.
 use Rattle.std.specs.Prelude.{◌≡◌, ◌≢◌, ◌⊎◌, ℕ, None, Some}
 use Rattle.std.specs.FinMap as map
 use Rattle.lfs_types.specs.Tree.{Row, World, root}

@@ -32,8 +32,7 @@ IsChmodCall (Chmod path mode) = Unit {0}
 IsChmodCall request = ⊥
 
 -- a mode, which is below 010000, that another call than a Chmod changes is then without 04000 and 02000, and as it was
--- below; the
--- caller isn't user 0
+-- below; the caller isn't user 0
 abbrev pub SetIdsGo : Type 0
 SetIdsGo =
     (numbers : ℕ) (w : World) (caller : Caller) (request : Request) (answer : Answer) (n : ℕ) (r s : Row)

@@ -20,15 +20,13 @@ use Rattle.lfs_model.specs.Steps.{IsLegal, world_after}
 use Rattle.lfs_model.specs.Walks.{is_on_way}
 
 -- A caller must leave a row as it is: he may neither set its mode, owner, group or flags, since he doesn't own it, or
--- since
--- the system locks it and he isn't the superuser, nor take it away.
+-- since the system locks it and he isn't the superuser, nor take it away.
 pub record LeavesAlone (rows : Rows) (caller : Caller) (n : ℕ) : Type 0 where
   pub owned : Owns rows caller n → (caller.uid ≢ 0) × (has_system_lock (attrs_at rows n).flags ≡ true)
   pub taken : MayTakeAway rows caller n (parent_of (map.get rows n)) → ⊥
 
 -- what keeps a caller from taking a row away: its directory grants him no write or no search, or is immutable or
--- append-only,
--- or is sticky and not his; or the row is immutable or append-only
+-- append-only, or is sticky and not his; or the row is immutable or append-only
 abbrev pub IsGuarded : Rows → Caller → ℕ → ℕ → Type 0
 IsGuarded rows caller n parent =
     (row_grants caller bits.Write (map.get rows parent) ≡ false)

@@ -44,8 +44,7 @@ IsWriting (SetLevel level) = ⊥
 IsWriting request = Unit {0}
 
 -- what a refused call lacked was wanting: each number from 4 up has a row; the directory is full; the store may want
--- room. No
--- other refusal has an entry.
+-- room. No other refusal has an entry.
 abbrev pub Lacked : ℕ → World → Request → Resource → Type 0
 Lacked numbers w request NoInodes = IsMaking request × ((n : ℕ) → 4 ≤ n → n < numbers → IsSome (map.get w.rows n))
 Lacked numbers w request DirectoryFull = FillsUp w request

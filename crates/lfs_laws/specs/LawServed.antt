@@ -1,6 +1,5 @@
 -- A call is allowed exactly where its caller may make it, in the words of Rights: he reaches, is granted, owns, may
--- write,
--- may take away, may place.
+-- write, may take away, may place.
 use Rattle.std.specs.Prelude.{◌≡◌, ◌≢◌, ◌⊎◌, ◌↔◌, ◌≤◌, ◌||◌, ℕ, ◌+◌, true, false, List, [], length, None, Some}
 use Rattle.std.specs.FinMap as map
 use Rattle.lfs_types.specs.Caller.{Caller}
@@ -52,15 +51,13 @@ abbrev pub IsNotUnder : Rows → ℕ → ℕ → Type 0
 IsNotUnder rows n m = (k : ℕ) → ancestor rows k m ≢ n
 
 -- a caller may hang a row in a directory: it isn't the row nor beneath it, and a directory that gets another parent
--- grants
--- him write
+-- grants him write
 pub record MayHang (w : World) (caller : Caller) (n : ℕ) (r : Row) (parent : ℕ) : Type 0 where
   pub apart : IsNotUnder w.rows n parent
   pub granted : r.file.kind ≡ Directory → parent ≢ r.parent → grants_of caller (attrs_of r.file) bits.Write ≡ true
 
 -- a caller may give a row the place to which a path leads: the row has it already; or the place is free, or what has it
--- is
--- of the row's kind, childless, and he may take it away, and he may hang the row there
+-- is of the row's kind, childless, and he may take it away, and he may hang the row there
 abbrev pub MayBring : World → Caller → List (List ℕ) → ℕ → Row → Type 0
 MayBring w caller to n r =
     (led w.rows (Some root) to ≡ Some n) ⊎ HasPlaceFor w caller to r.file.kind (MayHang w caller n r)

@@ -22,10 +22,8 @@ Wears w n (Chown path uid gid) = reached w.rows root path ≡ n
 Wears w n request = ⊥
 
 -- Where a served call of another than user 0 did so, and the row of this number has a set-id bit at the end of a run
--- (04000 or 02000
--- of a mode, which is below 010000), one of the entries behind set it, by a Chmod of whoever might then; or removed the
--- row, of
--- whoever might.
+-- (04000 or 02000 of a mode, which is below 010000), one of the entries behind set it, by a Chmod of whoever might
+-- then; or removed the row, of whoever might.
 abbrev pub SetIdsAreFresh : Type 0
 SetIdsAreFresh =
     (numbers segments : ℕ) (before : List Entry) (entry : Entry) (later : List Entry) (w : World) (request : Request)

@@ -14,8 +14,7 @@ use Rattle.lfs_laws.specs.LawsFlags.{DropsLevel}
 use Rattle.lfs_laws.specs.LawsRuns.{NoneServed}
 
 -- above level 0 what hangs in a directory with a system lock hangs there under its name, through any calls of which
--- none is served to
--- init and lets the level fall to 0 or below
+-- none is served to init and lets the level fall to 0 or below
 abbrev pub SystemNamesStay : Type 0
 SystemNamesStay =
     (numbers segments : ℕ) (entries : List Entry) (w : World) (d : ℕ) (dir : Row) (name : List ℕ) (n : ℕ)

@@ -32,8 +32,7 @@ pub record DifferUnread (caller : Caller) (w v : World) : Type 0 where
   pub rows : (n : ℕ) → NumberLooksAlike caller (Reaches w.rows caller n) (map.get w.rows n) (map.get v.rows n)
 
 -- each answer that a call may have in one of the worlds, it may have in the other; NoInodes, DirectoryFull and NoSpace
--- are
--- among them
+-- are among them
 abbrev pub NobodyReads : Type 0
 NobodyReads =
     (numbers : ℕ) (caller : Caller) (w v : World) (request : Request) (answer : Answer)

@@ -52,8 +52,7 @@ IsLogFault segments inodes frames (Format fault) = IsFormatFault segments inodes
 IsLogFault segments inodes frames fault = IsTalkFault fault
 
 -- What a talk writes whose lines are a script without a fault, in which no line has more than 65,536 bytes, a run of
--- that
--- script writes, from wherever the journal began.
+-- that script writes, from wherever the journal began.
 abbrev pub WritesAsScript : Type 0
 WritesAsScript =
     (old new : Seen Parts) (script : List ℕ) (left start out : Option (List ℕ)) (plan : Planned)

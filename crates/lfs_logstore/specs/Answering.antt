@@ -7,8 +7,7 @@ use Rattle.lfs_segwrite.specs.Applying.{HasRoomFor, MakesChanges}
 use Rattle.lfs_staging.specs.declared.parts.Parts.{Parts}
 
 -- Changes on somebody's behalf came to this: they are made where the log had room for them, as it stood; else all is as
--- it
--- was.
+-- it was.
 pub record ComesTo (old : Parts) (changes : List Change) (by : Reserve) (result : Result (Unit {0}) StoreRefusal)
     (new : Parts) : Type 0 where
   pub makes : OnOk result (MakesChanges by changes old new)

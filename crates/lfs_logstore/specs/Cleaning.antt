@@ -66,8 +66,7 @@ pub record GivesInfos (p : Parts) (segment : ℕ) (result : Result (Unit {0}) Cl
   pub err : IfErr result (IsListingFaultOf p segment)
 
 -- an info with its present address: 0 where its number isn't in use or has another version, where no file can have such
--- a
--- block, or where the block has no address
+-- a block, or where the block has no address
 abbrev pub with_address : Parts → BlockInfo → BlockInfo
 with_address p info = record info { addr = address_of p info.ino info.version (code_named info.lbn) }
 

@@ -6,8 +6,7 @@ use Rattle.lfs_segwrite.specs.Gaining.{Empties, IsGainful, space}
 use Rattle.lfs_logstore.specs.Cleaning.{IsReclaimed}
 
 -- What waited was written. A segment that was gainful then was emptied, and made clean; after that there is more room
--- than
--- before.
+-- than before.
 pub record GainsSpace (old new : Parts) : Type 0 where
   pub between : Parts
   pub written : WritesWaiting old between

@@ -9,8 +9,7 @@ use Rattle.lfs_staging.specs.Store.{IsSettled}
 
 -- Blocks may be written again with this result, from one state of the store to another: all that are named with their
 -- present address once what waited was written, which are counted; none where there is no room behind it, or none to
--- clean a
--- segment then, which comes only where at most one segment was clean.
+-- clean a segment then, which comes only where at most one segment was clean.
 pub record WritesAgain (old : Parts) (marks : List BlockInfo) (result : Result ℕ CleanFault)
     (new : Parts) : Type 0 where
   pub marked : IfOk result (λ count. MarksAgain marks count old new)

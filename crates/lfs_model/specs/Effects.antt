@@ -80,8 +80,7 @@ with_place (Some r) n parent name w = record w {
 }
 
 -- the world after a row got a place to which a name leads here: another row is taken away from it, and a row that has
--- it
--- already stays
+-- it already stays
 abbrev pub after_rename : World → ℕ → Option ℕ → ℕ → List ℕ → World
 after_rename w n None parent name = with_place (map.get w.rows n) n parent name w
 after_rename w n (Some m) parent name =

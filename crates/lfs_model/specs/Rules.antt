@@ -150,8 +150,7 @@ making rows caller names =
     ∷ walk rows caller 0 0 root parents ++ making_tests caller free (attrs_at rows dir) (length parents)
 
 -- the tests of a directory, at component k of the path of this index, and of what hangs in it, whose name is to be
--- taken
--- away
+-- taken away
 abbrev pub removing_tests : Caller → ℕ → Attrs → Attrs → ℕ → List Check
 removing_tests caller path dir file k =
     asks (not (is_immutable dir)) IsMutable path k

@@ -75,7 +75,10 @@ sought_there state is_settled caller hangs node name directory new_name reply ol
       between = new;
       made = made;
       behind = subst (λ o. BehindFree o reply (new ≡ new)
-          (IsRenamed state is_settled caller hangs node name directory new_name reply new new)) (sym served) (told, refl);
+          (IsRenamed state is_settled caller hangs node name directory new_name reply new new)) (sym served) (
+            told,
+            refl,
+          );
     }
 
 pub sought_refused : {F : Type 0} (state : F → StoreState) (is_settled : F → Type 0) (caller : Caller) (hangs : ℕ

@@ -37,10 +37,8 @@ abbrev pub live_in : Parts → ℕ → Option ℕ
 live_in parts node = live_of (hang_in (known parts node)) (rows_in parts node)
 
 -- What comes of a message that comes now: its calls; the files that it changed, as what is told of it says, have the
--- present
--- time, all others keep theirs, and attributes are told with their times; and what is put down of files that are made
--- with
--- more than their mode.
+-- present time, all others keep theirs, and attributes are told with their times; and what is put down of files that
+-- are made with more than their mode.
 pub record IsToldDated {F : Type 0} (state : F → StoreState) (is_settled : F → Type 0) (sizes : Sizes) (now : Time)
     (caller : Caller) (nodes : Parts) (node : ℕ) (message : Said) (reply : Told) (old new : Seen F)
     (before after : Beside) : Type 0 where

@@ -33,9 +33,8 @@ GoUpTo (request ∷ requests) (answer ∷ answers) =
     EndsOr (is_full (wanted_by request) answer) (GoUpTo requests answers) answers
 
 -- The calls that were made of those that were asked for: as many as have answers, all as one caller, each answered as a
--- call
--- of the volume is, on the store that the one before it left, and each entered; up to the first that isn't served in
--- full.
+-- call of the volume is, on the store that the one before it left, and each entered; up to the first that isn't served
+-- in full.
 pub record AreMade {F : Type 0} (state : F → StoreState) (is_settled : F → Type 0) (caller : Caller)
     (requests : List Request) (answers : List Answer) (old new : Seen F) : Type 0 where
   pub each : Since (state old.since) old.since_level

@@ -35,10 +35,8 @@ used_below content zero = 0
 used_below content (suc n) = plus (used_below content n) (one_used (shown_attrs content n))
 
 -- A segment has 64 blocks. Free are those of the clean segments, or those that no file's bytes take, whichever are
--- more: the
--- cleaner finds room that was given back, and a gap in a file takes none. Users may have no blocks of the last two
--- segments. Of
--- the numbers the root has one, and files those from 4 up.
+-- more: the cleaner finds room that was given back, and a gap in a file takes none. Users may have no blocks of the
+-- last two segments. Of the numbers the root has one, and files those from 4 up.
 abbrev pub room_of : Sizes → StoreState → Statfs
 room_of sizes state =
     let free = max (state.clean * 64) (sizes.segments * 64 - taken_below state.content sizes.inodes) in

@@ -34,8 +34,8 @@ live_row None = None
 live_row (Some n) = if is_live n.hang then Some n.row else None
 
 -- Nodes are true of rows: each that hangs under a name hangs in a node of a row, in which its own row has that name;
--- and no two
--- that hang are of one row. (That node 1 is the root's and that no two hang at one place holds of all nodes.)
+-- and no two that hang are of one row. (That node 1 is the root's and that no two hang at one place holds of all
+-- nodes.)
 pub record AreNodes (rows : Rows) (nodes : ℕ → Option Node) : Type 0 where
   pub hung : (id : ℕ) (place : Place) (n : ℕ) → place_of (hang_in (nodes id)) ≡ Some place → live_row (nodes id)
       ≡ Some n

@@ -24,8 +24,7 @@ pub record LeadsTo (hangs : ℕ → Option Hang) (id : ℕ) (holds : List (List 
   pub holding : holds names top
 
 -- what may be said of the names of a node, its own first: the names up to the root, which are short enough for a path;
--- that
--- the node, or one above it, isn't known or is gone; or that the names take too many bytes
+-- that the node, or one above it, isn't known or is gone; or that the names take too many bytes
 abbrev pub NamesUp : (ℕ → Option Hang) → ℕ → Result (List (List ℕ)) PathFault → Type 0
 NamesUp hangs id (Ok names) = LeadsTo hangs id (λ ns top. (ns ≡ names) × (hangs top ≡ Some Root))
     × (length (slashed names) ≤ 1024)

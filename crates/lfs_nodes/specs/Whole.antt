@@ -22,10 +22,8 @@ kids places parent zero = 0
 kids places parent (suc n) = kids places parent n + beneath parent (places n)
 
 -- Where each id hangs, the number of its row, how many hang beneath it, the id at each place, and the next id agree:
--- node 1 is
--- the root alone, and of row 2; the index has each place; no id is as large as the next; what a node hangs in is known;
--- and
--- what hangs beneath a node is counted.
+-- node 1 is the root alone, and of row 2; the index has each place; no id is as large as the next; what a node hangs in
+-- is known; and what hangs beneath a node is counted.
 pub record AreWhole (hangs : ℕ → Option Hang) (numbers counts : ℕ → Option ℕ) (index : Place → Option ℕ)
     (next : ℕ) : Type 0 where
   pub root : hangs ROOT_ID ≡ Some Root

@@ -1,6 +1,5 @@
 -- The infos of a segment: each names a block that a file can have, and those of the keys that have places there stand
--- among
--- them.
+-- among them.
 use Rattle.std.proofs.Common.{◌≡◌, ◌≢◌, ℕ, zero, suc, ◌-◌, ◌/◌, ◌<◌, List, [], ◌∷◌, get_or, None, Option, Some, Bool}
 use Rattle.std.proofs.Common.{true, refl, sym, ap, ◌∙◌, subst, inl, inr, arith}
 use Rattle.std.specs.Prelude.{◌==◌, All, not, option_map}

@@ -100,8 +100,7 @@ versions_after [] number version = version
 versions_after (change ∷ changes) number version = versions_after changes number (version_after change number version)
 
 -- The parts are staged with this content and these versions, by at most so many frames and so many records more.
--- Nothing was
--- written.
+-- Nothing was written.
 pub record StagesTo (content : Content) (versions : ℕ → ℕ → ℕ) (frames records : ℕ) (old new : Parts) : Type 0 where
   pub staged : IsStaged new 0
   pub content_is : content_of new ≡ content
@@ -141,10 +140,8 @@ pub record HasRoom (p : Parts) : Type 0 where
   pub room : (waiting_blocks p ≤ room_of p.log.memory) ⊎ (0 < p.log.clean)
 
 -- All that waited was written as one partial segment: where the log ended, or at the start of a segment that was opened
--- for
--- it, where it had no room. The content is the same, nothing waits, and each key that did not wait has the place that
--- it
--- had.
+-- for it, where it had no room. The content is the same, nothing waits, and each key that did not wait has the place
+-- that it had.
 pub record WritesWaiting (old new : Parts) : Type 0 where
   pub store : IsStore new
   pub settled : IsSettled new
@@ -179,8 +176,7 @@ passes_limits p changes =
     + length changes)
 
 -- There is room for so many blocks that are to be written for any changes: more than two segments are clean, or two,
--- and the
--- blocks fit the active one.
+-- and the blocks fit the active one.
 abbrev pub HasRoomToTake : ℕ → Parts → Type 0
 HasRoomToTake blocks p = (2 < p.log.clean) ⊎ ((p.log.clean ≡ 2) × (blocks ≤ room_of p.log.memory))
 
@@ -211,12 +207,9 @@ pub record MakesWay (changes : List Change) (old new : Parts) : Type 0 where
       ⊎ ((passes_limits old changes ≡ true) × WritesWaiting old new)
 
 -- What waited before them was written where with the changes more could wait than may, and nothing else was. Then all
--- the
--- changes were made, in order, and wait, with nothing beside them. A number that was made has the version behind its
--- last,
--- each other one the version that it had. One segment was opened at most, and only where what waited had no room and
--- the
--- changes had some; two stay clean where the changes may not use what is kept back.
+-- the changes were made, in order, and wait, with nothing beside them. A number that was made has the version behind
+-- its last, each other one the version that it had. One segment was opened at most, and only where what waited had no
+-- room and the changes had some; two stay clean where the changes may not use what is kept back.
 pub record MakesChanges (by : Reserve) (changes : List Change) (old new : Parts) : Type 0 where
   pub store : IsStore new
   pub room : HasRoom new

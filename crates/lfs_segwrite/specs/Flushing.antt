@@ -18,10 +18,8 @@ Waits p number zero = IsSome (waiting_in p.waiting number)
 Waits p number (suc code) = IsLocked (key_of number (version_of p number) (suc code)) p.cache
 
 -- All that waited was written as one partial segment, behind what the active segment held: one summary and the blocks
--- that
--- it names, and nothing where nothing waited. The content is the same. Each key that waited has a place there, every
--- other
--- one the place that it had, and no other block changed.
+-- that it names, and nothing where nothing waited. The content is the same. Each key that waited has a place there,
+-- every other one the place that it had, and no other block changed.
 pub record Flushes (old new : Parts) : Type 0 where
   pub store : IsStore new
   pub settled : IsSettled new

@@ -64,10 +64,8 @@ abbrev pub widest : Parts → ℕ → ℕ
 widest p segment = widest_eight (live_infos p segment)
 
 -- So many blocks, of which so many are written at once at most, are less than a segment has, and can be written: in
--- what the
--- active one has left; or with a clean segment, where what is left behind in the active one, less than is written at
--- once, is
--- made up for too.
+-- what the active one has left; or with a clean segment, where what is left behind in the active one, less than is
+-- written at once, is made up for too.
 abbrev pub IsWorth : ℕ → ℕ → Parts → Type 0
 IsWorth blocks most p =
     (blocks < WHOLE) × ((blocks ≤ room_of p.log.memory) ⊎ ((0 < p.log.clean) × (blocks + most ≤ WHOLE)))
@@ -94,8 +92,8 @@ pub record ExceedsRoom (marks : List BlockInfo) (p : Parts) : Type 0 where
   pub short : room_of p.log.memory < blocks_to_mark named
 
 -- So many blocks were written at most, and so many at once at most: where the log ended; or, where they had no room
--- there, some
--- of them in a segment that was opened, and what was left in the one before was less than was written at once.
+-- there, some of them in a segment that was opened, and what was left in the one before was less than was written at
+-- once.
 abbrev pub Spends : ℕ → ℕ → Parts → Parts → Type 0
 Spends blocks most old new =
     ((new.log.clean ≡ old.log.clean) × (room_of old.log.memory ≤ room_of new.log.memory + blocks))
@@ -103,8 +101,7 @@ Spends blocks most old new =
     × (room_of old.log.memory + WHOLE < room_of new.log.memory + blocks + most) × (room_of old.log.memory < blocks))
 
 -- Blocks were written again, with what they had. What moved went to segments that weren't dirty; these are dirty still,
--- and
--- their blocks are what they were.
+-- and their blocks are what they were.
 pub record MovesBlocks (old new : Parts) : Type 0 where
   pub store : IsStore new
   pub settled : IsSettled new
@@ -119,8 +116,7 @@ pub record MovesBlocks (old new : Parts) : Type 0 where
       → block_at new.log.memory a ≡ block_at old.log.memory a
 
 -- The blocks of the first so many eights of some infos were written again, so that none of these infos names a block
--- now. Each
--- key that is on no way to one of them has the place that it had.
+-- now. Each key that is on no way to one of them has the place that it had.
 pub record MovesEights (infos : List BlockInfo) (count : ℕ) (old new : Parts) : Type 0 where
   pub moved : MovesBlocks old new
   pub gone : All (λ (info : BlockInfo). IsNamed (log_state new) info → ⊥) (take (MARK_LIMIT * count) infos)
@@ -130,8 +126,7 @@ pub record MovesEights (infos : List BlockInfo) (count : ℕ) (old new : Parts) 
   pub spent : Spends (total (eight_blocks infos) count) (widest_eight infos) old new
 
 -- A dirty segment was emptied: no block is left in it, and what it took was counted before. Each key that was on no way
--- to one
--- of its blocks has the place that it had.
+-- to one of its blocks has the place that it had.
 pub record Empties (segment : ℕ) (old new : Parts) : Type 0 where
   pub moved : MovesBlocks old new
   pub dirty : state_of new.log.tables segment ≡ Dirty

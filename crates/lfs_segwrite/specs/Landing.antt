@@ -35,8 +35,7 @@ pub record ExpectsBlock (m : SegmentMemory) (entry : SummaryEntry) : Type 0 wher
   pub expects : Expects m (entry ∷ rest)
 
 -- A block was put at the log's end, where no block of a file lay: each record, and the block at each other address, is
--- as
--- it was.
+-- as it was.
 pub record AppendsBlock (old new : Parts) (a : ℕ) (block : List ℕ) : Type 0 where
   pub end : a ≡ next_address old.log.memory
   pub somewhere : a ≢ 0
@@ -72,8 +71,7 @@ pub record LandsBlock (old new : Parts) (v : Inode) (block : FileBlock) (a : ℕ
   pub settled : block_in (key_of v.number v.version (code_of block)) new.cache.locked ≡ None
 
 -- A key took a place in the block at an address that the log just got, at its end: every other key kept the place that
--- it
--- had. Live bytes apart, nothing else of the log changed.
+-- it had. Live bytes apart, nothing else of the log changed.
 pub record GetsPlace (old new : Parts) (number code a place : ℕ) : Type 0 where
   pub end : a ≡ next_address old.log.memory
   pub next : next_address new.log.memory ≡ next_address old.log.memory + 1

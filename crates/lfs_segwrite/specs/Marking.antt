@@ -107,8 +107,7 @@ pub record StagesNamed (named : List BlockInfo) (old new : Parts) : Type 0 where
   pub records : length new.waiting ≤ records_to_mark named
 
 -- a key is written again for some infos: the record of a number that one of them has, or a block on the way to the
--- block
--- of one
+-- block of one
 abbrev pub IsOnWay : List BlockInfo → Parts → ℕ → ℕ → Type 0
 IsOnWay named p number zero = Contains (map number_named named) number
 IsOnWay named p number (suc code) = Contains (flat_map keys_to_mark named)
@@ -121,8 +120,7 @@ pub record IsRewritten (old new : LogState) (info : BlockInfo) : Type 0 where
   pub outside : DirtyIn old (seg_of (new.at info.ino (code_named info.lbn))) → ⊥
 
 -- Behind so many blocks some segment can still be cleaned in what the active segment and a clean one have left, with
--- some to
--- spare.
+-- some to spare.
 abbrev pub LeavesCleanable : ℕ → Parts → Type 0
 LeavesCleanable blocks p = (s : ℕ) × HasCleanable p false (blocks + SPARE) (room_of p.log.memory + WHOLE) s
 
@@ -146,11 +144,9 @@ pub record LacksRoomFor (marks : List BlockInfo) (p : Parts) : Type 0 where
   pub lacks : LacksRoomToMark (blocks_to_mark named) p
 
 -- The blocks that some infos name were written again, so many, and nothing was done where none is named. Each key that
--- is on
--- no way to one of them has the place that it had, and the log grew by no more than the blocks that they take: where it
--- ended, or from the start of a segment that was opened for them, where they had no room. What moved went to segments
--- that
--- weren't dirty. No block changed that was written before, and no segment became clean.
+-- is on no way to one of them has the place that it had, and the log grew by no more than the blocks that they take:
+-- where it ended, or from the start of a segment that was opened for them, where they had no room. What moved went to
+-- segments that weren't dirty. No block changed that was written before, and no segment became clean.
 pub record MarksSettled (marks : List BlockInfo) (count : ℕ) (old new : Parts) : Type 0 where
   pub named : List BlockInfo
   pub are_named : AreNamed (log_state old) marks named
@@ -178,10 +174,8 @@ pub record MarksSettled (marks : List BlockInfo) (count : ℕ) (old new : Parts)
       × (room_of old.log.memory < blocks_to_mark named))
 
 -- What waits was written first. Then the blocks that some infos name, as the map then stood, were written again, so
--- many.
--- What moved went to segments that weren't dirty, these are dirty still, and two segments were opened at most. Where
--- one
--- was clean at most, and is by then, blocks were written only where a segment can be cleaned behind them.
+-- many. What moved went to segments that weren't dirty, these are dirty still, and two segments were opened at most.
+-- Where one was clean at most, and is by then, blocks were written only where a segment can be cleaned behind them.
 pub record MarksAgain (marks : List BlockInfo) (count : ℕ) (old new : Parts) : Type 0 where
   pub between : Parts
   pub written : WritesWaiting old between

@@ -43,8 +43,7 @@ abbrev pub work_of : ℕ → ℕ
 work_of live = (5 * live + 2047) / 2048
 
 -- A segment of this state with so many live bytes could be cleaned: it is dirty, or it is active and another one is to
--- be
--- opened; and what is live in it could be written again, besides so many blocks, in that many.
+-- be opened; and what is live in it could be written again, besides so many blocks, in that many.
 pub record IsCleanable (state : SegState) (live : ℕ) (opens : Bool) (besides blocks : ℕ) : Type 0 where
   pub not_clean : (state ≡ Dirty) ⊎ ((state ≡ Active) × (opens ≡ true))
   pub fits : work_of live + besides ≤ blocks

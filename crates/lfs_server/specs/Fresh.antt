@@ -8,8 +8,7 @@ use Rattle.lfs_logstore.specs.States.{opening_state, state_of}
 use Rattle.lfs_server.specs.Serving.{IsInRange}
 
 -- A log store of so many segments, inode numbers and frames was just laid out: it shows the opening tree; a summary and
--- the
--- block with the root's record are written and nothing else, no frame is taken, and nothing waits.
+-- the block with the root's record are written and nothing else, no frame is taken, and nothing waits.
 pub record IsFreshLog (segments inodes frames : ℕ) (store : Parts) : Type 0 where
   pub opening : state_of store ≡ opening_state segments inodes
   pub laid_out : IsOpening segments inodes frames store

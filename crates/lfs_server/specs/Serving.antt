@@ -39,8 +39,7 @@ served_fault TooMany = Format TooMany
 served_fault formats.Memory = Memory
 
 -- the fault of a run of so many sessions on a volume that is laid out for it: Sessions as above; else Format for
--- numbers of
--- segments, inode numbers and frames out of their ranges, and for these alone
+-- numbers of segments, inode numbers and frames out of their ranges, and for these alone
 abbrev pub IsServeFault : ℕ → ℕ → ℕ → ℕ → ServeFault → Type 0
 IsServeFault sessions segments inodes frames Sessions = (sessions ≡ 0) ⊎ (8 < sessions)
 IsServeFault sessions segments inodes frames (Format TooFew) = IsTooFew segments inodes frames × (0 < sessions)

@@ -1,7 +1,6 @@
 -- The blocks whose addresses stand in an indirect block are given back, and then it: the addresses stay in it until it
--- goes. What
--- the files are meanwhile is told of parts in which it waits with other bytes, without the addresses of the blocks that
--- went.
+-- goes. What the files are meanwhile is told of parts in which it waits with other bytes, without the addresses of the
+-- blocks that went.
 use Rattle.std.proofs.Common.{◌≡◌, ◌≢◌, ℕ, ◌+◌, ◌-◌, ◌*◌, ◌/◌, ◌%◌, ◌<◌, ◌≤◌, List, [], ◌∷◌, length, slice_index, Some}
 use Rattle.std.proofs.Common.{IsSome, is_some, false, refl, sym, ap, ◌∙◌, subst, inl, inr, arith}
 use Rattle.std.specs.Prelude.{All, slice_set}

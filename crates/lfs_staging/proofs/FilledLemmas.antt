@@ -129,7 +129,8 @@ held_clean p q key block mirrors h logged = record {
   mirrors = record {
     each = λ other bytes there. filled_logged p q h.log h.waiting h.dirty other bytes
         (elim (h.clean other bytes there) [
-          | inl here ↦ subst (λ b. IsLogged p other b) (sym here.1) (subst (λ k. IsLogged p k block) (sym here.0) logged)
+          | inl here ↦ subst (λ b. IsLogged p other b) (sym here.1)
+              (subst (λ k. IsLogged p k block) (sym here.0) logged)
           | inr was ↦ mirrors.each other bytes was
         ]);
   };

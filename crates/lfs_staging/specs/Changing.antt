@@ -37,8 +37,7 @@ abbrev pub length_table : ℕ → FileBlock
 length_table len = table_of (Data (block_count len - 1))
 
 -- the codes of the blocks that a length has wait: that of its last data block, where it ends within it, and those of
--- the
--- blocks that lead to this one
+-- the blocks that lead to this one
 abbrev pub length_codes : ℕ → List ℕ
 length_codes len =
     (if len % BLOCK_SIZE == 0 then [] else (FIRST_DATA_CODE + (block_count len - 1)) ∷ [])

@@ -106,8 +106,7 @@ pub record ClearsBlocks (number first end : ℕ) (old new : Parts) : Type 0 wher
       ≡ data_block (tree_of old n) index
 
 -- An indirect block that waits may be given back, with the data blocks up to before one whose addresses stand in it:
--- these may
--- be given back, and then the block itself.
+-- these may be given back, and then the block itself.
 pub record MayClearTable (p : Parts) (number : ℕ) (table : FileBlock) (end : ℕ) : Type 0 where
   pub blocks : MayClearBetween p number (first_under table) end
   pub can : IsFileBlock table
@@ -124,8 +123,7 @@ pub record ClearsTable (number : ℕ) (table : FileBlock) (end : ℕ) (old new :
   pub last : ClearsBlock number table between new
 
 -- Of the blocks of a file that lead only to data blocks from one on those are gone that hold addresses and have a code
--- from
--- `turn` on, and the data blocks whose addresses stand in a block with such a code.
+-- from `turn` on, and the data blocks whose addresses stand in a block with such a code.
 pub record GoneDown (p : Parts) (number left turn : ℕ) : Type 0 where
   pub tables : (block : FileBlock) → IsFileBlock block → code_of block < FIRST_DATA_CODE → turn ≤ code_of block
       → left ≤ first_under block
@@ -161,20 +159,17 @@ abbrev pub last_table : ℕ → FileBlock
 last_table left = table_of (Data (left - 1))
 
 -- The codes of the blocks that a cut has wait while what a block leads to goes: the last data block that is left and
--- what holds
--- its address, the block and its parents. What leads to that holder is among these.
+-- what holds its address, the block and its parents. What leads to that holder is among these.
 abbrev pub cut_codes : ℕ → FileBlock → List ℕ
 cut_codes left table = (FIRST_DATA_CODE + (left - 1)) ∷ code_of (last_table left) ∷ codes_on (way_to table)
 
 -- The codes of the blocks that it has wait when the turn of the block with a code is over: those that lead to the last
--- data
--- block that is left, and the double indirect block, as long as its turn is to come.
+-- data block that is left, and the double indirect block, as long as its turn is to come.
 abbrev pub down_codes : ℕ → ℕ → List ℕ
 down_codes left turn = (if nat_lt 2 turn then 2 ∷ [] else []) ++ codes_on (way_to (last_table left))
 
 -- The blocks of a file that hold addresses were dropped, from the last down to the one with a code. What waits more
--- leads
--- to the last data block that is left, or to blocks whose turn is to come.
+-- leads to the last data block that is left, or to blocks whose turn is to come.
 pub record DropsDown (number left turn : ℕ) (old new : Parts) : Type 0 where
   pub staged : IsStaged new 0
   pub rest : KeepsRest number old new
@@ -184,8 +179,7 @@ pub record DropsDown (number left turn : ℕ) (old new : Parts) : Type 0 where
       ≡ data_block (tree_of old n) index
 
 -- The blocks of a file that lead only to data blocks from one on may be given back, of so many data blocks. There are
--- frames
--- for the last block that is left and for each block whose turn comes, with its parents.
+-- frames for the last block that is left and for each block whose turn comes, with its parents.
 pub record MayDropAll (p : Parts) (number left blocks : ℕ) : Type 0 where
   pub staged : IsStaged p 0
   pub in_use : (row_of p.log.tables number).used ≡ true

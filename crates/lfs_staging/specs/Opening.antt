@@ -52,8 +52,7 @@ abbrev pub fresh_used : ℕ → ℕ → Tables
 fresh_used segments inodes = with_state (fresh_tables segments inodes) 0 Active
 
 -- the segments: segment 0 is active, and behind the label it has a summary at address 1, and at 2 the block that it
--- names, with
--- the root's record alone, at version 1
+-- names, with the root's record alone, at version 1
 pub record HasRootBlock (m : SegmentMemory) : Type 0 where
   pub active : m.active ≡ 0
   pub filled : m.fill ≡ 3

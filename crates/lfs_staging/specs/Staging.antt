@@ -24,8 +24,7 @@ use Rattle.lfs_staging.specs.View.{LiesIn, blocks_of, key_of, record_of, tree_of
 use Rattle.lfs_staging.specs.Waiting.{AreOnce, without}
 
 -- What holds in the middle of a call: of the files, of the log with so many spare bytes, and of what waits. There is
--- room
--- for the records, and each block that waits lies within its file.
+-- room for the records, and each block that waits lies within its file.
 pub record IsStaged (p : Parts) (spare : ℕ) : Type 0 where
   pub whole : AreFiles p
   pub log : IsLog (log_state p) spare
@@ -44,8 +43,7 @@ pub record StagesRecord (v : Inode) (old new : Parts) : Type 0 where
   pub others : (n : ℕ) → n ≢ v.number → record_of new n ≡ record_of old n
 
 -- The frames that wait are those that waited, and one of this key; it is one more where it is new. No block is clean
--- that
--- wasn't.
+-- that wasn't.
 pub record GrowsBy (key : Key) (old new : Parts) : Type 0 where
   pub formed : IsContents new.cache
   pub clean : GainsNoClean old.cache new.cache

@@ -62,9 +62,8 @@ pub record IsFile (p : Parts) (number : ℕ) (f : Fields) : Type 0 where
   pub padded : IsPadded (data_block (tree_of p number)) f.attributes.size
 
 -- What holds of the files and of what waits: the parts are each well formed and of one volume; of the numbers below 4
--- none
--- but the root's is in use; each number in use has a record; what waits is of a number in use, at its present version;
--- what is clean in the cache is what the log has.
+-- none but the root's is in use; each number in use has a record; what waits is of a number in use, at its present
+-- version; what is clean in the cache is what the log has.
 pub record AreFiles (p : Parts) : Type 0 where
   pub parts : IsParts p.log
   pub cache : IsContents p.cache

@@ -25,8 +25,7 @@ abbrev pub IsNumbered : Inode → Type 0
 IsNumbered v = v.number < most_inodes
 
 -- Some records, each of another number, and for each number whether one of them is of it; there is room for all that
--- may
--- wait.
+-- may wait.
 pub record IsRecords (records : List Inode) (waits : List Bool) (capacity : ℕ) : Type 0 where
   pub room : WAITING_LIMIT ≤ capacity
   pub once : AreOnce records

@@ -40,10 +40,8 @@ set_by fields (told.Attr attr) = Node (Set fields)
 set_by fields reply = Nothing
 
 -- What a message changes: a file or a directory that it made, with the names of the directory; the names of the
--- directory
--- from which it took one, or of both between which it moved one; the bytes of a file that it wrote or cut; attributes
--- that it
--- set. What is refused changes nothing.
+-- directory from which it took one, or of both between which it moved one; the bytes of a file that it wrote or cut;
+-- attributes that it set. What is refused changes nothing.
 abbrev pub change_of : Said → Told → Change
 change_of (mknod fields name) reply = made_by reply
 change_of (mkdir fields name) reply = made_by reply

@@ -28,8 +28,7 @@ marked now None mark times = times
 marked now (Some number) mark times = slice_set times number (marked_by mark now (stamps_of times number))
 
 -- What a change makes of the times: of a node's row, of a new number and the directory that it is in, of two
--- directories
--- between which a name moved.
+-- directories between which a name moved.
 abbrev pub stamped : Time → Option ℕ → Option ℕ → Change → List Stamps → List Stamps
 stamped now row other Nothing times = times
 stamped now row other (Node mark) times = marked now row mark times

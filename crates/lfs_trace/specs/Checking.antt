@@ -55,10 +55,8 @@ pub record IsPlain (s : StoreState) : Type 0 where
   pub roomy : 2 < s.clean
 
 -- What a checker says of the next entry's event. In each world at which it stood: where nothing is said against the
--- event, it
--- may happen, and the checker stands at the world that it leaves; where it is said to be illegal, it may not; and
--- wherever
--- something is said, the checker stands where it stood.
+-- event, it may happen, and the checker stands at the world that it leaves; where it is said to be illegal, it may not;
+-- and wherever something is said, the checker stands where it stood.
 pub record IsChecked (old new : Standing) (caller : Caller) (event : Event)
     (result : Result (Unit {0}) EntryFault) : Type 0 where
   pub legal : OnOk result ((w : World) → StandsAt old w → IsEvent (numbers_of old) old.segments w caller event)

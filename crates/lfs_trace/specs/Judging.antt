@@ -32,8 +32,7 @@ abbrev pub answered : ℕ → Caller → Request → Answer → Entry
 answered session caller request answer = record { session = session; cred = caller; event = User request answer }
 
 -- In each world where the rules gave a call the answer of one entry, the other, which tells an answer of the rules to
--- the
--- same call, is allowed exactly where this is true.
+-- the same call, is allowed exactly where this is true.
 abbrev pub JudgesMade : Entry → Entry → Bool → Type 0
 JudgesMade made told result =
     (numbers segments session : ℕ) (w : World) (caller : Caller) (request : Request) (a b : Answer)

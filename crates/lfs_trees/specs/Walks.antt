@@ -36,8 +36,8 @@ abbrev pub so_far : ℕ → List Entry → ℕ → List Entry
 so_far dir es d = cond (nat_eq d dir) es []
 
 -- Rows that were reached in this order, of which the first were read, and of one directory these entries: they are a
--- tree;
--- each is a file's, which a directory lists there; what was read lists what hangs in it; nothing else hangs anywhere.
+-- tree; each is a file's, which a directory lists there; what was read lists what hangs in it; nothing else hangs
+-- anywhere.
 pub record IsReached (c : Content) (order before : List ℕ) (dir : ℕ) (es : List Entry) (rows : Rows) : Type 0 where
   pub tree : IsTree rows
   pub reached : (n : ℕ) → is_some (map.get rows n) ≡ is_among order n

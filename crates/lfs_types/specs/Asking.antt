@@ -6,9 +6,8 @@ use Rattle.lfs_types.specs.declared.store.Reserve.{Reserve}
 use Rattle.lfs_types.specs.declared.store.StoreRefusal.{StoreRefusal}
 
 -- A store was asked for changes on somebody's behalf, with this result, and its state did not change but by that: it
--- was
--- asked as its state stood, and its state stands as that left it. What a store's changes come to is a relation of its
--- own.
+-- was asked as its state stood, and its state stands as that left it. What a store's changes come to is a relation of
+-- its own.
 pub record WasAsked {F : Type 0} (state : F → StoreState) (made : F → List Change → Reserve
     → Result (Unit {0}) StoreRefusal → F → Type 0)
     (old : F) (changes : List Change) (by : Reserve) (result : Result (Unit {0}) StoreRefusal) (new : F) : Type 0 where

@@ -6,9 +6,9 @@ use Rattle.lfs_types.specs.declared.cleaner.CleanFault.{CleanFault}
 use Rattle.lfs_types.specs.declared.cleaner.CleanFault.TheVariants.{NoSuchSegment, Active, NotDirty, NoSpace}
 
 -- What the calls of a store's cleaner may answer: whether bytes are those of the ifile; whether a call for the infos of
--- a
--- segment may have this result, and leave this list; whether infos become these, each with its present address; whether
--- blocks may be written again, and a segment be made clean, with this result, from one state of the store to another.
+-- a segment may have this result, and leave this list; whether infos become these, each with its present address;
+-- whether blocks may be written again, and a segment be made clean, with this result, from one state of the store to
+-- another.
 pub record CleanerCalls (F : Type 0) : Type 1 where
   pub gives_ifile : F → List ℕ → Type 0
   pub gives_infos : F → ℕ → Result (Unit {0}) CleanFault → List BlockInfo → Type 0

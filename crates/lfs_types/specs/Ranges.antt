@@ -1,6 +1,5 @@
 -- The ranges of the numbers that a volume is laid out with, from the least to the most of each (this project's
--- profile).
--- They are said here apart from the code's constants, and all clauses on ranges go by them.
+-- profile). They are said here apart from the code's constants, and all clauses on ranges go by them.
 use Rattle.std.specs.Prelude.{ℕ}
 
 -- how many segments there may be

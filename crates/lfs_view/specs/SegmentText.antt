@@ -53,8 +53,7 @@ records_lines p address =
     ++ logged_line address 2 (logged_at p address 2) ++ logged_line address 3 (logged_at p address 3)
 
 -- The lines of what stands at an address: none where nothing was written. A summary is told with how many blocks follow
--- it,
--- a block of records with how many of how many are the present ones, and then each of them.
+-- it, a block of records with how many of how many are the present ones, and then each of them.
 abbrev pub kind_lines : Parts → ℕ → Kind → List ℕ
 kind_lines p address Label = line_of (decimal address) (codes "label" ∷ [])
 kind_lines p address (Summary count) = line_of (decimal address) (codes "summary" ∷ decimal count ∷ [])

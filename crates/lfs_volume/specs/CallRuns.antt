@@ -19,14 +19,11 @@ use Rattle.lfs_calls.specs.Outcomes.{IsOutcome}
 use Rattle.lfs_calls.specs.Volumes.{IsVolume}
 
 -- A user's call was answered so behind a journal that began in this world, and led from one store to another:
--- JournalFull
--- exactly where the journal has its limit, and then the store is as before; else the answer has its cause over the
--- store as
--- it was, which shows the journal's world. A call that is served leaves the entries of directories in their places, and
--- a
--- Sync nothing waiting; one that isn't leaves the content; one that looks, that a rule denies or that wants a number,
--- room
--- for a name or the journal's room leaves the whole state of the store as it was; and no more segments are clean.
+-- JournalFull exactly where the journal has its limit, and then the store is as before; else the answer has its cause
+-- over the store as it was, which shows the journal's world. A call that is served leaves the entries of directories in
+-- their places, and a Sync nothing waiting; one that isn't leaves the content; one that looks, that a rule denies or
+-- that wants a number, room for a name or the journal's room leaves the whole state of the store as it was; and no more
+-- segments are clean.
 pub record IsCallMade {F : Type 0} (state : F → StoreState) (is_settled : F → Type 0) (limit : ℕ) (from : World)
     (journal : List Entry) (old : F) (caller : Caller) (request : Request) (answer : Answer) (new : F) : Type 0 where
   pub full : (answer ≡ Refused JournalFull) ↔ (length journal ≡ limit)
@@ -43,8 +40,7 @@ pub record IsCallMade {F : Type 0} (state : F → StoreState) (is_settled : F �
   pub follows : Follows (state old) (state new)
 
 -- Calls were answered so behind a journal, one after another, and led from one store to another: each is made on the
--- store
--- that the one before it left.
+-- store that the one before it left.
 abbrev pub AreAnswers : {F : Type 0} → (F → StoreState) → (F → Type 0) → ℕ → World → List Entry → F → List Call
     → List Answer → F → Type 0
 AreAnswers state is_settled limit from journal old [] [] new = new ≡ old

@@ -38,10 +38,8 @@ AtPresent state v P =
     Since (state v.since) v.since_level (λ from. P (world_after (state v.store).shape.numbers v.journal from))
 
 -- The journal of a volume over a store in this state, at this level, that began in this world: it is a legal run from
--- there
--- to the world that store and level show, which is a tree; it is no longer than its limit; and a call refused for want
--- of
--- space stands in it only where at most two of the segments that are clean now weren't made clean after it.
+-- there to the world that store and level show, which is a tree; it is no longer than its limit; and a call refused for
+-- want of space stands in it only where at most two of the segments that are clean now weren't made clean after it.
 pub record IsJournal (from : World) (s : StoreState) (level : Level) (entries : List Entry) (limit : ℕ) : Type 0 where
   pub legal : IsLegal s.shape.numbers s.shape.segments entries from
   pub shown : IsVolume s (world_after s.shape.numbers entries from)
@@ -50,8 +48,7 @@ pub record IsJournal (from : World) (s : StoreState) (level : Level) (entries : 
   pub space : IsShort s.clean entries
 
 -- A step over a store that shows this world: it may happen there, store and level show the world that it leaves,
--- NoSpace
--- comes only with at most two clean segments, and no more segments become clean than the event tells.
+-- NoSpace comes only with at most two clean segments, and no more segments become clean than the event tells.
 pub record IsStep (old new : StoreState) (level_after : Level) (w : World) (caller : Caller)
     (event : Event) : Type 0 where
   pub happens : IsEvent old.shape.numbers old.shape.segments w caller event
@@ -62,8 +59,7 @@ pub record IsStep (old new : StoreState) (level_after : Level) (w : World) (call
   pub shape : new.shape ≡ old.shape
 
 -- A journal became this one by an entry of this event: from wherever it began, over each store and level whose journal
--- it
--- was, with room for one more, it is the journal of those that the step leaves.
+-- it was, with room for one more, it is the journal of those that the step leaves.
 abbrev pub StaysJournal : List Entry → List Entry → Caller → Event → Type 0
 StaysJournal before after caller event =
     (from : World) (old new : StoreState) (level level_after : Level) (limit : ℕ)
@@ -89,8 +85,7 @@ level_left level request (Refused resource) = level
 -- A user's call was answered so over a store and a level: the answer has its cause, store and level show the world that
 -- it leaves, a served call leaves the entries of directories in their places, a call that isn't served or lists changes
 -- neither content nor level, one that looks or asks the store for no changes leaves the whole state as it was, and no
--- more
--- segments are clean.
+-- more segments are clean.
 pub record IsAnswered (old new : StoreState) (level level_after : Level) (caller : Caller) (request : Request)
     (answer : Answer) : Type 0 where
   pub outcome : InWorld old (λ w. w.level ≡ level → IsOutcome old w caller request answer)

@@ -19,8 +19,7 @@ use Rattle.lfs_volume.specs.Cleanings.{Cleaner, CleansOnly, IsCleanerAnswer}
 
 -- A call was answered so behind a journal, and led from one store to another: a user's as it is made alone; a cleaner's
 -- JournalFull exactly where the journal has its limit, and then the store is as before, else as the store's call
--- answers.
--- No segment becomes clean but by the cleaner's call that tells so.
+-- answers. No segment becomes clean but by the cleaner's call that tells so.
 abbrev pub IsActMade : {F : Type 0} → Cleaner F → ℕ → World → List Entry → F → Caller → Act → StepAnswer → F → Type 0
 IsActMade r limit from journal old caller (acts.User request) (User answer) new =
     IsCallMade r.state r.is_settled limit from journal old caller request answer new
@@ -32,8 +31,7 @@ IsActMade r limit from journal old caller (acts.Cleaner call) (Cleaned answer) n
 IsActMade r limit from journal old caller act answer new = ⊥
 
 -- Steps were answered so behind a journal, one after another, and led from one store to another: at each of them the
--- store
--- shows the world that the journal leads to by then.
+-- store shows the world that the journal leads to by then.
 abbrev pub AreSteps : {F : Type 0} → Cleaner F → ℕ → World → List Entry → F → List Step → List StepAnswer → F → Type 0
 AreSteps r limit from journal old [] [] new = new ≡ old
 AreSteps r limit from journal old [] (answer ∷ answers) new = ⊥

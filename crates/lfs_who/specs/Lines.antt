@@ -27,8 +27,7 @@ abbrev pub left : Caller → List ℕ → List ℕ → Option Denial → List (O
 left c inside outside decision = if fits c inside outside then decision ∷ [] else []
 
 -- The callers who fit some groups are told apart by an outcome: whatever the decision of those for whom it is met, the
--- lines and
--- those who are left tell each caller what the old ones told him; or nobody is left.
+-- lines and those who are left tell each caller what the old ones told him; or nobody is left.
 abbrev pub IsSplit : Outcome → Denial → List Told → List ℕ → List ℕ → List Told → List ℕ → List ℕ → Bool → Type 0
 IsSplit outcome denial lines inside outside now within without ends =
     (c : Caller) (rest : Option Denial)

@@ -18,8 +18,7 @@ lines_for [] others u = others
 lines_for (named ∷ more) others u = if named.uid == u then named.lines.items else lines_for more others u
 
 -- Every caller there can be, whoever he is and whatever groups he is in, fits one line of his user and no other, and it
--- has
--- the denial of his call, or that the rules allow it.
+-- has the denial of his call, or that the rules allow it.
 abbrev pub IsWho : World → Act → List (List ℕ) → Who → Type 0
 IsWho w act path who = (c : Caller) → told_to c (lines_for who.named.items who.others.items c.uid)
     ≡ act_denial w c act path ∷ []

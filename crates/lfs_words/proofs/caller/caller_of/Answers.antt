@@ -37,7 +37,8 @@ returns-in-Ok c =
     let kept : c.as_slice.result.now ≡ take 17 gs = c.as_slice.ensures ∙ split.1 in
     let fine = moved c.in_ok-uid.uid user c.as_slice.result.now gs c.args.init None read.2 kept c.in-Ok.ensures.0 in
     let make : ℕ → List ℕ → Caller = λ u xs. record { uid = u; groups = xs; init = c.args.init } in (
-      caller_fine c.args.user.now c.args.groups.now c.args.init (short_alone c.args.user.now read.0 read.1) split.0 fine,
+      caller_fine c.args.user.now c.args.groups.now c.args.init
+          (short_alone c.args.user.now read.0 read.1) split.0 fine,
       c.in-Ok.ensures.1 ∙ ap (λ u. make u c.as_slice.result.now) read.2
           ∙ ap (λ xs. make user xs) (kept ∙ kept_whole user gs c.args.init fine),
     )
