@@ -335,6 +335,9 @@ def main():
     ran = subprocess.run([sys.executable, TOP / "scripts/spec-page.py"], capture_output=True, text=True)
     if ran.returncode:
         told(TOP / "docs/SPEC.md", 1, ran.stdout.strip())
+    ran = subprocess.run([sys.executable, TOP / "scripts/greatest-talks.py"], capture_output=True, text=True)
+    if ran.returncode:
+        told(TOP / "crates/lfs_script_tests/README.md", 1, ran.stdout.strip())
     ran = subprocess.run([sys.executable, TOP / "scripts/man-pages.py"], capture_output=True, text=True)
     if ran.returncode:
         told(TOP / "docs/man/lfsd.1", 1, (ran.stdout + ran.stderr).strip())

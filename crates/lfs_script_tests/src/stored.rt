@@ -45,17 +45,27 @@ where
     Ok(is_stored)
 }
 
-/// What a line of the list asks for. Its name stands where the program's own does on a command line.
-fn options_in<R: AllocGlobal>(rt: &R, line: &str) -> anyhow::Result<Options> {
+/// The words of a line of a list. Its name stands where the program's own does on a command line.
+pub fn words_in<'a, R: AllocGlobal>(rt: &R, line: &'a str) -> anyhow::Result<Vec<&'a str>> {
     let mut words = Vec::new(rt.alloc());
     for word in line.split(' ') {
         words.push(word)?;
     }
+    Ok(words)
+}
+
+/// What a line of the list asks for.
+fn options_in<R: AllocGlobal>(rt: &R, line: &str) -> anyhow::Result<Options> {
+    let words = words_in(rt, line)?;
     options_of(rt.alloc(), words.as_slice()).map_err(|error| anyhow!("{line}: {error}"))
 }
 
-/// Tells what a script printed that isn't stored.
-fn print_lines<R: AllocGlobal + Print>(rt: &R, line: &str, written: &[u8]) -> anyhow::Result<()> {
+/// Tells what a script or a talk printed that isn't stored.
+pub fn print_lines<R: AllocGlobal + Print>(
+    rt: &R,
+    line: &str,
+    written: &[u8],
+) -> anyhow::Result<()> {
     let lines = String::from_utf8_lossy(rt.alloc(), written)?;
     println!(rt; "{line}: other lines\n{lines}")?;
     Ok(())
