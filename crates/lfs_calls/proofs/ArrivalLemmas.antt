@@ -1,5 +1,5 @@
 -- What the judge of a row's new place finds on the way to it.
-use Rattle.std.proofs.Common.{◌≡◌, ℕ, ◌+◌, ◌==◌, true, false, List, [], ◌∷◌, ◌++◌, length, Option, Some, Err, refl, sym}
+use Rattle.std.proofs.Common.{◌≡◌, ℕ, ◌+◌, ◌==◌, true, false, List, [], ◌∷◌, ◌++◌, length, Option, Some, Err, sym}
 use Rattle.std.proofs.Common.{ap, ◌∙◌, arith}
 use Rattle.std.specs.Prelude.{not}
 use Rattle.std.proofs.lemmas.Bool.{cond-true, ne_eqb}
@@ -8,7 +8,6 @@ use Rattle.lfs_types.specs.Kinds.{is_directory_kind}
 use Rattle.lfs_types.specs.Tree.{World, Content, root}
 use Rattle.lfs_types.specs.declared.attrs.Attrs.{Attrs}
 use Rattle.lfs_types.specs.declared.rule.Denial.{Denial}
-use Rattle.lfs_types.specs.declared.rule.Rule.TheVariants.{IsNotRoot}
 use Rattle.lfs_model.specs.World.{Rows, child}
 use Rattle.lfs_model.specs.Rules.{Check, arriving, attrs_at, first_failing, front, reached, searching_tests, walk}
 use Rattle.lfs_model.specs.Walks.{walked}
@@ -20,12 +19,6 @@ use Rattle.lfs_calls.proofs.StepLemmas.{attrs_reads}
 -- the tests of the directory, by the names that lead to it
 abbrev in_directory : Rows → Caller → List (List ℕ) → List Check
 in_directory rows caller parents = searching_tests caller 1 (attrs_at rows (reached rows root parents)) (length parents)
-
--- no row gets the root's place
-pub arrive_root : (rows : Rows) (caller : Caller) (names : List (List ℕ)) → length names ≡ 0
-    → first_failing (arriving rows caller names) ≡ Some (record { rule = IsNotRoot; path = 1; at = 0 })
-arrive_root rows caller [] h = refl
-arrive_root rows caller (x ∷ xs) h = absurd (omega arith)
 
 module _ (rows : Rows) (caller : Caller) (names parents : List (List ℕ)) (name : List ℕ) (e : names ≡ parents ++ name
     ∷ []) (count : length parents + 1 ≡ length names) where

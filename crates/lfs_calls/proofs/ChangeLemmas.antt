@@ -12,7 +12,7 @@ use Rattle.lfs_types.specs.declared.attrs.Attrs.{Attrs}
 use Rattle.lfs_types.specs.declared.attrs.Kind.TheVariants.{File as Regular, Directory}
 use Rattle.lfs_types.specs.declared.rule.Denial.{Denial}
 use Rattle.lfs_types.specs.declared.store.Change.TheVariants.{SetAttrs}
-use Rattle.lfs_model.specs.World.{IsTree, file_at}
+use Rattle.lfs_model.specs.World.{IsTree}
 use Rattle.lfs_model.specs.Rules.{first_failing, reached}
 use Rattle.lfs_model.specs.Effects.{mode_after, with_change}
 use Rattle.lfs_calls.specs.Content.{visible, Shows}
@@ -42,12 +42,6 @@ module _ (c : Content) (w : World) (shows : Shows c w) (path : List (List ℕ)) 
 
   seen : visible f.file ≡ f.file
   seen = visible-regular f.file kind_is
-
-  -- users see as many bytes as the shown attributes say
-  pub size_seen : length (file_at (map.get w.rows (reached w.rows root path))).bytes ≡ a.size
-  size_seen =
-      ap (λ m. length (file_at (map.get w.rows m)).bytes) leads ∙ ap (λ o. length (file_at o).bytes) r.there
-      ∙ ap (λ (x : File). length x.bytes) (sym r.same ∙ seen) ∙ ap (λ (x : Attrs). x.size) (sym f.same)
 
   -- ---- the world after the bytes of a file were changed
 

@@ -15,7 +15,6 @@ use Rattle.lfs_types.specs.declared.attrs.Attrs.{Attrs}
 use Rattle.lfs_types.specs.declared.attrs.Kind.{Kind}
 use Rattle.lfs_types.specs.declared.attrs.Kind.TheVariants.{Directory}
 use Rattle.lfs_types.specs.declared.rule.Denial.{Denial}
-use Rattle.lfs_types.specs.declared.rule.Rule.TheVariants.{NameFree}
 use Rattle.lfs_types.specs.declared.store.Change.TheVariants.{Make, Put}
 use Rattle.lfs_model.specs.World.{Rows, child}
 use Rattle.lfs_model.specs.Rules.{Check, first_failing, attrs_at, reached, walk, making, making_tests, front, last}
@@ -55,12 +54,6 @@ abbrev in_parent : Rows → Caller → List (List ℕ) → List ℕ → List Che
 in_parent rows caller parents name =
     let dir = reached rows root parents in
     making_tests caller (is_none (child rows dir name)) (attrs_at rows dir) (length parents)
-
--- no name may be given to the root
-pub make_root : (rows : Rows) (caller : Caller) (names : List (List ℕ)) → length names ≡ 0
-    → first_failing (making rows caller names) ≡ Some (record { rule = NameFree; path = 0; at = 0 })
-make_root rows caller [] h = refl
-make_root rows caller (x ∷ xs) h = absurd (omega arith)
 
 -- a path of names before the last, and a last
 making_in : (rows : Rows) (caller : Caller) (names parents : List (List ℕ)) (name : List ℕ) → names ≡ parents ++ name

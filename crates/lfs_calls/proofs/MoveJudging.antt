@@ -32,9 +32,6 @@ use Rattle.lfs_calls.specs.Volumes.{InWorld}
 use Rattle.lfs_calls.proofs.StepLemmas.{attrs_reads, directory_reads}
 use Rattle.lfs_types.proofs.Somewhere.{present}
 
-there_same : (n : ℕ) (o : Option ℕ) → o ≡ Some n → is_there n o ≡ true
-there_same n o e = ap (is_there n) e ∙ eq-eqb n n refl
-
 there_other : (n : ℕ) (o : Option ℕ) → (o ≡ Some n → ⊥) → is_there n o ≡ false
 there_other n None apart = refl
 there_other n (Some m) apart = ne_eqb m n (λ e. apart (ap Some e))
@@ -82,14 +79,6 @@ module _ (c : Content) (w : World) (shows : Shows c w) (caller : Caller) (from t
   abbrev lasting : ℕ → List Check
   lasting at = apart_test w.rows file.number to
       ∷ leaves_test caller (removal.dir.number == arrival.dir.number) file.attrs at ∷ []
-
-  -- a row that has the place already may have it
-  pub moves_nowhere : arrival.there ≡ Some file.number
-      → first_failing (moving_tests w.rows caller from to arrival.there) ≡ None
-  moves_nowhere e =
-      ap (λ b. first_failing (cond b [] (placing_tests w.rows caller (reached w.rows root from)
-      (reached w.rows root (front to)) arrival.there (length (front to)) ++ last_tests w.rows caller from to)))
-      (ap (λ n. is_there n arrival.there) removes.row ∙ there_same file.number arrival.there e)
 
   module _ (elsewhere : arrival.there ≡ Some file.number → ⊥) (k : ℕ) (seat : k ≡ length (front to)) (at : ℕ) (same : at
       ≡ length from) where

@@ -10,14 +10,13 @@ use Rattle.lfs_types.specs.declared.attrs.Attrs.{Attrs}
 use Rattle.lfs_types.specs.declared.attrs.Kind.{Kind}
 use Rattle.lfs_types.specs.declared.attrs.Kind.TheVariants.{File as Regular, Directory}
 use Rattle.lfs_types.specs.declared.request.Request.TheVariants.{Stat, Read}
-use Rattle.lfs_rules.specs.Grants.{grants_of}
 use Rattle.lfs_model.specs.World.{file_at}
-use Rattle.lfs_model.specs.Rules.{Check, first_failing, is_directory_row, row_grants, attrs_at, reached, walk}
+use Rattle.lfs_model.specs.Rules.{Check, first_failing, attrs_at, reached, walk}
 use Rattle.lfs_model.specs.Effects.{answer_of, read_max}
 use Rattle.lfs_calls.specs.Content.{visible, visible_bytes, Shows}
 use Rattle.lfs_model.specs.Walks.{walked}
 use Rattle.lfs_model.proofs.Deciding.{walk_passed, walked-reached}
-use Rattle.lfs_calls.proofs.StepLemmas.{shown_file, stored_regular, attrs_reads, directory_reads, grants_reads}
+use Rattle.lfs_calls.proofs.StepLemmas.{shown_file, stored_regular, attrs_reads}
 use Rattle.lfs_calls.proofs.Visible.{Stored, shown_of, visible-regular}
 
 -- the size that is shown of a file: 0 of a directory
@@ -49,15 +48,6 @@ module _ (c : Content) (w : World) (shows : Shows c w) (caller : Caller) (path :
   pub attrs_is : attrs_at w.rows (reached w.rows root path)
       ≡ record a { size = length (visible (shown_file c n a shown).file).bytes }
   attrs_is = ap (attrs_at w.rows) object ∙ attrs_reads c w shows n a shown
-
-  -- it is a directory's where the attributes say so
-  pub directory_is : is_directory_row (map.get w.rows (reached w.rows root path)) ≡ is_directory_kind a.kind
-  directory_is = ap (λ m. is_directory_row (map.get w.rows m)) object ∙ directory_reads c w shows n a shown
-
-  -- it grants what the attributes do
-  pub grants_is : (bit : _) → row_grants caller bit (map.get w.rows (reached w.rows root path)) ≡ grants_of caller a bit
-  grants_is bit = ap (λ m. row_grants caller bit (map.get w.rows m)) object
-      ∙ grants_reads c w shows n a shown caller bit
 
   -- a Stat shows the attributes with the size that users see
   pub stat_answer : (size : ℕ) → (is_directory_kind a.kind ≡ true → size ≡ 0)

@@ -5,9 +5,6 @@ use Rattle.lfs_types.specs.StoreStates.{Follows, StoreState}
 pub same_content : {s t : StoreState} → s ≡ t → s.content ≡ t.content
 same_content e = ap (λ (x : StoreState). x.content) e
 
-pub same_clean : {s t : StoreState} → s ≡ t → s.clean ≡ t.clean
-same_clean e = ap (λ (x : StoreState). x.clean) e
-
 pub same_numbers : {s t : StoreState} → s ≡ t → s.shape.numbers ≡ t.shape.numbers
 same_numbers e = ap (λ (x : StoreState). x.shape.numbers) e
 
