@@ -1,21 +1,18 @@
 -- Which fault of a run comes with which cause.
-use Rattle.std.proofs.Common.{◌≡◌, ℕ, ◌<◌, ◌≤◌, List, length, Option, None, Some, Result, Ok, Err, IfErr, IfSome, true}
+use Rattle.std.proofs.Common.{◌≡◌, ℕ, ◌<◌, ◌≤◌, List, length, Option, None, Some, Result, Ok, Err, IfErr, IfSome}
 use Rattle.std.proofs.Common.{subst}
-use Rattle.std.specs.List.{list_any}
 use Rattle.lfs_types.specs.Caller.{Caller}
 use Rattle.lfs_types.specs.declared.fault.FormatFault.{FormatFault}
 use Rattle.lfs_types.specs.declared.request.Request.{Request}
 use Rattle.lfs_server.specs.Fresh.{IsFormatFault}
-use Rattle.lfs_server.specs.Serving.{IsInRange, IsServeFault}
-use Rattle.lfs_server.specs.declared.serving.ServeFault.{ServeFault}
+use Rattle.lfs_server.specs.Serving.{IsInRange}
 use Rattle.lfs_script.specs.Parsing.{ParsesScript}
 use Rattle.lfs_script.specs.PlanTypes.{Planned}
 use Rattle.lfs_script.specs.Plans.{plan_of}
-use Rattle.lfs_script.specs.Splitting.{is_of_cleaner}
 use Rattle.lfs_script.specs.declared.fault.ScriptFault.{ScriptFault}
 use Rattle.lfs_audit.specs.Faults.{HasPlan, IsFaultOf, IsRead, IsReadingFault, MayHaveWritten}
 use Rattle.lfs_audit.specs.Scripts.{IsScriptFault}
-use Rattle.lfs_audit.specs.Threads.{HasCleanerLine, HasSessions, IsSplit, IsSplittingFault, IsThreadsFault}
+use Rattle.lfs_audit.specs.Threads.{HasSessions, IsSplit, IsThreadsFault}
 use Rattle.lfs_audit.specs.Threads.{MayHaveWrittenThreads}
 use Rattle.lfs_audit.specs.declared.fault.RunFault.{RunFault}
 use Rattle.lfs_audit.specs.declared.fault.RunFault.TheVariants.{Read, TooLong, Script, Format, Memory, Write}
@@ -123,43 +120,10 @@ late_script_faults known segments inodes frames result plan ranges p =
 
 -- ---- a run on threads
 
--- a line is the cleaner's
-pub cleaner_line_fault : (known : Option (List ℕ)) (plan : Planned) → IfSome known (λ script. IsRead script plan)
-    → list_any is_of_cleaner plan.steps ≡ true → IfSome known HasCleanerLine
-cleaner_line_fault known plan is cleaner =
-    if_some known (λ script. IsRead script plan) HasCleanerLine is
-    (λ script read. record { plan = plan; read = read; cleaner = cleaner })
-
-pub splitting_fault : (known : Option (List ℕ)) (segments inodes frames : ℕ) (fault : ThreadsFault)
-    → IsSplittingFault known fault → IsThreadsFault known segments inodes frames fault
-splitting_fault known segments inodes frames (threads.Run Read) p = tt
-splitting_fault known segments inodes frames (threads.Run TooLong) p = p
-splitting_fault known segments inodes frames (threads.Run (Script fault)) p = p
-splitting_fault known segments inodes frames (threads.Run (Format fault)) p = absurd p
-splitting_fault known segments inodes frames (threads.Run Memory) p = tt
-splitting_fault known segments inodes frames (threads.Run Write) p = absurd p
-splitting_fault known segments inodes frames threads.CleanerLine p = p
-splitting_fault known segments inodes frames (threads.Serve fault) p = absurd p
-
 -- a script that was split has so many sessions
 has_sessions : (script : List ℕ) (setup : List (Caller × Request)) (scripts : List (List (Caller × Request)))
     → IsSplit script setup scripts → HasSessions script (length scripts)
 has_sessions script setup scripts is = record { plan = is.plan; read = is.read; users = is.users; count = is.count }
-
--- its sessions were not served
-pub serving_fault : (known : Option (List ℕ)) (segments inodes frames sessions : ℕ) (setup : List (Caller × Request))
-    (scripts : List (List (Caller × Request))) (fault : ServeFault)
-    → IfSome known (λ script. IsSplit script setup scripts) → sessions ≡ length scripts
-    → IsServeFault sessions segments inodes frames fault
-    → IsThreadsFault known segments inodes frames (threads.Serve fault)
-serving_fault known segments inodes frames sessions setup scripts fault split count p =
-    if_some known (λ script. IsSplit script setup scripts) (λ script. (n : ℕ) × HasSessions script n
-    × IsServeFault n segments inodes frames fault) split
-    (λ script is. (
-      length scripts,
-      has_sessions script setup scripts is,
-      subst (λ (n : ℕ). IsServeFault n segments inodes frames fault) count p,
-    ))
 
 late_threads_fault : (known : Option (List ℕ)) (segments inodes frames sessions : ℕ) (setup : List (Caller × Request))
     (scripts : List (List (Caller × Request))) (fault : ThreadsFault)

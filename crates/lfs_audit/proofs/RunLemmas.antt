@@ -270,26 +270,6 @@ pass_goes_on r old middle new session caller pass last call answer next before t
           + 1 = length-append passing.made one in omega (arith, count, passing.few, fewer);
     }
 
--- a pass makes no call any more
-pub pass_ends : {F : Type 0} (r : Cleaner F) (old new : Seen F) (session : ℕ) (caller : Caller) (pass : Pass)
-    (last : Option CleanerAnswer) (next : Pass) (before after : List ℕ)
-    → IsPassing r old new session caller pass last before after → Steps pass last None next
-    → TellsLine r old new session caller plan.Pass before after
-pass_ends r old new session caller pass last next before after passing ends = record {
-  made = passing.made;
-  answers = passing.answers;
-  asked = record {
-    pass = pass;
-    last = last;
-    after = next;
-    makes = passing.makes;
-    ends = ends;
-    few = omega (arith, passing.few);
-  };
-  ran = passing.ran;
-  printed = passing.printed;
-}
-
 -- ---- the lines of a plan
 
 -- a further line was asked for
