@@ -1,5 +1,5 @@
 -- An audit that reads on.
-use Rattle.std.proofs.Common.{◌≡◌, ℕ, ◌+◌, List, [], ◌∷◌, ◌++◌, length, Option, refl, sym, ap, subst, ◌∙◌, arith}
+use Rattle.std.proofs.Common.{◌≡◌, ℕ, ◌+◌, List, [], ◌∷◌, ◌++◌, length, Option, sym, ap, subst, ◌∙◌, arith}
 use Rattle.std.proofs.Common.{append_assoc, length-append}
 use Rattle.std.specs.Prelude.{Ok, Err}
 use Rattle.std.specs.Io.KnownBytes.{Consumes}
@@ -10,14 +10,14 @@ use Rattle.std.proofs.lemmas.List.{append-nil}
 use Rattle.std.proofs.lemmas.List.Elements.{All-nil, All-push}
 use Rattle.lfs_types.specs.Tree.{opening_world}
 use Rattle.lfs_model.specs.declared.journal.Entry.{Entry}
-use Rattle.lfs_model.specs.Steps.{IsEvent, IsLegal, after_event, world_after}
+use Rattle.lfs_model.specs.Steps.{IsLegal, after_event, world_after}
 use Rattle.lfs_model.proofs.RunLemmas.{IsLegal-append, world_after-append}
 use Rattle.lfs_words.specs.Lines.{HasNoLineFeed}
 use Rattle.lfs_journal_lines.specs.Reading.{entry_told}
 use Rattle.lfs_trace.specs.Checking.{IsChecked, IsSameStanding, Standing, StandsAt, numbers_of}
 use Rattle.lfs_trace.specs.declared.fault.EntryFault.{EntryFault}
 use Rattle.lfs_trace.specs.declared.fault.EntryFault.TheVariants.{Illegal}
-use Rattle.lfs_auditing.specs.Audits.{AreTold, HasRead, HasReadOn, IsIllegalBehind, StopsAtLine, StopsBehind, behind}
+use Rattle.lfs_auditing.specs.Audits.{AreTold, HasRead, HasReadOn, StopsAtLine, StopsBehind, behind}
 use Rattle.lfs_auditing.specs.Audits.{lines_text}
 use Rattle.lfs_auditing.specs.Users.{AreCounted}
 use Rattle.lfs_auditing.specs.declared.audit.Audit.{Audit}
@@ -61,12 +61,6 @@ module _ (old new : Audit) (mid : Standing) (es : List Entry) (e : Entry) (read 
         counted = count ∙ read.counted;
         users = subst (λ u. AreCounted u.counts es) (sym users) read.users;
       }
-
-  pub illegal_behind : IsChecked old.checker new.checker e.cred e.event (Err Illegal) → IsIllegalBehind new es e
-  illegal_behind checked is =
-      checked.illegal refl (behind old es) read.stands
-      (subst (λ m. IsEvent m old.checker.segments (world_after m es opening_world) e.cred e.event) checked.numbers
-      (subst (λ s. IsEvent (numbers_of new.checker) s (behind new es) e.cred e.event) checked.segments is))
 
 -- ---- lines
 
