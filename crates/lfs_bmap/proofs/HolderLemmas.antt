@@ -11,11 +11,6 @@ use Rattle.lfs_bmap.proofs.WayLemmas.{code_at-way_of, data_way-direct, data_way-
 use Rattle.lfs_bmap.proofs.WayLemmas.{way_of-code_of, way_of-zero}
 use Rattle.lfs_bmap.proofs.BlockLemmas.{same_block}
 
--- The indirect blocks in turn: each is a block that a file can have, with 128 places, and no data block.
-pub table_at-is : (t : ℕ) → t ≤ 128 → IsFileBlock (table_at t)
-table_at-is zero low = tt
-table_at-is (suc k) low = omega arith
-
 pub table_at-holds : (t place : ℕ) → place < 128 → IsTable (table_at t) place
 table_at-holds zero place low = low
 table_at-holds (suc k) place low = low
@@ -272,12 +267,4 @@ pub codes_on-most : (block : FileBlock) → IsFileBlock block → code_of block 
 codes_on-most block is other =
     let more = codes_on-length block is other in
     let few = codes_on-few block is in
-    omega arith
-
-pub codes_on-one : (block : FileBlock) → IsFileBlock block → code_of block ≢ 0 → table_of block ≡ Record
-    → length (codes_on (way_to block)) ≤ 1
-codes_on-one block is other top =
-    let more = codes_on-length block is other in
-    let none : length (codes_on (way_to (table_of block))) ≡ 0 = ap (λ b. length (codes_on (way_to b))) top
-    ∙ ap (λ (cs : List ℕ). length cs) codes_on-none in
     omega arith

@@ -1,10 +1,9 @@
 -- The steps of the log keep what holds of it.
 use Rattle.std.proofs.Common.{◌≡◌, ◌≢◌, ℕ, ◌+◌, ◌-◌, ◌*◌, ◌<◌, ◌≤◌, inl, inr, Some, sym, ap, ◌∙◌, subst, arith}
-use Rattle.std.proofs.lemmas.Option.{same_Some}
 use Rattle.lfs_ifile.specs.declared.segment.SegState.TheVariants.{Clean, Dirty, Active}
 use Rattle.lfs_bmap.specs.declared.blocks.TheConstants.{BLOCK_CODES}
 use Rattle.lfs_bmap.specs.Counting.{seg_of, units, total, weight_of, live_bytes, placed}
-use Rattle.lfs_bmap.specs.Log.{Owner, LogState, owner_of, IsPlaced, IsPlace, clean_unit, AreSegments, IsLog, SameKeys}
+use Rattle.lfs_bmap.specs.Log.{LogState, owner_of, IsPlaced, IsPlace, clean_unit, AreSegments, IsLog, SameKeys}
 use Rattle.lfs_bmap.specs.Log.{SameUse, Writes, Assigns, Renews}
 use Rattle.lfs_bmap.proofs.CountingLemmas.{total-same, weight-none, weight-here, placed-cases, live-same, live-placed}
 
@@ -17,14 +16,6 @@ pub record MayTake (l : LogState) (spare number code place : ℕ) : Type 0 where
   pub written : place < 4 * l.next
   pub owned : l.owner place ≡ Some (owner_of l number code)
   pub enough : 128 * units code ≤ spare
-
--- one owner a place
-pub one_owner : (l : LogState) (spare n c m d : ℕ) → IsLog l spare → IsPlaced l n c → IsPlaced l m d → l.at n c
-    ≡ l.at m d → (n ≡ m) × (c ≡ d)
-one_owner l spare n c m d log p q e =
-    let same : owner_of l n c ≡ owner_of l m d =
-    same_Some _ _ (sym (log.keys n c p).owned ∙ ap l.owner e ∙ (log.keys m d q).owned) in
-    (ap (λ (o : Owner). o.number) same, ap (λ (o : Owner). o.code) same)
 
 -- the states of segments differ
 pub active_not_clean : Active ≡ Clean → ⊥

@@ -4,10 +4,8 @@ use Rattle.std.proofs.lemmas.Bool.{cases_eq, cases_lt, cond-true, cond-false, eq
 use Rattle.std.proofs.lemmas.Bool.{and_left, and_right}
 use Rattle.lfs_bmap.specs.declared.blocks.TheConstants.{BLOCK_CODES}
 use Rattle.lfs_bmap.specs.Counting.{seg_of}
-use Rattle.lfs_bmap.specs.Log.{LogState, IsPlaced, IsLog, SameKeys, SameUse, Assigns, Opens, Renews}
-use Rattle.lfs_bmap.specs.Moves.{present_address, DirtyIn, Moves, StaysDirty}
-use Rattle.lfs_bmap.proofs.CountingLemmas.{placed-cases}
-use Rattle.lfs_bmap.proofs.LogLemmas.{dirty_not_active, MayTake}
+use Rattle.lfs_bmap.specs.Log.{LogState, IsPlaced, IsLog, SameKeys, Opens}
+use Rattle.lfs_bmap.specs.Moves.{present_address, Moves, StaysDirty}
 use Rattle.lfs_bmap.proofs.SegmentLemmas.{opened_dirty}
 
 module _ (Within : ℕ → Type 0) where
@@ -41,35 +39,6 @@ module _ (Within : ℕ → Type 0) where
     versions = λ n c there within. sym (keys.versions n (subst (λ m. n < m) keys.numbers there.number_below));
   }
 
-  -- one key that goes to a place outside these segments, or to none
-  pub moves-assigned : (old new : LogState) (number code place : ℕ) → Assigns old new number code place
-      → (place ≢ 0 → Within (seg_of place) → ⊥)
-      → Moves Within old new
-  moves-assigned old new number code place h outside = record {
-    numbers = h.numbers;
-    places = λ n c there within.
-        let low : n < old.numbers = subst (λ m. n < m) h.numbers there.number_below in
-        elim (placed-cases old.at number code place n c) [
-          | inl e ↦
-              let is : new.at n c ≡ place = h.places n c low there.code_below ∙ e.2 in
-              absurd (outside (λ none. there.somewhere (is ∙ none)) (subst (λ p. Within (seg_of p)) is within))
-          | inr e ↦ sym (h.places n c low there.code_below ∙ e.1)
-        ];
-    versions = λ n c there within. sym (h.versions n (subst (λ m. n < m) h.numbers there.number_below));
-  }
-
-  -- a number given out or released
-  pub moves-renewed : (old new : LogState) (number : ℕ) → Renews old new number → Moves Within old new
-  moves-renewed old new number h = record {
-    numbers = h.numbers;
-    places = λ n c there within. sym (h.places n c (subst (λ m. n < m) h.numbers there.number_below) there.code_below);
-    versions = λ n c there within.
-        let low : n < old.numbers = subst (λ m. n < m) h.numbers there.number_below in
-        let other : n ≢ number = λ e. there.somewhere (h.places n c low there.code_below ∙ ap (λ m. old.at m c) e
-        ∙ h.nowhere c there.code_below) in
-        sym (h.versions n low other);
-  }
-
 -- What is dirty stays so through the steps.
 pub StaysDirty-refl : (l : LogState) → StaysDirty l l
 StaysDirty-refl l = record { segments = refl; dirty = λ s low dirty. dirty }
@@ -80,22 +49,10 @@ StaysDirty-trans a b c p q = record {
   dirty = λ s low dirty. q.dirty s (subst (λ n. s < n) (sym p.segments) low) (p.dirty s low dirty);
 }
 
-pub StaysDirty-same : (old new : LogState) → new.segments ≡ old.segments → SameUse old new → StaysDirty old new
-StaysDirty-same old new segments used = record { segments = segments; dirty = λ s low dirty. used.states s low ∙ dirty }
-
 pub StaysDirty-opened : (old new : LogState) (spare segment : ℕ) → IsLog old spare → Opens old new segment
     → StaysDirty old new
 StaysDirty-opened old new spare segment log h =
     record { segments = h.keys.segments; dirty = opened_dirty old new spare segment log h }
-
--- A key that takes a place of the log takes none in a segment that was dirty when the call began.
-pub taken_outside : (entry l : LogState) (spare number code place : ℕ) → IsLog l spare → StaysDirty entry l
-    → MayTake l spare number code place
-    → DirtyIn entry (seg_of place) → ⊥
-taken_outside entry l spare number code place log stays may dirty =
-    let inside : seg_of place < entry.segments =
-    subst (λ s. s < entry.segments) (sym may.here) (subst (λ n. l.active < n) stays.segments log.segments.inside) in
-    dirty_not_active (sym (stays.dirty (seg_of place) inside dirty) ∙ ap l.state may.here ∙ log.segments.is_active)
 
 -- The present address of a key of the present version, and of any other.
 pub present_address-key : (l : LogState) (number code : ℕ) → number < l.numbers → code < BLOCK_CODES

@@ -2,7 +2,7 @@
 use Rattle.std.proofs.Common.{◌≡◌, ℕ, zero, suc, ◌+◌, ◌-◌, ◌*◌, ◌/◌, ◌%◌, ◌<◌, ◌≤◌, max, min, inl, inr, List, [], ◌∷◌}
 use Rattle.std.proofs.Common.{◌++◌, length, take, drop, replicate, get_or, refl, sym, ap, ◌∙◌, arith}
 use Rattle.std.specs.Prelude.{if◌then◌else◌, ◌==◌, nat_lt}
-use Rattle.std.proofs.lemmas.Bool.{cases_lt, cases_eq, cond-true, cond-false, eq-eqb, ne_eqb, lt-ltb, le-ltb, le-leb}
+use Rattle.std.proofs.lemmas.Bool.{cases_lt, cond-true, cond-false, eq-eqb, ne_eqb, lt-ltb, le-ltb, le-leb}
 use Rattle.std.proofs.lemmas.Bool.{lt-leb, and_from, and_left, and_right}
 use Rattle.std.proofs.lemmas.List.{length-append, length-take, length-drop, length-replicate, get_or-take, get_or-drop}
 use Rattle.std.proofs.lemmas.List.{get_or-replicate, get_or_append_left, get_or-append_right, get_or_past, ext_get_or}
@@ -128,18 +128,6 @@ padded-at blocks size padded i =
           let size_is = file_bytes-length blocks padded.whole size in
           get_or_past (file_bytes blocks size) i 0 (omega arith) ∙ sym (padded.zeros i past)
     ]
-
--- Zeros behind the bytes of a file: in its last block, and in all blocks past it.
-pub padded_from : (blocks : ℕ → List ℕ) (size : ℕ) → ((n : ℕ) → length (blocks n) ≡ 512)
-    → ((k : ℕ) → k < 512 → size % 512 ≤ k → get_or (blocks (size / 512)) k 0 ≡ 0)
-    → ((n k : ℕ) → size / 512 < n → k < 512 → get_or (blocks n) k 0 ≡ 0) → IsPadded blocks size
-padded_from blocks size whole last past = record {
-  whole = whole;
-  zeros = λ i behind. elim (cases_eq (i / 512) (size / 512)) [
-    | inl e ↦ ap (λ n. get_or (blocks n) (i % 512) 0) e ∙ last (i % 512) (omega arith) (omega arith)
-    | inr ne ↦ past (i / 512) (i % 512) (omega arith) (omega arith)
-  ];
-}
 
 pub zero_block-at : (k : ℕ) → get_or zero_block k 0 ≡ 0
 unfolding zero_block

@@ -125,11 +125,6 @@ kept_blocks old new root waits blocks =
     same_readings old new root (λ way known. via-same old new way (address old way) (waits way known) (blocks way known)
     ∙ sym (read-via old way))
 
--- as where a block is written at an address that no known block has
-pub appended_unread : (old new : Tree) (a : ℕ) → StoresBlock old new a → IsUnread old a → SameReadings old new
-appended_unread old new a h unread =
-    kept_blocks old new h.root h.waits (λ way known some. h.blocks (address old way) (unread way known))
-
 -- or where the bytes wait that a block has
 pub staged_same : (old new : Tree) (way : List ℕ) → IsBlockWay way → Stages old new way (read old way)
     → SameReadings old new

@@ -1,14 +1,14 @@
 -- Opening and cleaning a segment keep what holds of the log.
-use Rattle.std.proofs.Common.{◌≡◌, ◌≢◌, ℕ, zero, suc, ◌+◌, ◌-◌, ◌*◌, ◌<◌, ◌≤◌, ◌⊎◌, inl, inr, Some, refl, sym, ap, ◌∙◌}
+use Rattle.std.proofs.Common.{◌≡◌, ◌≢◌, ℕ, zero, suc, ◌+◌, ◌-◌, ◌*◌, ◌<◌, ◌≤◌, inl, inr, Some, refl, sym, ap, ◌∙◌}
 use Rattle.std.proofs.Common.{subst, arith}
 use Rattle.std.proofs.lemmas.Bool.{cases_eq}
 use Rattle.lfs_ifile.specs.declared.segment.SegState.{SegState}
 use Rattle.lfs_ifile.specs.declared.segment.SegState.TheVariants.{Clean, Dirty, Active}
 use Rattle.lfs_bmap.specs.declared.blocks.TheConstants.{BLOCK_CODES}
-use Rattle.lfs_bmap.specs.Counting.{seg_of, units, total, weight_of}
+use Rattle.lfs_bmap.specs.Counting.{seg_of, units, total}
 use Rattle.lfs_bmap.specs.Log.{LogState, IsPlaced, IsPlace, clean_unit, AreSegments, IsLog, Opens, Cleans, IsEmptyLog}
-use Rattle.lfs_bmap.proofs.CountingLemmas.{total-changed, total-part, total-zero, weight-none, weight-here}
-use Rattle.lfs_bmap.proofs.CountingLemmas.{weight-elsewhere, live-none, live-part, live-empty}
+use Rattle.lfs_bmap.proofs.CountingLemmas.{total-changed, total-zero, weight-here}
+use Rattle.lfs_bmap.proofs.CountingLemmas.{live-none, live-part, live-empty}
 use Rattle.lfs_bmap.proofs.LogLemmas.{had_place, place_kept, owner_kept, counted_kept, active_not_clean}
 use Rattle.lfs_bmap.proofs.LogLemmas.{dirty_not_clean, dirty_not_active, seg_below, MayTake}
 
@@ -228,17 +228,6 @@ pub no_clean_total : (state : ℕ → SegState) (n : ℕ) → ((s : ℕ) → s <
     → total (λ s. clean_unit (state s)) n ≡ 0
 no_clean_total state n h = total-zero (λ s. clean_unit (state s)) n (λ s low. unit_of (state s) (h s low))
 
-pub none_clean : (l : LogState) → AreSegments l → ((s : ℕ) → s < l.segments → l.state s ≢ Clean) → l.clean ≡ 0
-none_clean l h none = h.clean_count ∙ no_clean_total l.state l.segments none
-
-pub some_clean : (l : LogState) → AreSegments l → (s : ℕ) → s < l.segments → l.state s ≡ Clean → 0 < l.clean
-some_clean l h s low clean =
-    let part : clean_unit (l.state s) ≤ total (λ r. clean_unit (l.state r)) l.segments =
-    total-part (λ r. clean_unit (l.state r)) l.segments s low in
-    let one : clean_unit (l.state s) ≡ 1 = ap clean_unit clean in
-    let count = h.clean_count in
-    omega arith
-
 -- The live bytes of a segment have room for what a key takes, and have what a key gives back.
 pub taken_fits : (l : LogState) (spare number code place : ℕ) → IsLog l spare → MayTake l spare number code place
     → l.live l.active + 128 * units code ≤ 32768
@@ -257,42 +246,3 @@ left_fits l spare number code log there =
     let weight = weight-here (l.at number code) (seg_of (l.at number code)) code there.somewhere refl in
     let counted = log.counted (seg_of (l.at number code)) inside in
     omega arith
-
--- Live bytes added to the active segment and then taken from the old one, if there is one, are moved as a changed
--- place moves them.
-pub live_moved : (old between new : ℕ → ℕ) (was place code : ℕ) → place ≢ 0
-    → between (seg_of place) ≡ old (seg_of place) + 128 * units code → ((s : ℕ) → s ≢ seg_of place → between s ≡ old s)
-    → (was ≢ 0 → 128 * units code ≤ between (seg_of was))
-    → (was ≢ 0 → new (seg_of was) ≡ between (seg_of was) - 128 * units code)
-    → ((s : ℕ) → (was ≡ 0) ⊎ (s ≢ seg_of was) → new s ≡ between s)
-    → (s : ℕ) → new s + weight_of was s code ≡ old s + weight_of place s code
-live_moved old between new was place code some added kept enough taken stayed s =
-    let gained : between s ≡ old s + weight_of place s code =
-    elim (cases_eq s (seg_of place)) [
-      | inl e ↦
-          ap between e ∙ added ∙ ap (λ t. old t + 128 * units code) (sym e)
-          ∙ ap (λ w. old s + w) (sym (weight-here place s code some (sym e)))
-      | inr ne ↦
-          let none : weight_of place s code ≡ 0 = weight-elsewhere place s code (λ e. ne (sym e)) in
-          let stays : between s ≡ old s = kept s ne in
-          omega arith
-    ] in
-    elim (cases_eq was 0) [
-      | inl nowhere ↦
-          let none : weight_of was s code ≡ 0 = ap (λ p. weight_of p s code) nowhere ∙ weight-none s code in
-          let stays : new s ≡ between s = stayed s (inl nowhere) in
-          omega arith
-      | inr somewhere ↦ elim (cases_eq s (seg_of was)) [
-        | inl e ↦
-            let full : weight_of was s code ≡ 128 * units code = weight-here was s code somewhere (sym e) in
-            let many : 128 * units code ≤ between s =
-            subst (λ t. 128 * units code ≤ between t) (sym e) (enough somewhere) in
-            let less : new s ≡ between s - 128 * units code = ap new e ∙ taken somewhere
-            ∙ ap (λ t. between t - 128 * units code) (sym e) in
-            omega arith
-        | inr ne ↦
-            let none : weight_of was s code ≡ 0 = weight-elsewhere was s code (λ e. ne (sym e)) in
-            let stays : new s ≡ between s = stayed s (inr ne) in
-            omega arith
-      ]
-    ]

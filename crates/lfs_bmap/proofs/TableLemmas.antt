@@ -1,9 +1,8 @@
 -- The blocks that hold addresses, by their codes: the later a data block, the greater the code of what holds its
 -- address.
 use Rattle.std.proofs.Common.{Contains, List, [], ap, arith, inl, inr, length, refl, subst, suc, sym, zero, ℕ, ◌+◌, ◌-◌}
-use Rattle.std.proofs.Common.{◌*◌, ◌/◌, ◌%◌, ◌<◌, ◌∙◌, ◌∷◌, ◌≡◌, ◌≢◌, ◌≤◌, ◌⊎◌, ◌↔◌}
+use Rattle.std.proofs.Common.{◌*◌, ◌/◌, ◌%◌, ◌<◌, ◌∙◌, ◌∷◌, ◌≡◌, ◌≢◌, ◌≤◌, ◌⊎◌}
 use Rattle.std.proofs.lemmas.Bool.{cases_lt, cond-false, cond-true, le-leb, lt-leb}
-use Rattle.lfs_types.specs.declared.limits.TheConstants.{FILE_BLOCKS}
 use Rattle.lfs_bmap.specs.declared.blocks.FileBlock.{FileBlock}
 use Rattle.lfs_bmap.specs.declared.blocks.FileBlock.TheVariants.{Record, Single, Double, Child, Data}
 use Rattle.lfs_bmap.specs.declared.blocks.TheConstants.{BLOCK_CODES, FIRST_DATA_CODE}
@@ -311,51 +310,3 @@ tables_between-few first last less near =
     (λ far. omega arith))
     (λ far. data_table (λ x. code_of x - (3 + (first - 140) / 128) + 2 ≤ 3) last (λ direct. omega arith)
     (λ from to. omega arith) (λ more. omega arith))
-
--- ---- the data blocks whose addresses stand in a block
-pub run_record : (k : ℕ) → (table_of (Data k) ≡ Record) ↔ ((0 ≤ k) × (k < 12))
-run_record k =
-    data_table (λ t. (t ≡ Record) ↔ ((0 ≤ k) × (k < 12))) k
-    (λ low. ((λ e. (omega arith, low)), (λ h. refl)))
-    (λ past low. (
-      (λ e. let codes = ap code_of e in absurd (omega arith)),
-      (λ h. let end = h.1 in absurd (omega arith)),
-    ))
-    (λ far. ((λ e. let codes = ap code_of e in absurd (omega arith)), (λ h. let end = h.1 in absurd (omega arith))))
-
-pub run_single : (k : ℕ) → (table_of (Data k) ≡ Single) ↔ ((12 ≤ k) × (k < 140))
-run_single k =
-    data_table (λ t. (t ≡ Single) ↔ ((12 ≤ k) × (k < 140))) k
-    (λ low. ((λ e. let codes = ap code_of e in absurd (omega arith)), (λ h. let from = h.0 in absurd (omega arith))))
-    (λ past low. ((λ e. (past, low)), (λ h. refl)))
-    (λ far. ((λ e. let codes = ap code_of e in absurd (omega arith)), (λ h. let end = h.1 in absurd (omega arith))))
-
-pub run_child : (j k : ℕ) → (table_of (Data k) ≡ Child j) ↔ ((140 + 128 * j ≤ k) × (k < 140 + 128 * j + 128))
-run_child j k =
-    data_table (λ t. (t ≡ Child j) ↔ ((140 + 128 * j ≤ k) × (k < 140 + 128 * j + 128))) k
-    (λ low. ((λ e. let codes = ap code_of e in absurd (omega arith)), (λ h. let from = h.0 in absurd (omega arith))))
-    (λ past low. (
-      (λ e. let codes = ap code_of e in absurd (omega arith)),
-      (λ h. let from = h.0 in absurd (omega arith)),
-    ))
-    (λ far. (
-      (λ e. let codes = ap code_of e in (omega arith, omega arith)),
-      (λ h. let from = h.0 in let end = h.1 in let same : (k - 140) / 128 ≡ j = omega arith in ap Child same),
-    ))
-
--- none in another one
-pub run_double : (k : ℕ) → (table_of (Data k) ≡ Double) ↔ ((140 ≤ k) × (k < 140))
-run_double k = (
-  (λ e. absurd (data_table (λ t. t ≡ Double → ⊥) k
-      (λ low d. let codes = ap code_of d in omega arith)
-      (λ past low d. let codes = ap code_of d in omega arith)
-      (λ far d. let codes = ap code_of d in omega arith) e)),
-  (λ h. let from = h.0 in let end = h.1 in absurd (omega arith)),
-)
-
-pub run_data : (j k : ℕ) → k < FILE_BLOCKS → (table_of (Data k) ≡ Data j) ↔ ((j ≤ k) × (k < j))
-run_data j k low = (
-  (λ e. let codes = ap code_of e in absurd (data_table (λ t. code_of t ≡ 131 + j → ⊥) k
-      (λ direct d. omega arith) (λ past few d. omega arith) (λ far d. omega arith) codes)),
-  (λ h. let from = h.0 in let end = h.1 in absurd (omega arith)),
-)

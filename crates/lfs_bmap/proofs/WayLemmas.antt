@@ -171,11 +171,6 @@ code_at-way_of =
 pub same_code : (c d : ℕ) → way_of c ≡ way_of d → c ≡ d
 same_code c d e = sym (code_at-way_of c) ∙ ap code_at e ∙ code_at-way_of d
 
--- a code whose way leads somewhere is not the record's
-pub way_of-some : (code i : ℕ) (up : List ℕ) → way_of code ≡ i ∷ up → code ≢ 0
-way_of-some code i up e zero_ = let none : way_of 0 ≡ i
-    ∷ up = subst (λ c. way_of c ≡ i ∷ up) zero_ e in nothing i up (sym way_of-zero ∙ none)
-
 -- the way of a data block is a way
 data_way-way : (n : ℕ) → n < 16524 → IsWay (data_way n)
 data_way-way n h =
