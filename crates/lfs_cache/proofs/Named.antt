@@ -2,8 +2,8 @@
 use Rattle.std.proofs.Common.{◌≡◌, ◌≢◌, ℕ, ◌+◌, ◌-◌, ◌*◌, ◌<◌, ◌≤◌, List, length, Option, Some, None, refl, sym, ap}
 use Rattle.std.proofs.Common.{subst, ◌∙◌, inl, inr, arith}
 use Rattle.std.proofs.Math.ListN.{set, length-set}
-use Rattle.std.proofs.lemmas.List.{get_or-set_same, get_or-set_other, get_or_past}
-use Rattle.std.proofs.lemmas.Bool.{cases_lt, cases_eq}
+use Rattle.std.proofs.lemmas.List.{get_or-set_same, get_or-set_other}
+use Rattle.std.proofs.lemmas.Bool.{cases_eq}
 use Rattle.lfs_cache.specs.declared.key.Key.{Key}
 use Rattle.lfs_cache.specs.Keys.{start_of}
 use Rattle.lfs_cache.specs.Index.{key_at, frame_at, IsFree, IsReached, IsIndex, count_taken}
@@ -64,22 +64,6 @@ named_more keys ps taken i s at k below is starts from free h = record {
         | inr other ↦ entered_old ps i s at from free f (start_of k' (4 * length keys)) (h.found f k' (omega arith) is')
       ];
   counted = let e = entered_count ps i s at from free in let r = h.counted in omega arith;
-  room = let r = h.room in omega arith;
-}
-
-pub named_all : (keys : List (Option Key)) (ps : List (Option ℕ)) (taken : ℕ) → 0 < length keys → length keys ≤ 1024
-    → AreIndexed keys ps taken (length keys) → IsIndex keys ps taken
-named_all keys ps taken some bounded h = record {
-  some = some;
-  bounded = bounded;
-  sized = h.sized;
-  inside = h.inside;
-  found = λ f k is. elim (cases_lt f (length keys)) as
-      (λ _. IsReached ps (start_of k (4 * length keys)) f) [
-        | inl low ↦ h.found f k low is
-        | inr high ↦ absurd (none_not (key_at keys f) k (get_or_past keys f None high) is)
-      ];
-  counted = h.counted;
   room = let r = h.room in omega arith;
 }
 
