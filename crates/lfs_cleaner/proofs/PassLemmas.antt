@@ -1,6 +1,6 @@
 -- The infos whose address is unchanged, pair by pair, and how many calls a pass may still make.
-use Rattle.std.proofs.Common.{◌≡◌, ◌==◌, ℕ, ◌≤◌, ◌⊎◌, Bool, true, false, List, [], ◌∷◌, ◌++◌, length, append_assoc, sym}
-use Rattle.std.proofs.Common.{ap, subst, ◌∙◌, inl, inr, if◌then◌else◌, arith}
+use Rattle.std.proofs.Common.{◌≡◌, ℕ, ◌≤◌, ◌⊎◌, List, [], ◌∷◌, ◌++◌, length, sym}
+use Rattle.std.proofs.Common.{subst, ◌∙◌, inl, inr, arith}
 use Rattle.std.proofs.lemmas.List.{append-nil}
 use Rattle.lfs_types.specs.declared.cleaner.BlockInfo.{BlockInfo}
 use Rattle.lfs_types.specs.declared.cleaner.CleanerCall.{CleanerCall}
@@ -14,25 +14,6 @@ unchanged_ended left [] present all none is = sym (append-nil left) ∙ is
 unchanged_ended left (x ∷ asked) [] all none is = sym (append-nil left) ∙ is
 unchanged_ended left (x ∷ asked) (y ∷ present) all (inl none) is = absurd (cc)
 unchanged_ended left (x ∷ asked) (y ∷ present) all (inr none) is = absurd (cc)
-
--- one pair more, whose address is unchanged
-pub unchanged_same : (left asked present more others all : List BlockInfo) (x y : BlockInfo) → asked ≡ x ∷ more
-    → present ≡ y ∷ others → (x.addr == y.addr) ≡ true → left ++ unchanged asked present ≡ all → (left ++ x ∷ [])
-    ++ unchanged more others ≡ all
-unchanged_same left asked present more others all x y a b same is =
-    append_assoc left (x ∷ []) (unchanged more others)
-    ∙ sym (ap (λ (l : List BlockInfo). left ++ l) (ap (λ (l : List BlockInfo). unchanged l present) a
-    ∙ ap (λ (l : List BlockInfo). unchanged (x ∷ more) l) b
-    ∙ ap (λ (t : Bool). if t then x ∷ unchanged more others else unchanged more others) same)) ∙ is
-
--- one pair more, whose address is another
-pub unchanged_other : (left asked present more others all : List BlockInfo) (x y : BlockInfo) → asked ≡ x ∷ more
-    → present ≡ y ∷ others → (x.addr == y.addr) ≡ false → left ++ unchanged asked present ≡ all → left
-    ++ unchanged more others ≡ all
-unchanged_other left asked present more others all x y a b other is =
-    sym (ap (λ (l : List BlockInfo). left ++ l) (ap (λ (l : List BlockInfo). unchanged l present) a
-    ∙ ap (λ (l : List BlockInfo). unchanged (x ∷ more) l) b
-    ∙ ap (λ (t : Bool). if t then x ∷ unchanged more others else unchanged more others) other)) ∙ is
 
 -- the calls of a pass are no more than are left to it
 pub no_more_calls : (calls : List CleanerCall) (pass : Pass) → MayCall pass calls → length calls ≤ calls_left pass
