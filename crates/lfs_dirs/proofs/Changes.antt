@@ -304,21 +304,6 @@ pub used_of-without_le : (name : List ℕ) (es : List Entry) → used_of (withou
 unfolding without
 used_of-without_le name es = used_of-filter (λ (e : Entry). not (has_name name e)) es
 
--- the room of the entry that is taken away comes back
-pub used_of-without : (name : List ℕ) (number : ℕ) (es : List Entry) → AreEntries es → number_in name es ≡ Some number
-    → used_of (without name es) + 5 + length name ≡ used_of es
-used_of-without name number [] a h = let none = number_in-nil name in absurd (cc)
-used_of-without name number (e ∷ es) a h =
-    ⊎_elim
-    (λ t.
-    let same = has_name-true name e t in
-    let left = without-here name e es t ∙ without-absent name es (subst (λ n. number_in n es ≡ None) same a.1) in
-    omega (arith, ap used_of left, ap length same))
-    (λ t.
-    let rest = used_of-without name number es a.2 (sym (number_in-later name e es t) ∙ h) in
-    omega (arith, ap used_of (without-later name e es t), rest))
-    (cases_Bool (has_name name e))
-
 -- where an entry with a name of at most 255 bytes doesn't fit, there is one already
 pub entries-where_full : (es : List Entry) (length_of_name : ℕ) → length_of_name ≤ 255 → 512 < used_of es + 5
     + length_of_name → 0 < length es

@@ -5,7 +5,7 @@ use Rattle.std.specs.Prelude.{All, is_some}
 use Rattle.std.proofs.lemmas.List.{append_cancel_left, ext_get_or, length-replicate, get_or-replicate}
 use Rattle.std.proofs.lemmas.List.Elements.{All-replicate, All-same}
 use Rattle.lfs_types.specs.Naming.{name_fault}
-use Rattle.lfs_dirs.specs.Directory.{Entry, entry_bytes, number_in, IsEntry, AreEntries, Spells, IsDirectoryBlock}
+use Rattle.lfs_dirs.specs.Directory.{Entry, entry_bytes, number_in, IsEntry, AreEntries, Spells}
 use Rattle.lfs_dirs.specs.Reading.{StandsFirst, entries_of}
 
 -- the bytes are the entries that are read from them, and zeros
@@ -51,13 +51,6 @@ zeros_at_end bytes none lists =
     let P : List Entry → Type 0 = λ es. Spells bytes es in
     let zeros : bytes ≡ replicate (length bytes) 0 = subst P none lists.spelled in
     All-same (λ b. b ≡ 0) bytes (replicate (length bytes) 0) zeros (All-replicate (λ b. b ≡ 0) (length bytes) 0 refl)
-
--- a block of 512 bytes
-pub block_from_lists : (bytes : List ℕ) → length bytes ≡ 512 → Lists bytes → IsDirectoryBlock bytes (entries_of bytes)
-block_from_lists bytes size lists = record { size = size; entries = lists.entries; spelled = lists.spelled }
-
-pub lists_from_block : (bytes : List ℕ) → IsDirectoryBlock bytes (entries_of bytes) → Lists bytes
-lists_from_block bytes h = record { entries = h.entries; spelled = h.spelled }
 
 pub none_from_is_some : {X : Type 0} (o : Option X) → false ≡ is_some o → o ≡ None
 none_from_is_some None h = refl
