@@ -86,9 +86,6 @@ asked_last false denial checks met = refl
 abbrev pub AsksOn : List Check → ℕ → Type 0
 AsksOn checks at = (n : ℕ) → take n (drop at checks) ≡ asked (drop at checks) → take (at + n) checks ≡ asked checks
 
-pub asks_first : (checks : List Check) → AsksOn checks 0
-asks_first checks n so = let same : 0 + n ≡ n = omega arith in ap (λ k. take k checks) same ∙ so
-
 pub asks_next : (checks : List Check) (at : ℕ) (check : Check) → at < length checks → check ≡ get_or checks at check
     → check.met ≡ true → AsksOn checks at → AsksOn checks (at + 1)
 asks_next checks at check long is met on n so =

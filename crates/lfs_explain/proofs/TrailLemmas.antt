@@ -32,10 +32,6 @@ module _ (rows : Rows) where
   trail_goes at [] = refl
   trail_goes at (name ∷ names) = refl
 
-  pub trail_long : (at : ℕ) (names : List (List ℕ)) → 0 < length (rows_along rows at names)
-  trail_long at [] = omega arith
-  trail_long at (name ∷ names) = omega arith
-
   -- a child is there
   pub child_there : (at : ℕ) (name : List ℕ) (n : ℕ) → child rows at name ≡ Some n → There (fin.get rows n)
   child_there at name n e = let is = child-is rows at name n e in record { value = is.row; is = is.there }
@@ -146,11 +142,6 @@ module _ (rows : Rows) where
       used_on (child rows at name) names j row (child_there at name) (λ n here. each_used names n j row here) is
 
   -- ---- a step of a trail
-
-  -- one that ends, as the name isn't there
-  pub trail_ends : (at : ℕ) (name : List ℕ) (names : List (List ℕ)) → child rows at name ≡ None
-      → rows_along rows at (name ∷ names) ≡ shown_row rows at ∷ []
-  trail_ends at name names none = ap (λ o. shown_row rows at ∷ onward o (λ n. rows_along rows n names)) none
 
   -- one that goes on
   pub trail_on : (at : ℕ) (name : List ℕ) (names : List (List ℕ)) (n : ℕ) → child rows at name ≡ Some n
