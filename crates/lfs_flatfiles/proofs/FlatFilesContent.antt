@@ -1,6 +1,6 @@
 -- The files at places, as a finite map.
 use Rattle.std.proofs.Common.{◌≡◌, ◌≢◌, ℕ, zero, suc, ◌+◌, ◌<◌, ◌≤◌, List, [], ◌∷◌, ◌++◌, length, set, get_or, Option}
-use Rattle.std.proofs.Common.{None, Some, option_map, is_some, IsSome, IsFalse, All, refl, sym, ap, ◌∙◌, inl, inr}
+use Rattle.std.proofs.Common.{None, Some, option_map, is_some, IsSome, IsFalse, refl, sym, ap, ◌∙◌, inl, inr}
 use Rattle.std.proofs.Common.{arith}
 use Rattle.std.specs.Ordering.{nat_cmp}
 use Rattle.std.specs.Cmp.{nat_cmp_total}
@@ -12,10 +12,8 @@ use Rattle.lfs_types.specs.Tree.{File, file_of}
 use Rattle.lfs_types.specs.Stored.{bytes_of_file}
 use Rattle.lfs_types.specs.declared.attrs.Attrs.{Attrs}
 use Rattle.lfs_types.specs.Changes.{changed_at}
-use Rattle.lfs_types.specs.declared.store.Change.{Change}
-use Rattle.lfs_types.specs.declared.store.Change.TheVariants.{Make, Remove, SetAttrs, Put, SetLength}
 use Rattle.lfs_flatfiles.specs.declared.flat_files.place.Place.{Place}
-use Rattle.lfs_flatfiles.specs.FlatFiles.{file_at, file_in, room_in, content_from, content_of, HasRoom, KeepsRoom}
+use Rattle.lfs_flatfiles.specs.FlatFiles.{file_at, file_in, room_in, content_from, content_of, KeepsRoom}
 use Rattle.lfs_types.proofs.Maps.{get-insert_same, get-insert_other, get-remove_same, get-remove_other}
 use Rattle.lfs_types.proofs.Contents.{get-content_with, get-content_with_apart}
 
@@ -171,19 +169,6 @@ grows_at ps k p q h is more j =
       | inl e ↦ rw e (rw (room_in-set_same ps k q h, room_in_read ps k p h is) more)
       | inr apart ↦ rw (room_in-set_other ps k j q apart) (omega arith)
     ]
-
--- where there was room for a change, there is still
-pub room_kept : (old new : List Place) (change : Change) → KeepsRoom old new → HasRoom old change → HasRoom new change
-room_kept old new (Make ino attrs) grows room = tt
-room_kept old new (Remove ino) grows room = tt
-room_kept old new (SetAttrs ino attrs) grows room = tt
-room_kept old new (Put ino off bytes) grows room = omega (arith, grows ino, room)
-room_kept old new (SetLength ino len) grows room = omega (arith, grows ino, room)
-
--- and for each of some changes
-pub rooms_kept : (old new : List Place) (changes : List Change) → KeepsRoom old new → All (HasRoom old) changes
-    → All (HasRoom new) changes
-rooms_kept old new changes grows rooms k d h = room_kept old new (get_or changes k d) grows (rooms k d h)
 
 bytes_of_used : (attrs : Option Attrs) (bytes : List ℕ) → IsSome (option_map (λ a. file_of a bytes) attrs)
     → bytes_of_file (option_map (λ a. file_of a bytes) attrs) ≡ bytes
