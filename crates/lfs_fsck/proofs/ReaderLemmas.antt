@@ -25,11 +25,6 @@ going : (entries : List SummaryEntry) (next count : ℕ) (ended : Bool) → ende
 going entries next count true off = absurd (let bad : true ≡ false = off in cc)
 going entries next count false off = refl
 
-pub is_over : (entries : List SummaryEntry) (next count : ℕ) (ended : Bool) (now : Option (List SummaryEntry))
-    → held entries next count ended ≡ now → ended ≡ true → None ≡ now
-is_over entries next count true now is on = is
-is_over entries next count false now is on = absurd (let bad : false ≡ true = on in cc)
-
 -- a block that an entry names is passed
 pub named_next : (entries : List SummaryEntry) (next count : ℕ) (ended : Bool) (now : Option (List SummaryEntry))
     → held entries next count ended ≡ now → ended ≡ false → next < count → count ≤ length entries
@@ -45,15 +40,6 @@ pub passed_named : (entries : List SummaryEntry) (next count : ℕ) (ended : Boo
 passed_named entries next count ended block now is off below fits =
     going entries (next + 1) count ended off
     ∙ ap (λ (o : Option (List SummaryEntry)). option_and_then (λ es. after_block es block) o)
-    (named_next entries next count ended now is off below fits)
-
-pub first_named : (entries : List SummaryEntry) (next count : ℕ) (ended : Bool) (now : Option (List SummaryEntry))
-    (entry : SummaryEntry)
-    → held entries next count ended ≡ now → ended ≡ false → next < count → count ≤ length entries → entry
-    ≡ get_or entries next unused
-    → Some entry ≡ first_name now
-first_named entries next count ended now entry is off below fits here =
-    ap (λ (e : SummaryEntry). Some e) here ∙ ap (λ (o : Option (List SummaryEntry)). first_name o)
     (named_next entries next count ended now is off below fits)
 
 -- behind the last one a summary is read
@@ -79,17 +65,9 @@ passed_summary entries next count ended block now s is off past read =
     ∙ ap (λ (o : Option (List SummaryEntry)). option_and_then (λ es. after_block es block) o)
     (nothing entries next count ended now is off past)
 
-pub passed_end : (block : List ℕ) (now : Option (List SummaryEntry)) → Some [] ≡ now → None ≡ summary_entries block
-    → None ≡ option_and_then (λ es. after_block es block) now
-passed_end block now is none = none ∙ ap
-    (λ (o : Option (List SummaryEntry)). option_and_then (λ es. after_block es block) o) is
-
 -- at a summary, and behind the end, nothing is named
 pub first_none : (now : Option (List SummaryEntry)) → Some [] ≡ now → None ≡ first_name now
 first_none now is = ap (λ (o : Option (List SummaryEntry)). first_name o) is
-
-pub first_over : (now : Option (List SummaryEntry)) → None ≡ now → None ≡ first_name now
-first_over now is = ap (λ (o : Option (List SummaryEntry)). first_name o) is
 
 -- the reader of a segment expects what the log expects at the next address
 pub read_on : (m : SegmentMemory) (segment address : ℕ) (old new : Option (List SummaryEntry)) (block : List ℕ)

@@ -1,5 +1,5 @@
 -- Sums that grow by one.
-use Rattle.std.proofs.Common.{◌≡◌, ℕ, zero, suc, ◌+◌, ◌*◌, ◌<◌, ◌≤◌, add-one, inl, inr, refl, ap, ◌∙◌, arith}
+use Rattle.std.proofs.Common.{◌≡◌, ℕ, zero, suc, ◌+◌, ◌*◌, ◌≤◌, add-one, inl, inr, refl, ap, ◌∙◌, arith}
 use Rattle.std.proofs.lemmas.Bool.{cases_eq, cond-true, cond-false, eq-eqb, ne_eqb}
 use Rattle.lfs_bmap.specs.Counting.{live_bytes, seg_of, total, units, weight_of}
 use Rattle.lfs_bmap.proofs.CountingLemmas.{weight-none, weight-here, weight-elsewhere}
@@ -54,13 +54,3 @@ unfolding live_bytes
 live-most numbers codes at segment =
     total-most (λ n. total (λ c. weight_of (at n c) segment c) codes) (512 * codes) numbers
     (λ n. total-most (λ c. weight_of (at n c) segment c) 512 codes (λ c. weight-most (at n c) segment c))
-
--- so many numbers more that add nothing
-pub total-none : (f : ℕ → ℕ) (n k : ℕ) → ((j : ℕ) → j < k → f (n + j) ≡ 0) → total f (n + k) ≡ total f n
-total-none f n zero h = ap (total f) (let e : n + 0 ≡ n = omega arith in e)
-total-none f n (suc k) h =
-    let one : n + suc k ≡ n + k + 1 = omega arith in
-    let rest = total-none f n k (λ j low. h j (omega arith)) in
-    let last = h k (omega arith) in
-    let more = total-more f (n + k) in
-    ap (total f) one ∙ omega arith
