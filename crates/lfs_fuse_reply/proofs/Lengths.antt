@@ -10,7 +10,7 @@ use Rattle.lfs_fuse_reply.specs.declared.reply.InitReply.{InitReply}
 use Rattle.lfs_fuse_reply.specs.declared.reply.Opened.{Opened}
 use Rattle.lfs_fuse_reply.specs.declared.reply.Reply.{Reply}
 use Rattle.lfs_fuse_reply.specs.declared.reply.Statfs.{Statfs}
-use Rattle.lfs_fuse_reply.specs.Attrs.{attr_bytes, entry_bytes}
+use Rattle.lfs_fuse_reply.specs.Attrs.{entry_bytes}
 use Rattle.lfs_fuse_reply.specs.Listings.{dirent_bytes, looked_up_bytes, missing}
 use Rattle.lfs_fuse_reply.specs.Numbers.{half, long, word, words}
 use Rattle.lfs_fuse_reply.specs.Replies.{attr_body, body_of, create_body, init_body, open_body, reply_bytes}
@@ -27,9 +27,6 @@ length-word n = length-bytes_low_first 0 4 n
 length-long : (n : ℕ) → length (long n) ≡ 8
 unfolding long
 length-long n = length-bytes_low_first 0 8 n
-
-pub length-attr : (a : Attr) → length (attr_bytes a) ≡ 88
-length-attr a = simp (length-append, length-long, length-word)
 
 pub length-entry : (e : Entry) → length (entry_bytes e) ≡ 128
 length-entry e = simp (length-append, length-long, length-word)
