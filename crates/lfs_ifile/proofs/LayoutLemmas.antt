@@ -1,6 +1,6 @@
 -- Lemmas about the bytes of an ifile: how long its parts are, and what is read back from it.
 use Rattle.std.proofs.Common.{◌≡◌, ℕ, ◌+◌, ◌*◌, ◌^◌, ◌<◌, ◌≤◌, List, [], ◌∷◌, ◌++◌, length, get_or, take, drop, refl}
-use Rattle.std.proofs.Common.{sym, ap, ◌∙◌, arith, append_assoc, length-append, ap₂, Option, None, Some, IfSome, IfNone}
+use Rattle.std.proofs.Common.{sym, ap, ◌∙◌, arith, append_assoc, length-append}
 use Rattle.std.specs.List.{flat_map, zip}
 use Rattle.std.proofs.lemmas.List.{length-take-le, take_all, take_more, drop_more, get_or-append-add, flat_map_more}
 use Rattle.std.proofs.lemmas.List.{take-append-drop}
@@ -10,7 +10,6 @@ use Rattle.std.proofs.lemmas.Slice.Zip.{length-zip, get_or-zip}
 use Rattle.lfs_ifile.specs.declared.reading.TheConstants.{MAGIC}
 use Rattle.lfs_ifile.specs.declared.segment.SegState.{SegState}
 use Rattle.lfs_ifile.specs.declared.segment.SegState.TheVariants.{Clean, Dirty, Active}
-use Rattle.lfs_ifile.specs.declared.segment.SegUse.{SegUse}
 use Rattle.lfs_ifile.specs.declared.inode.InodeRow.{InodeRow}
 use Rattle.lfs_ifile.specs.Segment.{state_number}
 use Rattle.lfs_ifile.specs.Tables.{Tables, IsIfile, usage_of}
@@ -200,19 +199,3 @@ same_state Dirty Active e = absurd (omega arith)
 same_state Active Clean e = absurd (omega arith)
 same_state Active Dirty e = absurd (omega arith)
 same_state Active Active e = refl
-
--- bytes say one thing of a segment
-pub ReadsUse-same : (bytes : List ℕ) (seg : ℕ) (u v : SegUse) → ReadsUse bytes seg u → ReadsUse bytes seg v → u ≡ v
-ReadsUse-same bytes seg u v is also =
-    let live : u.live ≡ v.live = is.live ∙ sym also.live in
-    let state : u.state ≡ v.state = same_state u.state v.state (is.state ∙ sym also.state) in
-    ap₂ (λ (n : ℕ) (s : SegState). let w : SegUse = record { live = n; state = s } in w) live state
-
--- what `usage_in` answers on the bytes of an ifile is what `usage` answers
-pub usage_in_bytes : (tables : Tables) (seg : ℕ) (answer : Option SegUse) → IsIfile tables → seg < length tables.live
-    → IfSome answer (ReadsUse (ifile_bytes tables) seg)
-    → IfNone answer ((any : SegUse) → ¬ ReadsUse (ifile_bytes tables) seg any) → answer ≡ Some (usage_of tables seg)
-usage_in_bytes tables seg None is within some none =
-    absurd (none (usage_of tables seg) (use-ifile_bytes tables seg is within))
-usage_in_bytes tables seg (Some u) is within some none =
-    ap Some (ReadsUse-same (ifile_bytes tables) seg u (usage_of tables seg) some (use-ifile_bytes tables seg is within))
