@@ -1,5 +1,5 @@
 -- An image from its pieces.
-use Rattle.std.proofs.Common.{◌≡◌, ℕ, ◌+◌, ◌*◌, ◌/◌, List, [], ◌∷◌, ◌++◌, length, take, drop, refl, sym, ap, subst, ◌∙◌}
+use Rattle.std.proofs.Common.{◌≡◌, ℕ, ◌+◌, ◌*◌, List, [], ◌∷◌, ◌++◌, length, take, drop, refl, sym, ap, subst, ◌∙◌}
 use Rattle.std.proofs.Common.{◌-◌, arith, append_assoc}
 use Rattle.std.specs.List.{flat_map}
 use Rattle.std.proofs.lemmas.List.{drop-drop, take-append-drop, take_rest}
@@ -33,13 +33,6 @@ block_more blocks bytes block k is whole =
     rw (flat_map-append (λ block. block) blocks (block ∷ []))
     (again (flat_map (λ block. block) blocks) block (drop (512 * (k + 1)) bytes)
     (drop (512 * k) bytes) bytes split whole)
-
--- a log whose memory has these blocks and whose tables have so many rows is told by a head
-pub same_head : (l : LogParts) (h : Head) (blocks : List (List ℕ)) → l.memory ≡ seen blocks h.active h.used
-    → length blocks ≡ h.segments * 64 → length l.tables.rows ≡ h.inodes → head_of l h.level ≡ h
-same_head l h blocks memory many rows =
-    let segments : length blocks / 64 ≡ h.segments = omega (arith, many) in
-    rw (memory, rows, segments) refl
 
 -- what stands behind the head is the blocks and the ifile
 pub same_body : (l : LogParts) (tables : Tables) (blocks : List (List ℕ)) (active used : ℕ) (rest body : List ℕ)
