@@ -1,9 +1,8 @@
 -- The bounds of what is read of a record.
-use Rattle.std.proofs.Common.{◌≡◌, ℕ, Bool, true, false, cond, List, [], ◌∷◌, ◌++◌, slice_index, take, refl, sym, ap}
+use Rattle.std.proofs.Common.{◌≡◌, ℕ, Bool, true, false, cond, List, refl, sym}
 use Rattle.std.proofs.Common.{subst, ◌∙◌, arith, inl, inr}
 use Rattle.std.specs.Prelude.{Some, None}
 use Rattle.std.proofs.lemmas.Bool.{cases_lt, cases_eq, cond-false, ne_eqb}
-use Rattle.std.proofs.lemmas.List.{take_at}
 use Rattle.lfs_types.specs.declared.attrs.Kind.{Kind}
 use Rattle.lfs_types.specs.declared.attrs.Kind.TheVariants.{File, Directory}
 use Rattle.lfs_inodes.specs.declared.inode.Inode.{Inode}
@@ -17,7 +16,6 @@ use Rattle.lfs_inodes.proofs.AddressLemmas.{length-addresses, slice_index-direct
 use Rattle.lfs_inodes.proofs.AddressLemmas.{slice_index-single}
 use Rattle.lfs_inodes.proofs.FieldTests.{record_decides}
 use Rattle.lfs_inodes.proofs.FieldsRead.{fields_in-by_kind, fields_in-is, made, made-record}
-use Rattle.lfs_inodes.proofs.SameInode.{same_inode}
 
 -- the facts of an inode's type are those of its fields
 pub AreFields-fields_of : (v : Inode) → AreFields (fields_of v)
@@ -81,17 +79,3 @@ AreFields-fields_in bytes f e =
     let v = inode_in bytes f e in
     let same : fields_of v.0 ≡ f = (let is = fields_in-is bytes v.0 v.1 in cc) in
     subst AreFields same (AreFields-fields_of v.0)
-
--- an inode is its fields
-pub fields_of-one : (v w : Inode) → fields_of v ≡ fields_of w → v ≡ w
-fields_of-one v w same =
-    let addresses : v.direct ++ v.single ∷ v.double ∷ [] ≡ w.direct ++ w.single ∷ w.double
-    ∷ [] = ap (λ f. f.addresses) same in
-    same_inode v w
-    (ap (λ f. f.attributes.kind) same) (ap (λ f. f.attributes.number) same) (ap (λ f. f.attributes.version) same)
-    (ap (λ f. f.attributes.owner) same) (ap (λ f. f.attributes.group) same) (ap (λ f. f.attributes.mode) same)
-    (ap (λ f. f.attributes.flags) same) (ap (λ f. f.attributes.size) same)
-    (sym (take_at v.direct (v.single ∷ v.double ∷ []) 12 v.whole) ∙ ap (take 12) addresses
-    ∙ take_at w.direct (w.single ∷ w.double ∷ []) 12 w.whole)
-    (sym (slice_index-single v) ∙ ap (λ xs. slice_index xs 12) addresses ∙ slice_index-single w)
-    (sym (slice_index-double v) ∙ ap (λ xs. slice_index xs 13) addresses ∙ slice_index-double w)
