@@ -9,17 +9,13 @@ use Rattle.std.proofs.Math.Seq.{drop-cons}
 use Rattle.std.specs.Str.{IsUtf8, is_utf8}
 use Rattle.std.proofs.lemmas.Bool.{cases_Bool}
 use Rattle.std.proofs.lemmas.Str.{IsUtf8-from_is_utf8, is_utf8-from_IsUtf8}
-use Rattle.std.proofs.lemmas.List.Concat.{flat_map-append}
-use Rattle.std.proofs.lemmas.List.{append-nil, drop-map, get_or-map, length-map, map-append, take-map, take_all}
-use Rattle.std.proofs.lemmas.List.{take_more}
+use Rattle.std.proofs.lemmas.List.{append-nil, drop-map, get_or-map, length-map, take-map, take_all}
 use Rattle.lfs_words.proofs.InfoLemmas.{shown}
 use Rattle.lfs_words.specs.Faults.{ReadsAs, ◌>>=◌}
 use Rattle.lfs_words.specs.PathText.{path_of}
-use Rattle.lfs_words.specs.Wording.{spaced}
 use Rattle.lfs_words.specs.declared.fault.FaultKind.{FaultKind}
-use Rattle.lfs_words.specs.declared.fault.FaultKind.TheVariants.{Bytes, Hex, Words}
+use Rattle.lfs_words.specs.declared.fault.FaultKind.TheVariants.{Bytes, Words}
 use Rattle.lfs_journal_lines.specs.Answers.{denial_of, denial_told, stat_of, stat_told}
-use Rattle.lfs_journal_lines.specs.Asked.{path_told, plain_word}
 use Rattle.lfs_journal_lines.specs.Escapes.{before, byte_told, bytes_told, escaped_byte, escaped_path, name_told}
 use Rattle.lfs_journal_lines.specs.Escapes.{names_told}
 use Rattle.lfs_journal_lines.specs.Reading.{cut_at_bar, is_bar}
@@ -39,28 +35,6 @@ seven_there f (a ∷ b ∷ c ∷ e ∷ g ∷ []) d least most = absurd (omega ar
 seven_there f (a ∷ b ∷ c ∷ e ∷ g ∷ h ∷ []) d least most = absurd (omega arith)
 seven_there f (a ∷ b ∷ c ∷ e ∷ g ∷ h ∷ i ∷ []) d least most = refl
 seven_there f (a ∷ b ∷ c ∷ e ∷ g ∷ h ∷ i ∷ j ∷ more) d least most = absurd (omega arith)
-
--- fewer words, and more
-pub seven_few : {A : Type 0} (f : A → List ℕ) (words : List A) → length words < 7 → stat_told (map f words) ≡ Err Words
-seven_few f [] most = refl
-seven_few f (a ∷ []) most = refl
-seven_few f (a ∷ b ∷ []) most = refl
-seven_few f (a ∷ b ∷ c ∷ []) most = refl
-seven_few f (a ∷ b ∷ c ∷ e ∷ []) most = refl
-seven_few f (a ∷ b ∷ c ∷ e ∷ g ∷ []) most = refl
-seven_few f (a ∷ b ∷ c ∷ e ∷ g ∷ h ∷ []) most = refl
-seven_few f (a ∷ b ∷ c ∷ e ∷ g ∷ h ∷ i ∷ more) most = absurd (omega arith)
-
-pub seven_many : {A : Type 0} (f : A → List ℕ) (words : List A) → 8 ≤ length words → stat_told (map f words) ≡ Err Words
-seven_many f [] least = absurd (omega arith)
-seven_many f (a ∷ []) least = absurd (omega arith)
-seven_many f (a ∷ b ∷ []) least = absurd (omega arith)
-seven_many f (a ∷ b ∷ c ∷ []) least = absurd (omega arith)
-seven_many f (a ∷ b ∷ c ∷ e ∷ []) least = absurd (omega arith)
-seven_many f (a ∷ b ∷ c ∷ e ∷ g ∷ []) least = absurd (omega arith)
-seven_many f (a ∷ b ∷ c ∷ e ∷ g ∷ h ∷ []) least = absurd (omega arith)
-seven_many f (a ∷ b ∷ c ∷ e ∷ g ∷ h ∷ i ∷ []) least = absurd (omega arith)
-seven_many f (a ∷ b ∷ c ∷ e ∷ g ∷ h ∷ i ∷ j ∷ more) least = refl
 
 -- four words
 pub four_there : {A : Type 0} (f : A → List ℕ) (words : List A) (d : A) → 4 ≤ length words → length words < 5
@@ -138,30 +112,9 @@ escape_first (c ∷ cs) behind some same is =
     let rest : behind ≡ cs = is ∙ take_all (length (c ∷ cs) - 1) cs (omega arith) in
     escape_told c cs same ∙ ap (λ bs. escaped_byte bs >>= (λ found. before found.0 (bytes_told found.1))) (sym rest)
 
--- two digits
-pub digits_there : (text : List ℕ) → 2 ≤ length text
-    → escaped_byte text ≡ (byte_told (get_or text 0 0) (get_or text 1 0) >>=
-    (λ b. Ok (with_rest (take (length text - 2) (drop 2 text)) b)))
-digits_there [] some = absurd (omega arith)
-digits_there (c ∷ []) some = absurd (omega arith)
-digits_there (c ∷ d ∷ cs) some =
-    ap (λ rest. byte_told c d >>= (λ b. Ok (with_rest rest b)))
-    (sym (take_all (length (c ∷ d ∷ cs) - 2) cs (omega arith)))
-
-pub digits_missed : (text : List ℕ) → length text < 2 → escaped_byte text ≡ Err Hex
-digits_missed [] few = refl
-digits_missed (c ∷ []) few = refl
-digits_missed (c ∷ d ∷ cs) few = absurd (omega arith)
-
 -- what is read behind bytes that are there
 abbrev pub behind_bytes : List ℕ → Result (List ℕ) FaultKind → Result (List ℕ) FaultKind
 behind_bytes done read = read >>= (λ rest. Ok (done ++ rest))
-
--- one more byte is read
-pub byte_more : (done : List ℕ) (b : ℕ) (read : Result (List ℕ) FaultKind) → behind_bytes done (before b read)
-    ≡ behind_bytes (done ++ b ∷ []) read
-byte_more done b (Ok rest) = rw append_assoc refl
-byte_more done b (Err kind) = refl
 
 -- ---- names
 
@@ -232,21 +185,6 @@ pub cut_missed : (refs : List (Bor (List ℕ))) → position is_bar (shown refs)
     ≡ Err Words
 cut_missed refs place = rw place refl
 
--- ---- a call as a line
-
--- one more operand
-pub operand_more : (refs : List (Bor (List ℕ))) (i : ℕ) (d : Bor (List ℕ)) (verb done new : List ℕ) → i < length refs
-    → done ≡ verb ++ spaced (map plain_word (shown (take i refs))) → new ≡ done ++ 32
-    ∷ plain_word ((get_or refs i d).now)
-    → new ≡ verb ++ spaced (map plain_word (shown (take (i + 1) refs)))
-operand_more refs i d verb done new lt so_far grown =
-    rw (grown, so_far, take_more refs i d lt) (spaced_more verb (take i refs) (get_or refs i d))
-  where
-    spaced_more : (verb : List ℕ) (before : List (Bor (List ℕ))) (ref : Bor (List ℕ))
-        → (verb ++ spaced (map plain_word (shown before))) ++ 32 ∷ plain_word ref.now ≡ verb
-        ++ spaced (map plain_word (shown (before ++ ref ∷ [])))
-    spaced_more verb before ref = rw (map-append, map-append, flat_map-append) (simp (append_assoc, append-nil))
-
 -- ---- paths
 
 -- a path behind a percent sign
@@ -266,19 +204,3 @@ text_missed text bytes told none =
       | inl is ↦ absurd (none (IsUtf8-from_is_utf8 bytes is))
       | inr no_text ↦ rw (told, no_text) refl
     ]
-
--- a word that is no path of another kind
-pub path_none : (word : List ℕ) → length word < 1 → path_told word ≡ Ok None
-path_none [] few = refl
-path_none (c ∷ cs) few = absurd (omega arith)
-
-pub path_plain : (word : List ℕ) → (get_or word 0 0 == 37) ≡ false → path_told word ≡ Ok None
-path_plain [] differs = refl
-path_plain (c ∷ cs) differs = rw differs refl
-
--- a word that is one
-pub path_marked : (word : List ℕ) → 1 ≤ length word → (get_or word 0 0 == 37) ≡ true
-    → path_told word ≡ (escaped_path (take (length word - 1) (drop 1 word)) >>= (λ path. Ok (Some path)))
-path_marked [] some same = absurd (omega arith)
-path_marked (c ∷ cs) some same =
-    rw (same, take_all (length (c ∷ cs) - 1) cs (omega arith)) refl
