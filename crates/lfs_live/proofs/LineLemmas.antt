@@ -2,12 +2,12 @@
 use Rattle.std.proofs.Common.{◌≡◌, ◌≢◌, ℕ, zero, suc, ◌+◌, ◌<◌, ◌≤◌, min, Bool, true, false, List, [], ◌∷◌, ◌++◌}
 use Rattle.std.proofs.Common.{length, take, Option, refl, sym, ap, subst, ◌∙◌, arith, length-append, length-take}
 use Rattle.std.proofs.Common.{if◌then◌else◌}
-use Rattle.std.specs.Io.KnownBytes.{Consumes, IsAtEnd, Keeps}
+use Rattle.std.specs.Io.KnownBytes.{Consumes, Keeps}
 use lib.Seq.{take-append_seam}
-use Rattle.std.proofs.KnownBytes.{Consumes-kept, Consumes-nil, Consumes-trans}
+use Rattle.std.proofs.KnownBytes.{Consumes-kept, Consumes-trans}
 use Rattle.std.proofs.lemmas.Bool.{lt-ltb, ltb-false, ltb-true, ltb_from_iff}
 use Rattle.std.proofs.lemmas.List.{take_all}
-use Rattle.std.proofs.lemmas.List.Elements.{All-nil, All-push}
+use Rattle.std.proofs.lemmas.List.Elements.{All-push}
 use Rattle.lfs_live.specs.Hearing.{heard_of, is_long}
 use Rattle.lfs_live.specs.Pieces.{IsPiece, IsUnended}
 use Rattle.lfs_live.specs.Telling.{cut_text, fault_line}
@@ -49,14 +49,6 @@ kept_full kept byte many few = seam 65537 kept (byte ∷ []) (omega (arith, many
 
 -- ---- what was read of a line
 
-pub part_none : (known : Option (List ℕ)) (kept : List ℕ) → kept ≡ [] → IsPart known known kept
-part_none known kept none = record {
-  part = [];
-  unended = All-nil (λ (b : ℕ). b ≢ 10);
-  kept_of = none;
-  taken = Consumes-nil known;
-}
-
 pub part_more : (known left rest : Option (List ℕ)) (kept new : List ℕ) (byte : ℕ) → IsPart known left kept
     → Consumes left rest (byte ∷ []) → byte ≢ 10
     → new ≡ take 65537 (kept ++ byte ∷ []) → IsPart known rest new
@@ -84,9 +76,6 @@ part_failed known left rest kept read same = record {
   taken = Consumes-kept known left rest read.part read.taken same;
 }
 
-pub part_enough : (known left : Option (List ℕ)) (kept : List ℕ) → IsPart known left kept → IsUnended known left
-part_enough known left kept read = record { part = read.part; unended = read.unended; taken = read.taken }
-
 pub part_ended : (known left rest : Option (List ℕ)) (kept : List ℕ) (byte : ℕ) → IsPart known left kept
     → Consumes left rest (byte ∷ []) → byte ≡ 10 → IsPiece known rest true kept
 part_ended known left rest kept byte read next feed = record {
@@ -96,16 +85,6 @@ part_ended known left rest kept byte read next feed = record {
   ended = λ _. Consumes-trans known left rest read.part (10 ∷ []) read.taken
       (subst (λ (b : ℕ). Consumes left rest (b ∷ [])) feed next);
   last = λ no. absurd (cc);
-}
-
-pub part_last : (known left rest : Option (List ℕ)) (kept : List ℕ) → IsPart known left kept → Keeps left rest
-    → IsAtEnd rest → IsPiece known rest false kept
-part_last known left rest kept read same end = record {
-  line = read.part;
-  unended = read.unended;
-  kept_of = read.kept_of;
-  ended = λ no. absurd (cc);
-  last = λ _. (Consumes-kept known left rest read.part read.taken same, end);
 }
 
 -- ---- what it says

@@ -2,7 +2,7 @@
 use Rattle.std.proofs.Common.{◌≡◌, ◌≢◌, ℕ, List, [], ◌∷◌, ◌++◌, Bool, true, false, Result, Ok, Err, IfOk, Option, inl}
 use Rattle.std.proofs.Common.{inr, refl, sym, ap, subst, ◌∙◌, append_assoc, append-nil}
 use Rattle.std.specs.Io.KnownBytes.{Appends, Consumes, Keeps}
-use Rattle.std.proofs.KnownBytes.{Appends-kept, Appends-nil, Appends-trans, Consumes-nil, Consumes-trans, Keeps-refl}
+use Rattle.std.proofs.KnownBytes.{Appends-kept, Appends-nil, Appends-trans, Consumes-trans}
 use Rattle.std.proofs.lemmas.Grind.{flat_map-append}
 use Rattle.std.proofs.lemmas.List.Elements.{All-nil}
 use Rattle.lfs_volume.specs.Seen.{Seen}
@@ -12,7 +12,7 @@ use Rattle.lfs_live.specs.Steps.{FailsHere, HearsLast, HearsNext, IsTold}
 use Rattle.lfs_live.specs.Talkers.{Talker}
 use Rattle.lfs_live.specs.Talking.{HasHeardAll, HasHeardSoFar, Hears, HearsAll, ended, first_speaker}
 use Rattle.lfs_live.specs.Telling.{cut_text, ended_line}
-use Rattle.lfs_live.specs.Pieces.{IsPiece, IsUnended}
+use Rattle.lfs_live.specs.Pieces.{IsPiece}
 use Rattle.lfs_live.specs.declared.hearing.Dot.TheVariants.{Quit}
 use Rattle.lfs_live.specs.declared.hearing.Heard.{Heard}
 use Rattle.lfs_live.specs.declared.hearing.Heard.TheVariants as heard
@@ -28,17 +28,6 @@ pub record HasHeard {F : Type 0} (r : Talker F) (old new : Seen F) (then : Speak
   pub heard : HearsAll r old first_speaker lines told new then
   pub taken : Consumes known left (ended lines)
   pub printed : Appends start out told
-
--- no line was heard
-pub heard_none : {F : Type 0} (r : Talker F) (v : Seen F) (speaker : Speaker) (known start : Option (List ℕ)) → speaker
-    ≡ first_speaker → HasHeard r v v speaker known known start start
-heard_none r v speaker known start first = record {
-  lines = [];
-  told = [];
-  heard = (refl, first, refl);
-  taken = Consumes-nil known;
-  printed = Appends-nil start;
-}
 
 -- one more line
 hears-more : {F : Type 0} (r : Talker F) (old middle new : Seen F) (first speaker
@@ -182,15 +171,6 @@ last_told known left start out is_ended kept line text said piece cut same is te
   taken = (piece.last cut).0;
   printed = subst (λ (t : List ℕ). Appends start out t) (tells ∙ is ∙ ap cut_text same
       ∙ cut_kept piece.line kept piece.kept_of) written;
-}
-
--- a read failed
-pub fails_here : (known left start : Option (List ℕ)) → IsUnended known left → FailsHere known left start start
-fails_here known left start part = record {
-  part = part.part;
-  unended = part.unended;
-  taken = part.taken;
-  silent = Keeps-refl start;
 }
 
 -- ---- results
