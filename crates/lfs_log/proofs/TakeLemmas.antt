@@ -1,5 +1,5 @@
 -- A key may take a place that was written, and live bytes may move with it.
-use Rattle.std.proofs.Common.{◌≡◌, ◌≢◌, ℕ, ◌+◌, ◌*◌, ◌/◌, ◌<◌, ◌≤◌, zero, suc, inl, inr, Some, refl, sym, ap, subst}
+use Rattle.std.proofs.Common.{◌≡◌, ◌≢◌, ℕ, ◌+◌, ◌*◌, ◌/◌, ◌<◌, ◌≤◌, zero, suc, inl, inr, Some, sym, ap, subst}
 use Rattle.std.proofs.Common.{◌∙◌, arith}
 use Rattle.std.proofs.lemmas.Bool.{cases_eq}
 use Rattle.lfs_segments.specs.Log.{first_of}
@@ -56,15 +56,6 @@ module _ (p : LogParts) (at : ℕ → ℕ → ℕ) (spare number code from : ℕ
       let segment : seg_of (at number code) ≡ from / 64 = omega arith in
       subst (λ (s : ℕ). 128 * units code ≤ live_of p.tables s) segment
       (left_fits (log_state p at) spare number code log (has_place some))
-
-  -- a key that loses its place
-  pub MayMoveLive-left : MayMoveLive p code from 0
-  MayMoveLive-left = record {
-    from_inside = old_inside;
-    to_inside = let some = log.segments.inside in omega arith;
-    had = old_had;
-    fits = λ some. absurd (some refl);
-  }
 
   -- a key that takes another
   pub MayMoveLive-taken : (place to : ℕ) → MayTake (log_state p at) spare number code place → place / 4 ≡ to
