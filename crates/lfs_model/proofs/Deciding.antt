@@ -94,13 +94,6 @@ walked-reached rows caller path k at (name ∷ names) n h =
 abbrev pub denied_at : ℕ → Rule → Denial
 denied_at at rule = record { rule = rule; path = 0; at = at }
 
--- a denial that the code makes is the one that the tests give
-pub same_denial : {o : Option Denial} {rule : Rule} {path at said : ℕ} {result : Denial} → o
-    ≡ Some (record { rule = rule; path = path; at = said }) → at ≡ said → result
-    ≡ record { rule = rule; path = path; at = at } → o ≡ Some result
-same_denial {rule = rule} {path = path} h e is = h
-    ∙ ap (λ n. Some (record { rule = rule; path = path; at = n })) (sym e) ∙ ap Some (sym is)
-
 -- ---- tests and others behind them
 
 same_denied : (b : Bool) (first : Denial) (xs ys : Option Denial) (denial : Denial)

@@ -1,6 +1,6 @@
 -- The world at the opening, and lists of entries with one more.
 use Rattle.std.proofs.Common.{◌≡◌, ℕ, List, [], ◌∷◌, ◌++◌, length, Some, refl, sym, ap, subst, ◌∙◌, arith, append_assoc}
-use Rattle.std.specs.Prelude.{IsSomeAnd, Contains}
+use Rattle.std.specs.Prelude.{IsSomeAnd}
 use Rattle.std.proofs.lemmas.List.{append-nil}
 use Rattle.std.specs.FinMap as map
 use Rattle.lfs_types.specs.Shown.{IsList}
@@ -57,9 +57,6 @@ opening_tree = record {
   empty = λ n r e k. let is = only_root n r e in ap (λ (x : Row). x.file.bytes) (sym is.1);
   numbers = λ n r e apart. absurd (apart (only_root n r e).0);
 }
-
-pub none_contained : (e : Entry) → Contains {X = Entry} [] e → ⊥
-none_contained e h = absurd (omega (arith, h.1))
 
 -- ---- an entry more
 
