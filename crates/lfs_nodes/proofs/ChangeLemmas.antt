@@ -14,7 +14,6 @@ use Rattle.lfs_model.proofs.Children.{child-is, child-none}
 use Rattle.lfs_model.proofs.EffectTree.{childless}
 use Rattle.lfs_model.proofs.Shrunk.{hangs_still}
 use Rattle.lfs_nodes.specs.declared.place.Place.{Place}
-use Rattle.lfs_nodes.specs.declared.place.TheConstants.{ROOT_ID}
 use Rattle.lfs_nodes.specs.declared.node.Hang.{Hang}
 use Rattle.lfs_nodes.specs.declared.node.Hang.TheVariants.{Root, At, Gone}
 use Rattle.lfs_nodes.specs.declared.node.Node.{Node}
@@ -66,9 +65,6 @@ module _ (parts : Parts) (whole : IsWhole parts) where
       → IsSome (known parts place.parent)
   parents_known q place e = there_mapped (node_at parts.table place.parent)
       (whole.parents q place (sym (ap place_of (same_hang q)) ∙ e))
-
-  pub root_known : live_row (known parts ROOT_ID) ≡ Some root
-  root_known = rooted_known ROOT_ID (same_hang ROOT_ID ∙ whole.root)
 
   module _ (rows : Rows) (tree : IsTree rows) (are : AreNodes rows (known parts)) (place : Place) (p n : ℕ)
       (parent : live_row (known parts place.parent) ≡ Some p)

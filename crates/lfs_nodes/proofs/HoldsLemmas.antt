@@ -7,7 +7,7 @@ use Rattle.std.proofs.lemmas.Bool.{or_parts, or_left, cases_eq, cases_Bool, ltb-
 use Rattle.lfs_nodes.specs.declared.node.Hang.{Hang}
 use Rattle.lfs_nodes.specs.declared.node.Hang.TheVariants.{Root, At, Gone}
 use Rattle.lfs_nodes.specs.declared.node.Node.{Node}
-use Rattle.lfs_nodes.specs.Holds.{is_root, node_is_held, is_held, is_known_held}
+use Rattle.lfs_nodes.specs.Holds.{node_is_held, is_held, is_known_held}
 use Rattle.lfs_nodes.specs.Nodes.{shown, live_row}
 use Rattle.lfs_nodes.specs.Reads.{hang_in, number_in, children_in}
 
@@ -30,15 +30,8 @@ live_number (Some m) n e = live m.hang m n refl e
     live Gone m n is e = let wrong : live_row (Some (record m { hang = Gone }))
         ≡ Some n = subst (λ h. live_row (Some (record m { hang = h })) ≡ Some n) is e in absurd (cc)
 
-root_is : (h : Hang) → is_root h ≡ false → h ≢ Root
-root_is h e same = let yes : is_root h ≡ true = ap is_root same in absurd (cc)
-
 none_above : (n : ℕ) → nat_lt 0 n ≡ false → n ≡ 0
 none_above n e = let low = ltb-false 0 n e in omega (arith, low)
-
--- a node that nothing holds isn't the root, and nothing hangs beneath it
-pub unheld_hang : (n : Node) → node_is_held n ≡ false → n.hang ≢ Root
-unheld_hang n e = root_is n.hang (or_parts _ _ (or_parts _ _ (or_parts _ _ e).0).0).0
 
 pub unheld_childless : (n : Node) → node_is_held n ≡ false → n.children ≡ 0
 unheld_childless n e = none_above n.children (or_parts _ _ e).1
