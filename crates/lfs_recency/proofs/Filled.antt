@@ -8,59 +8,15 @@ use Rattle.lfs_recency.specs.declared.queue.Queue.{Queue}
 use Rattle.lfs_recency.specs.declared.queue.Queue.TheVariants.{Locked, Lru, Age, Empty}
 use Rattle.lfs_recency.specs.declared.frame.Frame.{Frame}
 use Rattle.lfs_recency.specs.FrameLists.{FrameLists, listed, pushed, times, descending}
-use Rattle.lfs_recency.specs.Places.{item_place, item_number, IsItemPlace}
-use Rattle.lfs_recency.specs.Links.{next_at, prev_at, queue_at, head_of, IsPath, Every, step_by, linked_after, shown}
-use Rattle.lfs_recency.specs.Links.{AreLinked, AreKept, AreAlone, AreFilled, first_lists}
+use Rattle.lfs_recency.specs.Places.{item_place, item_number}
+use Rattle.lfs_recency.specs.Links.{next_at, prev_at, head_of, step_by, linked_after, shown}
+use Rattle.lfs_recency.specs.Links.{AreLinked, AreKept, AreFilled, first_lists}
 use Rattle.lfs_recency.proofs.Rings.{at_other}
 use Rattle.lfs_recency.proofs.Lists.{head_low, less_test}
-use Rattle.lfs_recency.proofs.Fields.{number-place, place-is_place, linked-next, linked-prev, linked-length}
+use Rattle.lfs_recency.proofs.Fields.{number-place, linked-next, linked-prev, linked-length}
 use Rattle.lfs_recency.proofs.Fields.{linked-bytes}
 use Rattle.lfs_recency.proofs.Linked.{linked_linked}
 use Rattle.lfs_recency.proofs.Kept.{kept_by}
-
--- rings of their own are the rings of empty queues
-pub filled_none : (size : ℕ) (base : Ptr) (n : ℕ) (fs : List Frame) → 0 < size → AreAlone size base n fs
-    → AreFilled size base n 0 fs
-filled_none size base n fs pos h =
-    let to : (i : ℕ) → i < n + 4 → step_by size base (next_at fs) i
-    ≡ i = λ i inside. ap (item_number size base) (h.next i inside) ∙ number-place size base i pos h.inside in
-    let fro : (i : ℕ) → i < n + 4 → step_by size base (prev_at fs) i
-    ≡ i = λ i inside. ap (item_number size base) (h.prev i inside) ∙ number-place size base i pos h.inside in
-    let far : (i : ℕ) → i < n + 4 → i ≢ n + 4 = λ i inside e. omega arith in
-    let ring : (q : Queue) → step_by size base (next_at fs) (head_of n q)
-    ≡ head_of n q = λ q. to (head_of n q) (head_low n q) in
-    record {
-      long = h.long;
-      inside = h.inside;
-      linked = record {
-        places = λ i inside. (
-          subst (IsItemPlace size base (n + 4)) (sym (h.next i inside))
-              (place-is_place size base (n + 4) i pos h.inside inside),
-          subst (IsItemPlace size base (n + 4)) (sym (h.prev i inside))
-              (place-is_place size base (n + 4) i pos h.inside inside),
-        );
-        forth = λ i inside _. (
-          ap (step_by size base (prev_at fs)) (to i inside) ∙ fro i inside,
-          subst (λ k. k ≢ n + 4) (sym (to i inside)) (far i inside),
-        );
-        back = λ i inside _. (
-          ap (step_by size base (next_at fs)) (fro i inside) ∙ to i inside,
-          subst (λ k. k ≢ n + 4) (sym (fro i inside)) (far i inside),
-        );
-        numbers = h.numbers;
-        rings = λ q. elim q as (λ q. IsPath (step_by size base (next_at fs)) (head_of n q)
-            (listed q (first_lists n 0 fs)) (head_of n q)) [
-              | Locked ↦ ring Locked
-              | Lru ↦ ring Lru
-              | Age ↦ ring Age
-              | Empty ↦ ring Empty
-            ];
-        members = λ q. elim q as (λ q. Every (λ i. (i < n) × (queue_at fs i ≡ q)) (listed q (first_lists n 0 fs)))
-            [ Locked ↦ tt | Lru ↦ tt | Age ↦ tt | Empty ↦ tt ];
-      };
-      next = λ k from below. h.next k (omega arith);
-      prev = λ k from below. h.prev k (omega arith);
-    }
 
 -- a frame in a ring of its own may be left out
 linked_but : (size : ℕ) (base : Ptr) (n f : ℕ) (s : FrameLists) (fs : List Frame) → AreLinked size base n (n + 4) s fs
