@@ -10,7 +10,7 @@ use Rattle.std.proofs.lemmas.List.Splits.{slice_split_at, slice_split_none, leng
 use Rattle.lfs_words.specs.Lines.{HasNoLineFeed, IsFirstLine}
 use Rattle.lfs_words.specs.Lines.{is_printable}
 use Rattle.lfs_script.specs.Parsing.{BeginsReadable, IsReadable}
-use Rattle.lfs_script.specs.PlanTypes.{AreWithin, Drafted, Planned}
+use Rattle.lfs_script.specs.PlanTypes.{Drafted, Planned}
 use Rattle.lfs_script.specs.Plans.{added, at_line, line_said, lines_of, plan_from, planned, text_said, verb_said}
 use Rattle.lfs_script.specs.Plans.{words_said}
 use Rattle.lfs_script.specs.Verbs.{verb_of}
@@ -21,7 +21,6 @@ use Rattle.lfs_words.specs.declared.fault.FaultKind.{FaultKind}
 use Rattle.lfs_words.specs.declared.fault.FaultKind.TheVariants.{Cut, Words}
 use Rattle.lfs_script.specs.declared.fault.ScriptFault.{ScriptFault}
 use Rattle.lfs_script.specs.declared.plan.Line.{Line}
-use Rattle.lfs_script.specs.declared.plan.Step.{Step}
 
 abbrev pub feed : ℕ → Bool
 feed b = b == 10
@@ -86,10 +85,6 @@ readable text rest n left begun =
       ended = omega (arith, count, begun.ended);
       printable = rw (here, at_drop (lines_of text) n begun.first begun.more behind) begun.printable;
     }
-
--- a higher session bounds the sessions of steps too
-pub within_higher : (steps : List Step) (low high : ℕ) → low ≤ high → AreWithin steps low → AreWithin steps high
-within_higher steps low high le within = λ k d lt. let at = within k d lt in omega arith
 
 -- the first line is taken
 pub plan_step : (n : ℕ) (draft : Drafted) (text line rest : List ℕ) → IsFirstLine text line rest
