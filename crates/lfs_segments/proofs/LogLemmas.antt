@@ -163,14 +163,3 @@ entry_at-pending m entries k laid e inside =
     first-drop entries zero = refl
     first-drop [] (suc k) = refl
     first-drop (entry ∷ entries) (suc k) = first-drop entries k
-
--- and nothing behind its end
-pub entry_at-past : (m : SegmentMemory) (address : ℕ) → IsLaidOut m → Expects m [] → next_address m ≤ address
-    → address < m.active * 64 + 64 → entry_at m address ≡ None
-entry_at-past m address laid e past inside =
-    let begun = laid.begun in
-    let first : ℕ = first_of m.active in
-    let at : first + (next_address m - first) ≡ next_address m = omega arith in
-    entry_at-in m m.active address (omega arith)
-    ∙ next_entry-zeros_from (log_block m m.active) (next_address m - first) (address - first) (omega arith) e.pending
-    (λ below. ap (block_at m) at ∙ e.zeros (next_address m) (omega arith) (omega arith))

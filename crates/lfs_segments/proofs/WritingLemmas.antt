@@ -51,32 +51,6 @@ module _ (m : SegmentMemory) (others : List (List ℕ)) (laid : IsLaidOut m) (fi
     entries = entry_at-appended_older;
   }
 
-pub Extends-refl : (m : SegmentMemory) → Extends m m
-Extends-refl m = record {
-  segments = refl;
-  active = refl;
-  fill = omega arith;
-  blocks = λ a older. refl;
-  entries = λ a older. refl;
-}
-
-pub IsOlder-extended : (a b : SegmentMemory) (address : ℕ) → Extends a b → IsOlder a address → IsOlder b address
-IsOlder-extended a b address p older =
-    let active = p.active in let fill = p.fill in
-    ⊎_elim
-    (λ (before : address < next_address a). inl (omega arith))
-    (λ (beyond : a.active * 64 + 64 ≤ address). inr (omega arith))
-    older
-
-pub Extends-trans : (a b c : SegmentMemory) → Extends a b → Extends b c → Extends a c
-Extends-trans a b c p q = record {
-  segments = q.segments ∙ p.segments;
-  active = q.active ∙ p.active;
-  fill = let first = p.fill in let then = q.fill in omega arith;
-  blocks = λ x older. q.blocks x (IsOlder-extended a b x p older) ∙ p.blocks x older;
-  entries = λ x older. q.entries x (IsOlder-extended a b x p older) ∙ p.entries x older;
-}
-
 -- one block of the log
 module _ (m : SegmentMemory) (block : List ℕ) (laid : IsLaidOut m) (some : 1 ≤ room_of m) where
   pub block_at-put : block_at (appended m (block ∷ [])) (next_address m) ≡ block
