@@ -100,13 +100,6 @@ frames_most numbers changes c can =
     omega (arith, can.few_bytes, can.few_puts, can.few_lengths)
 
 -- ---- frames while changes are staged
-pub peak_least : (change : Change) → IsInReach change → frames_of change ≤ peak_of change
-peak_least (Make ino attrs) reach = omega arith
-peak_least (Remove ino) reach = omega arith
-peak_least (SetAttrs ino attrs) reach = omega arith
-peak_least (Put ino off bytes) reach = omega arith
-peak_least (SetLength ino len) reach = let most = length_most len reach in omega arith
-
 -- a cut takes no more than it leaves waiting and four
 peak_more : (change : Change) → peak_of change ≤ frames_of change + 4
 peak_more (Make ino attrs) = omega arith
@@ -164,13 +157,6 @@ blocks_more f g r s more_frames more_records =
 pub needs_few : (changes : List Change) → frames_of_all changes ≤ 20 → records_of_all changes ≤ 4
     → needs_of changes ≤ 22
 needs_few changes frames records =
-    let most = blocks_more (frames_of_all changes) 20 (records_of_all changes) 4 frames records in
-    let is : blocks_for 20 4 ≡ 22 = refl in
-    omega arith
-
-pub needs_most : (changes : List Change) → frames_of_all changes ≤ 20 → records_of_all changes ≤ 4
-    → needs_of changes < 64
-needs_most changes frames records =
     let most = blocks_more (frames_of_all changes) 20 (records_of_all changes) 4 frames records in
     let is : blocks_for 20 4 ≡ 22 = refl in
     omega arith

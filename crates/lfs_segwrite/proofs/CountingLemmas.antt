@@ -49,26 +49,9 @@ same_laws = record {
 }
 
 -- ---- keys that are gathered, each once
-one_key : (key other : Key) → Contains (key ∷ []) other → key ≡ other
-one_key key other (zero, low, e) = e
-one_key key other (suc k, low, e) = absurd (omega arith)
-
 pub adds_none : (keys : List Key) → AddsKeys [] keys keys
 adds_none keys = record {
   each = λ key. (inl, λ h. elim h [ inl was ↦ was | inr more ↦ absurd (let none = more.1 in omega arith) ]);
-  once = λ once. once;
-  few = omega arith;
-}
-
-pub adds_there : (key : Key) (keys : List Key) → Contains keys key → AddsKeys (key ∷ []) keys keys
-adds_there key keys there = record {
-  each = λ other. (
-    inl,
-    λ h. elim h [
-      | inl was ↦ was
-      | inr more ↦ subst (Contains keys) (one_key key other more) there
-    ],
-  );
   once = λ once. once;
   few = omega arith;
 }

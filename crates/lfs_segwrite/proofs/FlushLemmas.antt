@@ -69,10 +69,6 @@ remains_fewer old p q h some staged advances count cache expects next = record {
 pub some_left : (len n : ℕ) {b : Bool} → len ≡ n → b ≡ (len == 0) → b ≡ false → 0 < n
 some_left len n same test fails = grind (arith, nat_tests)
 
-pub no_items : {A : Type 0} (xs : List A) → length xs ≡ 0 → xs ≡ []
-no_items [] none = refl
-no_items (x ∷ xs) none = absurd (omega arith)
-
 -- ---- the blocks
 apart_turned : (a b : Key) → same_key a b ≡ false → same_key b a ≡ false
 apart_turned a b apart = elim (same_cases b a) [

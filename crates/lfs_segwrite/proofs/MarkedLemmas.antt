@@ -15,7 +15,7 @@ use Rattle.lfs_bmap.specs.declared.blocks.TheConstants.{BLOCK_CODES}
 use Rattle.lfs_bmap.specs.Counting.{seg_of}
 use Rattle.lfs_bmap.specs.Log.{IsPlaced}
 use Rattle.lfs_bmap.specs.Moves.{DirtyIn, Moves}
-use Rattle.lfs_bmap.proofs.MoveLemmas.{StaysDirty-refl, StaysDirty-trans, moves-trans}
+use Rattle.lfs_bmap.proofs.MoveLemmas.{StaysDirty-trans, moves-trans}
 use Rattle.lfs_ifile.specs.declared.segment.SegState.{SegState}
 use Rattle.lfs_segwrite.specs.Applying.{WritesWaiting}
 use Rattle.lfs_bmap.proofs.LogLemmas.{dirty_not_active, dirty_not_clean}
@@ -271,29 +271,6 @@ module _ (old mid staged new : Parts) (marks named : List BlockInfo) (keeps : Ke
 
   pub marked_content : content_of new ≡ content_of old
   marked_content = flushes.content ∙ shown_content mid staged stages.same ∙ keeps.content
-
--- nothing is named, and nothing is done
-pub marks_none : (p : Parts) (marks named : List BlockInfo) → AreNamed (log_state p) marks named → length named ≡ 0
-    → MarksSettled marks 0 p p
-marks_none p marks named are none = record {
-  named = named;
-  are_named = are;
-  counted = sym none;
-  rewritten = λ k d inside. absurd (omega arith);
-  moves = record { numbers = refl; places = λ n c there within. refl; versions = λ n c there within. refl };
-  segments = refl;
-  numbers = refl;
-  used = λ n. refl;
-  versions = λ n. refl;
-  blocks = λ a used end. refl;
-  clean = omega arith;
-  opened = omega arith;
-  enough = λ _. refl;
-  dirty = StaysDirty-refl (log_state p);
-  none = λ _. refl;
-  still = λ n c low below other. refl;
-  left = inl (refl, omega arith, refl);
-}
 
 -- what waits was written, and then the blocks were
 pub marks_after : (marks : List BlockInfo) (count : ℕ) (old mid new : Parts) → IsStore old → IsStore mid → IsStore new

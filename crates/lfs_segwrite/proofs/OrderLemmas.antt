@@ -4,7 +4,7 @@ use Rattle.std.proofs.Common.{◌++◌, All, map, replicate, Bool, true, false, 
 use Rattle.std.proofs.Common.{inl, inr, arith}
 use Rattle.std.specs.List.{Contains, filter}
 use Rattle.std.proofs.lemmas.Bool.{cases_Bool, cases_eq, cases_lt, eq-eqb, eqb-true, false≢true, ne_eqb}
-use Rattle.std.proofs.lemmas.List.{get_or-append_right, get_or-map, get_or-replicate, get_or_append_left, length-map}
+use Rattle.std.proofs.lemmas.List.{get_or-append_right, get_or-map, get_or_append_left, length-map}
 use Rattle.std.proofs.lemmas.List.Elements.{All-append, Contains-append_left, Contains-append_right}
 use Rattle.lfs_cache.specs.declared.key.Key.{Key}
 use Rattle.lfs_cache.specs.Contents.{AreApart, Contents, IsLocked, Lacks, block_in, keys_of}
@@ -17,7 +17,7 @@ use Rattle.lfs_bmap.proofs.TableLemmas.{rank_of-few}
 use Rattle.lfs_staging.specs.declared.parts.Parts.{Parts}
 use Rattle.lfs_segwrite.specs.Collecting.{AreLocked, entries_of, entry_of, in_order, in_passes, inode_blocks, is_of}
 use Rattle.lfs_staging.specs.Opening.{inodes_entry}
-use Rattle.lfs_segwrite.proofs.CollectingLemmas.{entries_of-length, filter_no, filter_yes, in_order-length}
+use Rattle.lfs_segwrite.proofs.CollectingLemmas.{filter_no, filter_yes, in_order-length}
 use Rattle.lfs_segwrite.proofs.CollectingLemmas.{in_passes-each, in_passes-more, in_passes-none}
 use Rattle.lfs_segments.specs.declared.entry.SummaryEntry.{SummaryEntry}
 
@@ -216,17 +216,3 @@ entries_of-block p k d e low =
     let mapped = length-map keys entry_of in
     get_or_append_left (map entry_of keys) (replicate blocks inodes_entry) e k (omega arith)
     ∙ get_or-map entry_of keys k d e (omega arith)
-
-pub entries_of-inodes : (p : Parts) (k : ℕ) (e : SummaryEntry) → length p.cache.locked ≤ k → k < length (entries_of p)
-    → get_or (entries_of p) k e ≡ inodes_entry
-entries_of-inodes p k e high low =
-    let keys = in_order (keys_of p.cache.locked) in
-    let blocks = inode_blocks (length p.waiting) in
-    let ordered = in_order-length (keys_of p.cache.locked) in
-    let locked = length-map p.cache.locked (λ e. e.0) in
-    let mapped = length-map keys entry_of in
-    let whole = entries_of-length p in
-    ap (λ es. get_or es k e) (entries_of-split p)
-    ∙ get_or-append_right (map entry_of keys) (replicate blocks inodes_entry) (length (map entry_of keys)) k e refl
-    (omega arith)
-    ∙ get_or-replicate blocks (k - length (map entry_of keys)) inodes_entry e (omega arith)

@@ -23,15 +23,15 @@ use Rattle.lfs_bmap.specs.Log.{IsPlaced, Opens, SameKeys}
 use Rattle.lfs_bmap.specs.Pieces.{IsPadded, file_bytes}
 use Rattle.lfs_bmap.specs.Reading.{SameReadings, address, data_block}
 use Rattle.lfs_bmap.specs.Ways.{IsBlockWay, code_at, way_of}
-use Rattle.lfs_bmap.proofs.MoveLemmas.{StaysDirty-opened, StaysDirty-refl}
+use Rattle.lfs_bmap.proofs.MoveLemmas.{StaysDirty-opened}
 use Rattle.lfs_bmap.proofs.PlaceLemmas.{data_block-same}
-use Rattle.lfs_bmap.proofs.ReadingLemmas.{SameReadings-refl, address-root, kept_blocks}
+use Rattle.lfs_bmap.proofs.ReadingLemmas.{address-root, kept_blocks}
 use Rattle.lfs_bmap.proofs.SegmentLemmas.{opened_log}
 use Rattle.lfs_bmap.proofs.WayLemmas.{known_way_of, way_of-known, way_of-zero}
 use Rattle.lfs_staging.specs.declared.parts.Parts.{Parts}
 use Rattle.lfs_staging.specs.Files.{content_below, content_of, file_at, file_with}
 use Rattle.lfs_staging.specs.Keys.{log_state}
-use Rattle.lfs_segwrite.specs.Room.{KeepsFiles, OpensSegment}
+use Rattle.lfs_segwrite.specs.Room.{OpensSegment}
 use Rattle.lfs_staging.specs.Store.{AreFiles, IsFile, IsStore}
 use Rattle.lfs_staging.specs.View.{record_of, root_in, tree_of, waiting_in}
 use Rattle.lfs_staging.proofs.CleanLemmas.{mirrors_read}
@@ -267,18 +267,3 @@ opens_segment p l s store inside was_clean some is ready parts step =
     (opened_segment p s store inside was_clean (subst (λ (m : LogParts). Expects m.memory []) is ready)
     (subst IsParts is parts) some
     (λ at. subst (λ m. Opens (log.log_state p.log at) (log.log_state m at) s) is (step at)))
-
--- nothing was done
-pub KeepsFiles-refl : (p : Parts) → KeepsFiles p p
-KeepsFiles-refl p = record {
-  rows = refl;
-  cache = refl;
-  waiting = refl;
-  content = refl;
-  records = λ n. refl;
-  readings = λ n. SameReadings-refl (tree_of p n);
-  keys = record { numbers = refl; segments = refl; places = λ n c low below. refl; versions = λ n low. refl };
-  dirty = StaysDirty-refl (log_state p);
-  blocks = λ a used. refl;
-  end = inl refl;
-}
