@@ -95,12 +95,6 @@ gone_not p v block a may is some =
     let same = tree_from-of p v.number v may.here file in
     (λ e. absurd (false≢true e), λ gone. absurd (some (is ∙ ap (λ t. address t (way_to block)) same ∙ gone.nowhere)))
 
--- the data blocks that go are in order
-pub run_ordered : (left blocks start end : ℕ) → ((start < left) × (left < end)) ⊎ (left ≤ start) → left ≤ blocks
-    → start < blocks → start ≤ end → max left start ≤ min blocks end
-run_ordered left blocks start end (inl part) few some ordered = let low = part.0 in let high = part.1 in omega arith
-run_ordered left blocks start end (inr whole) few some ordered = omega arith
-
 -- ---- what is gone with one block more
 -- the block itself, and the data blocks whose addresses stand in it
 gone_next : (p : Parts) (number left : ℕ) (t : FileBlock) → IsFileBlock t → GoneDown p number left (code_of t + 1)

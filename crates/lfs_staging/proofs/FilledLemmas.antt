@@ -152,15 +152,6 @@ module _ (p q : Parts) (h : SameButClean p q) where
   pub same_content : content_of q ≡ content_of p
   same_content = filled_content p q h.log h.waiting h.dirty
 
-pub SameButClean-refl : (p : Parts) → AreFiles p → SameButClean p p
-SameButClean-refl p files = record {
-  log = refl;
-  waiting = refl;
-  dirty = refl;
-  formed = files.cache;
-  mirrors = files.mirrors;
-}
-
 pub SameButClean-trans : (p q r : Parts) → SameButClean p q → SameButClean q r → SameButClean p r
 SameButClean-trans p q r first second = record {
   log = second.log ∙ first.log;

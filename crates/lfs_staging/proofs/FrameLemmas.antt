@@ -5,15 +5,13 @@ use Rattle.std.proofs.lemmas.Bool.{cond-true, cond-false, false≢true, cases_eq
 use Rattle.std.proofs.lemmas.Option.{none-some}
 use Rattle.lfs_inodes.specs.declared.inode.Inode.{Inode}
 use Rattle.lfs_cache.specs.declared.key.Key.{Key}
-use Rattle.lfs_cache.specs.Changes.{IsContents}
-use Rattle.lfs_cache.specs.Contents.{AreApart, Contents, IsLocked, Lacks, block_in, keys_of, without_key}
+use Rattle.lfs_cache.specs.Contents.{AreApart, Lacks, block_in, keys_of, without_key}
 use Rattle.lfs_cache.specs.Keys.{same_key}
 use Rattle.lfs_cache.proofs.CallerLemmas.{block_other}
 use Rattle.lfs_cache.proofs.Entries.{same_cases, same_is, same_self}
 use Rattle.lfs_staging.specs.Addressing.{numbers_of}
 use Rattle.lfs_staging.specs.View.{waiting_in}
 use Rattle.lfs_staging.specs.Waiting.{AreOnce}
-use Rattle.lfs_staging.proofs.HeldLemmas.{locked_apart}
 use Rattle.lfs_staging.proofs.WaitingLemmas.{waiting-head, waiting-tail}
 use Rattle.lfs_cache.proofs.ChangeLemmas.{without_shorter}
 
@@ -54,20 +52,6 @@ part_most (e ∷ es) ys apart there =
     let rest = part_most es (without_key e.0 ys) apart.1 (λ k in_rest.
     let other = lacks_apart e.0 k es apart.0 in_rest in
     subst IsSome (sym (block_other e.0 k ys other)) (there k (subst IsSome (sym (cond-false _ _ _ other)) in_rest))) in
-    omega arith
-
--- where what waits waited and a key waits no more, fewer frames do
-pub locked_less : (c d : Contents) (key : Key) → IsContents d → ((k : Key) → IsLocked k d → IsLocked k c)
-    → IsLocked key c → block_in key d.locked ≡ None
-    → length d.locked + 1 ≤ length c.locked
-locked_less c d key formed only was gone =
-    let less = without_less key c.locked was in
-    let rest = part_most d.locked (without_key key c.locked) (locked_apart d formed)
-    (λ k locked. elim (same_cases key k) [
-      | inl same ↦ absurd (false≢true (sym (ap is_some gone)
-          ∙ subst (λ x. is_some (block_in x d.locked) ≡ true) (sym (same_is key k same)) locked))
-      | inr other ↦ subst IsSome (sym (block_other key k c.locked other)) (only k locked)
-    ]) in
     omega arith
 
 -- ---- records

@@ -131,9 +131,3 @@ GainsNoClean-refl c = record { each = λ key bytes there. there }
 
 pub GainsNoClean-same : (c d : Contents) → d ≡ c → GainsNoClean c d
 GainsNoClean-same c d same = subst (GainsNoClean c) (sym same) (GainsNoClean-refl c)
-
-pub GainsNoClean-trans : (a b c : Contents) → GainsNoClean a b → GainsNoClean b c → GainsNoClean a c
-GainsNoClean-trans a b c first second = record {
-  each =
-      λ key bytes there. first.each key bytes (second.each key bytes there);
-}

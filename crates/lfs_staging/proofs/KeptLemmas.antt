@@ -32,7 +32,7 @@ use Rattle.lfs_bmap.proofs.ReadingLemmas.{staged_addresses, staged_bytes, staged
 use Rattle.lfs_bmap.proofs.WayLemmas.{same_code, way_of-code_of, way_of-data, way_of-known}
 use Rattle.lfs_staging.specs.declared.parts.Parts.{Parts}
 use Rattle.lfs_staging.specs.Keys.{log_state}
-use Rattle.lfs_staging.specs.Staging.{HasFrames, HasParents, IsStaged, IsZeroPast, MayStage, SameFiles, StagesBlock}
+use Rattle.lfs_staging.specs.Staging.{HasParents, IsStaged, IsZeroPast, MayStage, SameFiles, StagesBlock}
 use Rattle.lfs_staging.specs.Staging.{StagesData, StagesOwnRecord, StagesParents, StagesRecord, StagesTable}
 use Rattle.lfs_staging.specs.Staging.{TakesFrames, TakesOnly}
 use Rattle.lfs_staging.specs.Store.{AreFiles, HolderWaits, IsBlockCode, IsPresent, IsStore, IsWithin, Mirrors}
@@ -48,11 +48,10 @@ use Rattle.lfs_staging.proofs.HeldLemmas.{GainsNoClean-refl, GainsNoClean-same}
 use Rattle.lfs_staging.proofs.ViewLemmas.{code_at-way_to}
 use Rattle.lfs_staging.proofs.WaitingLemmas.{all_without, length-rest, once_staged, without-staged, waiting-head}
 use Rattle.lfs_staging.proofs.WaitingLemmas.{waiting-staged}
-use Rattle.lfs_staging.proofs.TakenLemmas.{block_room, block_takes, takes_none}
+use Rattle.lfs_staging.proofs.TakenLemmas.{block_takes, takes_none}
 use Rattle.lfs_bmap.proofs.HolderLemmas.{codes_on-below, table_of-under, table_of-way}
 use Rattle.std.specs.List.{Contains}
 use Rattle.lfs_types.specs.declared.limits.TheConstants.{FILE_BLOCKS}
-use Rattle.lfs_cache.specs.declared.cache.TheConstants.{LOCKED_LIMIT}
 
 -- each block that waits lies within the size of its file
 abbrev pub AllWithin : Parts → Type 0
@@ -416,19 +415,6 @@ own_staged old new v may h = record {
   once = record_once old new v h;
 }
 
--- where it waits already, nothing changes
-pub own_waits : (p : Parts) (v : Inode) → MayStage p v → IsSome (waiting_in p.waiting v.number)
-    → StagesOwnRecord v.number p p
-own_waits p v may waits = record {
-  same = record { log = refl; records = λ n. refl; readings = λ n. SameReadings-refl (tree_of p n) };
-  cache = refl;
-  files = may.files;
-  parents = may.parents;
-  waits = waits;
-  room = refl;
-  once = λ once. once;
-}
-
 -- a block whose address stands in the record has no other parent
 pub parents_own : (old new : Parts) (number : ℕ) (block : FileBlock) → StagesOwnRecord number old new → table_of block
     ≡ Record → StagesParents number block old new
@@ -506,19 +492,6 @@ module _ (old between new : Parts) (v : Inode) (t : FileBlock) (may : MayStage o
         once = λ once. subst AreOnce (sym b.waiting) (h.once once);
         takes = taken_block old between new v.number t bytes can other h b;
       }
-
--- there is a frame for it where its record waits, and the record holds its address
-pub table_room : (old between : Parts) (number : ℕ) (t table : FileBlock) → t ≡ table → IsFileBlock t → code_of t ≢ 0
-    → StagesOwnRecord number old between
-    → HasFrames old number (codes_on (way_to t))
-    → IsLocked (key_of number (version_of between number) (code_of table)) between.cache
-    ⊎ (length between.cache.locked < LOCKED_LIMIT)
-table_room old between number t table same can other h frames =
-    subst (λ x. IsLocked (key_of number (version_of between number) (code_of x)) between.cache
-    ⊎ (length between.cache.locked < LOCKED_LIMIT)) same
-    (block_room old between number t can other (version-same old between number h.same.log)
-    (takes_none number (version_of old number) (codes_on (way_to (table_of t))) old.cache between.cache h.cache)
-    h.files.cache frames)
 
 -- then the parents wait of each block whose address it holds
 pub table_parents : (old new : Parts) (number : ℕ) (block : FileBlock) → StagesTable number (table_of block) old new

@@ -37,17 +37,6 @@ filled_more blocks start index block old new filled is got = record {
   ];
 }
 
--- before the first block that is touched nothing is to be filled
-pub filled_first : (blocks : ℕ → List ℕ) (start index : ℕ) (buffer : List ℕ)
-    → ((n : ℕ) → Touches start (start + length buffer) n → index ≤ n) → IsFilledBefore blocks start index buffer
-filled_first blocks start index buffer first = record {
-  each = λ k low below.
-      let touched : index ≤ (start + k) / 512
-      = first ((start + k) / 512) (record { byte = start + k; from = omega arith; below = omega arith; there = refl })
-      in
-      absurd (omega arith);
-}
-
 -- past the last one all is filled
 pub filled_all : (blocks : ℕ → List ℕ) (start index : ℕ) (buffer : List ℕ) → IsFilledBefore blocks start index buffer
     → ((n : ℕ) → Touches start (start + length buffer) n → n < index)

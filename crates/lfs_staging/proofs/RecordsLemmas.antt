@@ -66,9 +66,6 @@ without-free (v ∷ vs) number none = elim (cases_eq v.number number) [
 pub without-untold : (vs : List Inode) (number : ℕ) → is_some (waiting_in vs number) ≡ false → without number vs ≡ vs
 without-untold vs number h = without-free vs number (not_some (waiting_in vs number) h)
 
-pub untold_none : (vs : List Inode) (number : ℕ) → is_some (waiting_in vs number) ≡ false → waiting_in vs number ≡ None
-untold_none vs number h = not_some (waiting_in vs number) h
-
 -- ---- what each change keeps
 pub no_records : (vs : List Inode) (waits : List Bool) (capacity : ℕ) → vs ≡ [] → waits ≡ replicate 4096 false
     → capacity ≡ 64 → IsRecords vs waits capacity
@@ -166,9 +163,3 @@ module _ (vs : List Inode) (waits : List Bool) (capacity : ℕ) (h : IsRecords v
               ∙ ap is_some (waiting-front front v number (λ e. ne (sym e)))
         ];
       }
-
-  pub popped_low : (front : List Inode) (v : Inode) → vs ≡ front ++ v ∷ [] → v.number < length waits
-  popped_low front v is =
-      let low : v.number < 4096 = (All-pop IsNumbered vs front (Some v) is h.numbered).1 in
-      let sized = h.sized in
-      omega arith

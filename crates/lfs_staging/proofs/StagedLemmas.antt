@@ -5,10 +5,9 @@ use Rattle.lfs_ifile.specs.Tables.{row_of}
 use Rattle.lfs_inodes.specs.declared.inode.Inode.{Inode}
 use Rattle.lfs_log.specs.Parts.{LogParts}
 use Rattle.lfs_bmap.specs.Blocks.{IsFileBlock, code_of, table_of, way_to}
-use Rattle.lfs_bmap.specs.Log.{Assigns, Renews}
 use Rattle.lfs_bmap.specs.Reading.{address}
 use Rattle.lfs_bmap.specs.Ways.{IsBlockWay, codes_on}
-use Rattle.lfs_bmap.proofs.MoveLemmas.{moves-assigned, moves-refl, moves-renewed, moves-same, moves-trans}
+use Rattle.lfs_bmap.proofs.MoveLemmas.{moves-refl, moves-same, moves-trans}
 use Rattle.lfs_bmap.proofs.PlaceLemmas.{data_block-same}
 use Rattle.lfs_staging.specs.declared.records.TheConstants.{WAITING_LIMIT}
 use Rattle.lfs_staging.specs.declared.parts.Parts.{Parts}
@@ -120,30 +119,6 @@ stays_same old new log addresses = record {
 -- or where the log and the files stay
 pub stays_files : (old new : Parts) → new.log ≡ old.log → ((n : ℕ) → tree_of new n ≡ tree_of old n) → StaysInLog old new
 stays_files old new log files = stays_same old new log (λ n way known. ap (λ t. address t way) (files n))
-
--- a key lost its place
-pub stays_dropped : (old new : Parts) (number code : ℕ) → new.log.memory ≡ old.log.memory → new.log.tables.states
-    ≡ old.log.tables.states → new.log.clean ≡ old.log.clean
-    → Assigns (log_state old) (log_state new) number code 0 → StaysInLog old new
-stays_dropped old new number code memory states clean step = record {
-  memory = memory;
-  states = states;
-  clean = clean;
-  numbers = step.numbers;
-  moves = moves-assigned (λ segment. ⊤) (log_state old) (log_state new) number code 0 step (λ some within. some refl);
-}
-
--- a number none of whose keys has a place was given out or released
-pub stays_renewed : (old new : Parts) (number : ℕ) → new.log.memory ≡ old.log.memory → new.log.tables.states
-    ≡ old.log.tables.states → new.log.clean ≡ old.log.clean
-    → Renews (log_state old) (log_state new) number → StaysInLog old new
-stays_renewed old new number memory states clean step = record {
-  memory = memory;
-  states = states;
-  clean = clean;
-  numbers = step.numbers;
-  moves = moves-renewed (λ segment. ⊤) (log_state old) (log_state new) number step;
-}
 
 pub stays-refl : (p : Parts) → StaysInLog p p
 stays-refl p = record {
