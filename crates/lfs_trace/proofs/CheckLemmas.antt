@@ -195,12 +195,6 @@ pub told_so : (entry : Entry) (request : Request) (made : Answer) (shown : Shown
     → entry ≡ record { session = entry.session; cred = entry.cred; event = User request made } → made ≡ Served shown
 told_so entry request made shown told same = ap (λ e. answer_in e made) (sym (ap (λ (x : Entry). x.event) same) ∙ told)
 
-pub tells_so : (entry : Entry) (request : Request) (made : Answer) (shown : Shown) → entry.event
-    ≡ User request (Served shown)
-    → made ≡ Served shown → entry ≡ record { session = entry.session; cred = entry.cred; event = User request made }
-tells_so entry request made shown told same =
-    λ i. record { session = entry.session; cred = entry.cred; event = (told ∙ ap (User request) (sym same)) i }
-
 -- ---- the opening, and rows
 
 pub opening_stands : (store : FlatFiles) (numbers segments : ℕ) → plain_state store ≡ opening_state numbers
