@@ -1,8 +1,8 @@
 -- Texts grow by their lines and signs.
-use Rattle.std.proofs.Common.{◌≡◌, ℕ, suc, ◌+◌, ◌<◌, ◌≤◌, List, [], ◌∷◌, ◌++◌, length, map, take, get_or, replicate}
+use Rattle.std.proofs.Common.{◌≡◌, ℕ, suc, ◌+◌, ◌<◌, List, [], ◌∷◌, ◌++◌, length, map, take, get_or, replicate}
 use Rattle.std.proofs.Common.{sym, ap, ◌∙◌, append_assoc, append-nil, arith}
 use Rattle.std.specs.List.{flat_map}
-use Rattle.std.proofs.lemmas.List.{flat_map_more, map-append, replicate_more, take_all, take_more}
+use Rattle.std.proofs.lemmas.List.{flat_map_more, replicate_more, take_more}
 use Rattle.lfs_staging.specs.declared.parts.Parts.{Parts}
 use Rattle.lfs_view.specs.Cells.{cells_of}
 use Rattle.lfs_view.specs.MapText.{cell_sign, row_text, rows_below, use_text}
@@ -36,19 +36,6 @@ rows_more p out done new n so_far grown =
     let one : n + 1 ≡ suc n = omega arith in
     rw (grown, so_far, one) (append_assoc out (rows_below p n) (row_text p n))
 
--- one more sign, and all of them
-pub signs_more : (out done new : List ℕ) (cells : List Cell) (i : ℕ) (cell : Cell) → i < length cells → cell
-    ≡ get_or cells i cell
-    → done ≡ out ++ map cell_sign (take i cells) → new ≡ done ++ cell_sign cell ∷ [] → new ≡ out
-    ++ map cell_sign (take (i + 1) cells)
-signs_more out done new cells i cell lt is so_far grown =
-    rw (grown, so_far, take_more cells i cell lt, ← is, map-append)
-    (append_assoc out (map cell_sign (take i cells)) (cell_sign cell ∷ []))
-
-pub signs_all : (out done : List ℕ) (cells : List Cell) (i : ℕ) → length cells ≤ i → done ≡ out
-    ++ map cell_sign (take i cells) → done ≡ out ++ map cell_sign cells
-signs_all out done cells i le so_far = so_far ∙ ap (λ xs. out ++ map cell_sign xs) (take_all i cells le)
-
 -- the lines of one more cell, and of all of them
 pub cells_more : (p : Parts) (out done new : List ℕ) (cells : List Cell) (i : ℕ) (cell : Cell) → i < length cells → cell
     ≡ get_or cells i cell
@@ -56,8 +43,3 @@ pub cells_more : (p : Parts) (out done new : List ℕ) (cells : List Cell) (i : 
     ++ flat_map (cell_lines p) (take (i + 1) cells)
 cells_more p out done new cells i cell lt is so_far grown =
     rw (grown, so_far, take_more cells i cell lt, ← is) (flat_map_more (cell_lines p) out (take i cells) cell)
-
-pub cells_all : (p : Parts) (out done : List ℕ) (cells : List Cell) (i : ℕ) → length cells ≤ i → done ≡ out
-    ++ flat_map (cell_lines p) (take i cells)
-    → done ≡ out ++ flat_map (cell_lines p) cells
-cells_all p out done cells i le so_far = so_far ∙ ap (λ xs. out ++ flat_map (cell_lines p) xs) (take_all i cells le)
