@@ -1,7 +1,6 @@
 -- Users told apart.
 use Rattle.std.proofs.Common.{◌≡◌, ℕ, ◌==◌, ◌||◌, Bool, true, false, cond, List, [], ◌∷◌, ◌++◌, refl, sym, ap, subst}
 use Rattle.std.proofs.Common.{◌∙◌}
-use Rattle.std.specs.List.{list_any}
 use Rattle.std.proofs.lemmas.Bool.{eq-eqb, eqb-true, eqb-false, ne_eqb}
 use Rattle.std.proofs.lemmas.List.Folds.{list_any-append}
 use Rattle.lfs_types.specs.Caller.{Caller}
@@ -19,11 +18,6 @@ turned_case false x y e = ne_eqb y x (λ same. eqb-false x y e (sym same))
 turned : (x y : ℕ) → (x == y) ≡ (y == x)
 turned x y = sym (turned_case (x == y) x y refl)
 
-pub among_turned : (u : ℕ) (users : List ℕ) → list_any (λ v. v == u) users ≡ is_among u users
-among_turned u [] = refl
-among_turned u (v ∷ users) = ap (λ b. b || list_any (λ w. w == u) users) (turned v u)
-    ∙ ap (λ b. (u == v) || b) (among_turned u users)
-
 or_none : (b : Bool) → (b || false) ≡ b
 or_none true = refl
 or_none false = refl
@@ -31,18 +25,6 @@ or_none false = refl
 pub among_more : (u uid : ℕ) (users : List ℕ) → is_among u (users ++ uid ∷ []) ≡ (is_among u users || (u == uid))
 among_more u uid users = list_any-append (λ v. u == v) users (uid ∷ [])
     ∙ ap (λ b. is_among u users || b) (or_none (u == uid))
-
-there_case : (b : Bool) (u uid : ℕ) (users : List ℕ) → (u == uid) ≡ b → is_among uid users ≡ true → is_among u users
-    ≡ (is_among u users || b)
-there_case true u uid users e there =
-    let here : is_among u users ≡ true = ap (λ v. is_among v users) (eqb-true u uid e) ∙ there in
-    here ∙ sym (ap (λ b. b || true) here)
-there_case false u uid users e there = sym (or_none (is_among u users))
-
--- who is among users already adds nobody
-pub among_same : (u uid : ℕ) (users : List ℕ) → is_among uid users ≡ true → is_among u users
-    ≡ (is_among u users || (u == uid))
-among_same u uid users there = there_case (u == uid) u uid users refl there
 
 -- ---- lines of users
 
