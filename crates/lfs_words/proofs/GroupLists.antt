@@ -3,8 +3,7 @@ use Rattle.std.proofs.Common.{◌≡◌, ℕ, ◌+◌, ◌<◌, ◌≤◌, Bool,
 use Rattle.std.proofs.Common.{refl, sym, ◌∙◌, ap, subst, inl, inr, cond, arith, length-take, None, Some, Ok, Err}
 use Rattle.std.specs.Prelude.{◌&&◌}
 use Rattle.std.specs.List.{list_all}
-use Rattle.std.proofs.Math.ListN.{set}
-use Rattle.std.proofs.lemmas.List.{take_more, take_more_set, take_all, take-append-le, map-append, length_push}
+use Rattle.std.proofs.lemmas.List.{take_more, take_all, take-append-le, map-append}
 use Rattle.std.proofs.lemmas.List.Folds.{list_all_at}
 use Rattle.std.proofs.lemmas.Bool.{cases_lt, lt-ltb, ne_eqb}
 use Rattle.lfs_types.specs.Credentials.{cred_fault}
@@ -61,9 +60,6 @@ pub decimals_pass : (all : List (List ℕ)) → list_all is_decimal all ≡ true
     → decimals_fault all ≡ None
 decimals_pass all decimals short = rw (decimals, short) refl
 
-pub decimals_fail : (all : List (List ℕ)) → list_all is_decimal all ≡ false → decimals_fault all ≡ Some Number
-decimals_fail all malformed = rw malformed refl
-
 many_fault : (uid : ℕ) (gs : List ℕ) (init : Bool) → 16 < length gs → cred_fault uid gs init ≡ Some TooManyGroups
 many_fault uid gs init many =
     rw (ne_eqb (length gs) 0 (λ e. omega arith), lt-ltb 16 (length gs) many) refl
@@ -108,15 +104,6 @@ pub group_more : (all : List (List ℕ)) (i v : ℕ) (word : List ℕ) → i < l
 group_more all i v word within value here =
     take_twice (map decimal_value (take i all)) (v ∷ [])
     ∙ ap (λ xs. take 17 xs) (sym (pushed all i v word within value here))
-
--- what a group that is pushed leaves
-pub push_kept : (kept : List ℕ) (count v : ℕ) → length kept ≡ 17 → count < 17 → take (count + 1) (set kept count v)
-    ≡ take 17 (take count kept ++ v ∷ [])
-push_kept kept count v room lt =
-    let more = take_more_set kept count v (omega arith) in
-    let fits : length (take count kept ++ v ∷ []) ≤ 17 =
-    omega (arith, length_push (take count kept) v, length-take count kept) in
-    more ∙ sym (take_all 17 (take count kept ++ v ∷ []) fits)
 
 pub push_full : (kept : List ℕ) (count v : ℕ) → length kept ≡ 17 → count ≤ 17 → 17 ≤ count → take count kept
     ≡ take 17 (take count kept ++ v ∷ [])

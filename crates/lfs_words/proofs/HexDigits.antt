@@ -1,14 +1,12 @@
 -- Bytes are read from their digits.
 use Rattle.std.proofs.Common.{◌≡◌, ℕ, ◌≤◌, Ok, false, ◌+◌, ◌*◌, ◌/◌, ◌%◌, ◌<◌, List, [], ◌∷◌, ◌++◌, length, take}
-use Rattle.std.proofs.Common.{get_or, refl, ap, sym, ◌∙◌, arith, append_assoc, true, ◌==◌, nat_lt}
-use Rattle.std.specs.Prelude.{◌&&◌}
+use Rattle.std.proofs.Common.{get_or, refl, ap, sym, ◌∙◌, arith, append_assoc, true}
 use Rattle.std.specs.Char.{digit_char, digit_value}
-use Rattle.std.specs.List.{list_all}
 use Rattle.std.specs.Prelude.{slice_set}
 use Rattle.std.proofs.lemmas.List.{length-set, take_more, take_more_set}
 use Rattle.std.proofs.lemmas.Str.{digit_value-digit_char}
-use Rattle.std.proofs.lemmas.Bool.{ltb-true, le-ltb, eqb-true, and_parts}
-use Rattle.lfs_words.specs.BytesText.{hex_text, hex_bytes, bytes_of, is_dash, is_hex, is_hex_digit}
+use Rattle.std.proofs.lemmas.Bool.{le-ltb}
+use Rattle.lfs_words.specs.BytesText.{hex_text, hex_bytes, bytes_of, is_dash, is_hex}
 
 pub hex_text-push : (bs : List ℕ) (b : ℕ) → hex_text (bs ++ b ∷ []) ≡ hex_text bs
     ++ (digit_char (b / 16) ∷ digit_char (b % 16) ∷ [])
@@ -43,13 +41,6 @@ hex_step digits bs k b lt so_far spelled =
     ∙ ap (λ (xs : List ℕ). hex_text bs ++ xs) spelled
     ∙ ap (λ (xs : List ℕ). xs ++ (get_or digits (2 * k) 0 ∷ get_or digits (2 * k + 1) 0 ∷ [])) so_far
     ∙ sym (taken ∙ two)
-
-pub hex_parts : (digits : List ℕ) → is_hex digits ≡ true → (0 < length digits) × (length digits % 2 ≡ 0)
-    × (list_all is_hex_digit digits ≡ true)
-hex_parts digits h =
-    let outer = and_parts (nat_lt 0 (length digits) && (length digits % 2 == 0)) (list_all is_hex_digit digits) h in
-    let inner = and_parts (nat_lt 0 (length digits)) (length digits % 2 == 0) outer.0 in
-    (ltb-true 0 (length digits) inner.0, eqb-true (length digits % 2) 0 inner.1, outer.1)
 
 hex_bytes-hex_push : (bs : List ℕ) (b : ℕ) → hex_bytes (hex_text (bs ++ b ∷ [])) ≡ hex_bytes (hex_text bs)
     ++ (16 * digit_value (digit_char (b / 16)) + digit_value (digit_char (b % 16))) ∷ []

@@ -1,6 +1,5 @@
 pub mod Appended
 pub mod CallerBack
-pub mod FaultLemmas
 pub mod FirstByte
 pub mod FlagDigits
 pub mod GroupLists

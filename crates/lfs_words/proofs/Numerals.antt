@@ -1,13 +1,13 @@
 -- What std reads of a word of digits alone.
-use Rattle.std.proofs.Common.{◌≡◌, ℕ, ◌^◌, ◌<◌, ◌≤◌, nat_lt, true, false, List, [], ◌∷◌, length, get_or, Ok, Err, refl}
+use Rattle.std.proofs.Common.{◌≡◌, ℕ, ◌^◌, ◌<◌, ◌≤◌, nat_lt, true, List, [], ◌∷◌, length, get_or, Err, refl}
 use Rattle.std.proofs.Common.{subst, arith, ◌≢◌, inl, inr}
 use Rattle.std.specs.Prelude.{nat_le, ◌&&◌}
 use Rattle.std.specs.Char.{is_digit, digit_value}
 use Rattle.std.specs.List.{list_all}
 use Rattle.std.specs.Str.Parse.{AllDigits, IsNumeral, digits_value, without_leading_plus, ParsesUnsigned}
 use Rattle.std.proofs.lemmas.Str.Parse.{without_leading_plus_none}
-use Rattle.std.proofs.lemmas.Bool.{ltb-true, le-leb, lt-leb, and_parts, cases_lt}
-use Rattle.lfs_words.specs.declared.fault.FaultKind.TheVariants.{Number, Range}
+use Rattle.std.proofs.lemmas.Bool.{ltb-true, lt-leb, and_parts, cases_lt}
+use Rattle.lfs_words.specs.declared.fault.FaultKind.TheVariants.{Range}
 use Rattle.lfs_words.specs.Numbers.{is_numeral, number_of}
 
 abbrev pub AreDigits : ℕ → List ℕ → Type 0
@@ -31,10 +31,6 @@ plain radix word low digits = without_leading_plus_none word (no_plus radix word
 same : (radix : ℕ) (word : List ℕ) → radix ≤ 10 → AreDigits radix word → without_leading_plus word ≡ word
 same radix word low alone = plain radix word (omega arith) (all_digits radix word alone)
 
-pub reads_ok : (E : Type 0) (radix : ℕ) (word : List ℕ) (v : ℕ) → radix ≤ 10 → AreDigits radix word
-    → ParsesUnsigned {E = E} 64 radix word (Ok v) → v ≡ digits_value radix word
-reads_ok E radix word v low alone h = subst (λ bs. v ≡ digits_value radix bs) (same radix word low alone) h.1
-
 pub reads_err : (E : Type 0) (radix : ℕ) (word : List ℕ) (e : E) → radix ≤ 10 → 0 < length word → AreDigits radix word
     → ParsesUnsigned {E = E} 64 radix word (Err e) → 2 ^ 64 ≤ digits_value radix word
 reads_err E radix word e low some alone h =
@@ -52,14 +48,6 @@ numeral_parts radix most word h =
     let inner = and_parts (nat_lt 0 (length word)) (nat_le (length word) most) outer.0 in
     (ltb-true 0 (length word) inner.0, outer.1)
 
-pub number_within : (radix most limit : ℕ) (word : List ℕ) → is_numeral radix most word ≡ true
-    → digits_value radix word ≤ limit → number_of radix most limit word ≡ Ok (digits_value radix word)
-number_within radix most limit word numeral le = rw (numeral, le-leb (digits_value radix word) limit le) refl
-
 pub number_past : (radix most limit : ℕ) (word : List ℕ) → is_numeral radix most word ≡ true
     → limit < digits_value radix word → number_of radix most limit word ≡ Err Range
 number_past radix most limit word numeral lt = rw (numeral, lt-leb (digits_value radix word) limit lt) refl
-
-pub number_malformed : (radix most limit : ℕ) (word : List ℕ) → is_numeral radix most word ≡ false
-    → number_of radix most limit word ≡ Err Number
-number_malformed radix most limit word malformed = rw malformed refl
