@@ -31,6 +31,6 @@ changed:
 docs:
     python3 scripts/check-docs.py
 
-# the gate: half an hour on four processors
+# the gate: hours from nothing, minutes where little changed
 gate:
     .ci/run

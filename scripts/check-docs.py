@@ -7,7 +7,8 @@ the map of docs/ARCHITECTURE.md must be the same, and a crate must lead to what 
 and replace a text that stands once, and each one that is named be there. Links must lead somewhere, no line may name a place of one machine, the tables of
 docs/TRUST.md must be those that scripts/reading-list.py makes, docs/SPEC.md is what scripts/spec-page.py makes, the
 manual pages have the options that the programs take, the tutorial shows its scripts as the gate runs them, and README.md
-with the pages of docs/ that are written by hand stays under 160 KiB.
+with the pages of docs/ that are written by hand stays under 160 KiB. No line of a definition or a proof has above 150
+columns (scripts/wrap-proofs.py).
 
 Prints FILE:LINE: WHAT for each problem and ends with status 1, else one line.
 """
@@ -341,6 +342,8 @@ def main():
     ran = subprocess.run([sys.executable, TOP / "scripts/man-pages.py"], capture_output=True, text=True)
     if ran.returncode:
         told(TOP / "docs/man/lfsd.1", 1, (ran.stdout + ran.stderr).strip())
+    ran = subprocess.run([sys.executable, TOP / "scripts/wrap-proofs.py", "--check"], capture_output=True, text=True)
+    problems += (ran.stdout + ran.stderr).splitlines()
     if problems:
         print("\n".join(problems))
         return 1

@@ -5,10 +5,11 @@ from pathlib import Path
 
 TOP = Path(__file__).resolve().parent.parent
 LAYERS = {
-    "values, rules and the model": "types rules dirs model laws checks explain",
-    "calls, volume and sessions": "calls namecache slots attrcache dirhints flatfiles volume settle cleaner server",
-    "the log": "segments ifile inodes bmap log recency cache staging segwrite logstore view film",
-    "texts and programs": "words print script io audit live options programs fuse_wire",
+    "values, rules and the model": "types rules dirs model laws checks explain why who",
+    "calls, volume and sessions": "calls known flatfiles volume trace settle cleaner server",
+    "the log": "segments ifile inodes bmap log recency cache staging segwrite logstore fsck image trees view",
+    "a mount": "fuse_wire fuse_reply nodes fuse_calls stamps mount fuse_talk",
+    "texts and programs": "words print script journal_lines io audit live film programs auditing checking",
 }
 
 
