@@ -3,3 +3,4 @@ pub mod MapText
 pub mod SegmentText
 pub mod SpaceText
 pub mod Rows
+pub mod Owners

@@ -4,6 +4,7 @@
 pub mod cells;
 pub mod life;
 mod map;
+pub mod owners;
 mod padding;
 pub mod records;
 pub mod rows;

@@ -11,7 +11,7 @@ use lfs_staging::parts::Parts;
 use std::alloc::{AllocError, Global};
 use std::marker::Model;
 
-/// The line of a segment in a map, with its line feed.
+/// What is told of a segment: its line in a map, with its line feed, or whose its blocks are.
 #[derive(Drop)]
 pub struct Row {
     text: Vec<u8>,
@@ -26,7 +26,14 @@ impl Model for Row {
 }
 
 impl Row {
-    /// The text of the line.
+    /// One of this text.
+    pub(crate) fn new(text: Vec<u8>) -> Row
+        ensures { result ≡ text.items }
+    {
+        Row { text }
+    }
+
+    /// The text.
     pub fn as_bytes(&self) -> &[u8]
         ensures { result.now ≡ self.now }
     {
@@ -58,7 +65,7 @@ fn row_of(alloc: Global, parts: &Parts, segment: u32) -> Result<Row, AllocError>
 {
     let mut text = Vec::new(alloc);
     push_row(alloc, &mut text, parts, segment)?;
-    Ok(Row { text })
+    Ok(Row::new(text))
 }
 
 /// The line of a map that tells how many blocks and how many records wait to be written, with its line feed.
