@@ -25,7 +25,7 @@ pub(crate) fn changed_rows<'a>(
 }
 
 /// The row of a number: empty where there is none.
-fn row_at(rows: &[Row], number: usize) -> &[u8]
+pub(crate) fn row_at(rows: &[Row], number: usize) -> &[u8]
     ensures { result.now ≡ row_at rows.now number }
 {
     match rows.get(number) {

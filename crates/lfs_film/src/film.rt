@@ -3,16 +3,19 @@
 ghost use Rattle.std.specs.Prelude.{◌≡◌, ◌≤◌, length, IfOk, OnErr, OnOk};
 ghost use Rattle.std.specs.Io.KnownBytes.{Appends};
 ghost use Rattle.lfs_film.specs.Films.{empty_reel, frame_of, page_text, with_frame_text, with_line};
-ghost use Rattle.lfs_film.specs.Frames.{changed_rows};
+ghost use Rattle.lfs_film.specs.Frames.{changed_owners, changed_rows};
 ghost use Rattle.lfs_view.specs.MapText.{waiting_text};
+ghost use Rattle.lfs_view.specs.Owners.{owners_of};
 ghost use Rattle.lfs_view.specs.Rows.{rows_of};
 
 use crate::changed::changed_rows;
-use crate::frame::frame;
+use crate::frame::{begin, end};
+use crate::owners::push_owners;
 use crate::page::write_parts;
 use crate::quoting::{short_line, short_told};
 use lfs_io::output::WriteFault;
 use lfs_logstore::LogStore;
+use lfs_view::owners::owners;
 use lfs_view::rows::{Row, rows, waiting};
 use std::alloc::{AllocError, Global};
 use std::io::Write;
@@ -25,6 +28,7 @@ pub const FRAMES_MAX: usize = 19_000_000;
 #[derive(Drop)]
 pub struct Film {
     rows: Vec<Row>,
+    owners: Vec<Row>,
     waiting: Vec<u8>,
     lines: u64,
     frames: Vec<u8>,
@@ -39,6 +43,7 @@ impl Model for Film {
 
     ghost view = { λ f. record {
       rows = f.rows.items;
+      owners = f.owners.items;
       waiting = f.waiting.items;
       lines = f.lines;
       frames = f.frames.items;
@@ -55,6 +60,7 @@ impl Film {
     {
         Film {
             rows: Vec::new(alloc),
+            owners: Vec::new(alloc),
             waiting: Vec::new(alloc),
             lines: 0,
             frames: Vec::new(alloc),
@@ -64,8 +70,9 @@ impl Film {
 
     /// Is shown a line without its line feed, the text that was told of it, and the log as the line left it. There is
     /// one more frame: how many lines were shown before, at most 160 bytes of the line and 1,000 of the text, what
-    /// waits, and the rows of the log's map that are others than before, which may be none. From the first frame on with
-    /// which the text of the frames would have more than 19,000,000 bytes, no more are kept.
+    /// waits, the rows of the log's map that are others than before, which may be none, and whose the blocks are that
+    /// were written. From the first frame on with which the text of the frames would have more than 19,000,000 bytes, no
+    /// more are kept.
     ///
     /// # Errors
     ///
@@ -78,17 +85,21 @@ impl Film {
         store: &LogStore,
     ) -> Result<(), AllocError>
         ensures shown { OnOk result
-            (self.new ≡ with_line self.old line.now told.now (rows_of store.now) (waiting_text store.now)) }
+            (self.new ≡ with_line self.old line.now told.now (rows_of store.now) (owners_of store.now)
+            (waiting_text store.now)) }
         ensures kept { OnErr result (self.new ≡ self.old) }
     {
         let Some(lines) = self.lines.checked_add(1) else {
             return Err(AllocError);
         };
         let rows = rows(alloc, store)?;
+        let owners = owners(alloc, store)?;
         let waiting = waiting(alloc, store)?;
-        let frame = self.frame_of(alloc, line, told, rows.as_slice(), waiting.as_slice())?;
+        let (rows_now, owners_now) = (rows.as_slice(), owners.as_slice());
+        let frame = self.frame_of(alloc, line, told, waiting.as_slice(), rows_now, owners_now)?;
         self.add(frame.as_slice())?;
         self.rows = rows;
+        self.owners = owners;
         self.waiting = waiting;
         self.lines = lines;
         Ok(())
@@ -100,17 +111,21 @@ impl Film {
         alloc: Global,
         line: &[u8],
         told: &[u8],
-        rows: &[Row],
         waiting: &[u8],
+        rows: &[Row],
+        owners: &[Row],
     ) -> Result<Vec<u8>, AllocError>
-        ensures { IfOk result (λ text. text.items ≡
-            frame_of self.now.lines line.now told.now waiting.now (changed_rows self.now.rows rows.now)) }
+        ensures { IfOk result (λ text. text.items ≡ frame_of self.now.lines line.now told.now waiting.now
+            (changed_rows self.now.rows rows.now) (changed_owners self.now.owners owners.now)) }
     {
         let rows = changed_rows(alloc, self.rows.as_slice(), rows)?;
         let line = short_line(alloc, line)?;
         let told = short_told(alloc, told)?;
         let head = [line.as_slice(), told.as_slice(), waiting];
-        frame(alloc, self.lines, &head, rows.as_slice())
+        let mut text = begin(alloc, self.lines, &head, rows.as_slice())?;
+        push_owners(alloc, &mut text, self.owners.as_slice(), owners)?;
+        end(&mut text)?;
+        Ok(text)
     }
 
     /// Adds a frame, where it finds room.

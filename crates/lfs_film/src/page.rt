@@ -2,8 +2,10 @@
 
 ghost use Rattle.std.specs.Prelude.{◌≡◌, OnOk};
 ghost use Rattle.std.specs.Io.KnownBytes.{Appends};
-ghost use Rattle.lfs_film.specs.Films.{code_text, head_text, page_of, seen_text, story_text, tail_text, told_of};
+ghost use Rattle.lfs_film.specs.Films.{code_text, head_text, page_of, seen_text, shown_text, story_text, tail_text, told_of};
 
+use crate::blocks::BLOCKS;
+use crate::checks::CHECKS;
 use crate::script::SCRIPT;
 use crate::states::STATES;
 use crate::style::STYLE;
@@ -54,6 +56,11 @@ pub const BODY: &[u8] = br#"</style></head><body>
 <p id="cell" aria-live="polite"></p>
 </section>
 <aside>
+<section id="checks">
+<h2>The rules asked, in order</h2>
+<div id="asked"></div>
+</section>
+<section id="legend">
 <h2>A block</h2>
 <p><i data-sign="S"></i> <b>Summary</b>: names the blocks behind it, up to the next one: whose they are.</p>
 <p><i data-sign="D"></i> <b>Data</b>: bytes of a file, or names of a directory.</p>
@@ -63,12 +70,14 @@ pub const BODY: &[u8] = br#"</style></head><body>
 <p><i data-sign="d"></i> <i data-sign="i"></i> <i data-sign="r"></i> <b>Dead</b>: there is a newer one, or the file is
 gone.</p>
 <p><i data-sign="L"></i> <b>Label</b>: how large the volume is. <i data-sign="."></i> Not written.</p>
-<p><i data-sign="D" class="other"></i> <b>Outlined</b>: this line changed it.</p>
+<p><i data-sign="D" class="other"></i> <b>Outlined</b>: this line changed it.
+<i data-sign="d" class="left"></i> <i data-sign="D" class="came"></i> Where the cleaner took it from, and where to.</p>
 <h2>A segment: 64 blocks</h2>
 <p><b class="active">Active</b>: the log is being written here, from left to right, and never over what is there.</p>
 <p><b>Dirty</b>: was written. The cleaner writes again what is live in it, and then it is clean.</p>
 <p><b class="clean">Clean</b>: nothing in it is live; the log may go on here.</p>
 <p><span class="live" style="--share:40%">13000</span> <b>Live bytes</b>: 512 for a block, 128 for a record.</p>
+</section>
 </aside>
 </main>
 "#;
@@ -148,7 +157,7 @@ fn write_code<W: Write>(writer: &mut W) -> Result<(), WriteFault>
     ensures { OnOk result (Appends (W.contents writer.old) (W.contents writer.new) code_text) }
 {
     write_story(writer)?;
-    write_text(writer, SCRIPT)
+    write_shown(writer)
 }
 
 /// Writes what the script knows: words, states and the tree.
@@ -158,4 +167,13 @@ fn write_story<W: Write>(writer: &mut W) -> Result<(), WriteFault>
     write_text(writer, WORDS)?;
     write_text(writer, STATES)?;
     write_text(writer, TREE)
+}
+
+/// Writes what the script shows: blocks, checks, and the rest.
+fn write_shown<W: Write>(writer: &mut W) -> Result<(), WriteFault>
+    ensures { OnOk result (Appends (W.contents writer.old) (W.contents writer.new) shown_text) }
+{
+    write_text(writer, BLOCKS)?;
+    write_text(writer, CHECKS)?;
+    write_text(writer, SCRIPT)
 }

@@ -1,12 +1,12 @@
 //! The script of a film's page: what it shows, and how one goes through it.
 
 /// The last part of the script, in JavaScript.
-pub const SCRIPT: &[u8] =
-    br#"const SEGMENT = 64, SEGMENT_BYTES = 32768, PAGE = 10, FEWEST_LETTERS = 9;
+pub const SCRIPT: &[u8] = br#"const SEGMENT_BYTES = 32768, PAGE = 10, FEWEST_LETTERS = 9;
 const byId = name => document.getElementById(name);
 const log = byId("log"), slider = byId("at"), jump = byId("jump"), talk = byId("talk");
 const segments = [];
-let at = -1, timer = null, rows = [], outlined = [], cursor = null, inks = {};
+let at = -1, timer = null, shown = { rows: [], owners: [] }, changes = NO_CHANGES, outlined = new Set(), cursor = null, inks = {};
+let owned = { at: -1 };
 
 function element(name, className, parent) {
   const made = document.createElement(name);
@@ -19,7 +19,7 @@ function element(name, className, parent) {
 function addSegment(number) {
   const segment = element("div", "segment", log);
   const parts = { segment, number: element("span", "number", segment), state: element("span", "state", segment),
-    live: element("span", "live", segment), cells: element("canvas", "cells", segment), signs: "", others: new Set() };
+    live: element("span", "live", segment), cells: element("canvas", "cells", segment), signs: "", others: new Set(), left: new Set(), came: new Set() };
   parts.number.textContent = number;
   parts.cells.number = number;
   parts.pen = parts.cells.getContext("2d");
@@ -43,16 +43,17 @@ function readInks() {
   const [data, indirect, records, dead] = ["data", "indirect", "records", "dead"].map(colour), pen = segments[0].pen;
   inks = { D: data, I: indirect, R: records, S: colour("summary"), L: colour("label"), p: dead, ".": dead,
     d: stripes(pen, data, dead), i: stripes(pen, indirect, dead), r: stripes(pen, records, dead),
-    records, ink: colour("ink"), ground: colour("ground"), cursor: colour("denied") };
+    records, ink: colour("ink"), ground: colour("ground"), cursor: colour("denied"), moved: colour("moved") };
 }
 
-function drawFrame(pen, x, width, height, line, ink) {
+function drawFrame(pen, x, width, height, line, ink, dashes = []) {
   pen.strokeStyle = ink;
   pen.lineWidth = line;
+  pen.setLineDash(dashes);
   pen.strokeRect(x + line / 2, line / 2, width - line, height - line);
 }
 
-function drawCell({ pen, cells, signs, others }, block, letters) {
+function drawCell({ pen, cells, signs, others, left, came }, block, letters) {
   const x = Math.round(block * cells.width / SEGMENT), next = Math.round((block + 1) * cells.width / SEGMENT);
   const width = next - x - 1, height = cells.height, sign = signs[block];
   pen.fillStyle = inks[sign];
@@ -66,8 +67,20 @@ function drawCell({ pen, cells, signs, others }, block, letters) {
     pen.fillText(sign, x + width / 2, height / 2 + 1);
   }
   if (others.has(block)) drawFrame(pen, x, width, height, 2, inks.ink);
-  if (cursor && cursor[0] === cells.number && cursor[1] === block) drawFrame(pen, x, width, height, 3, inks.cursor);
+  if (came.has(block)) drawFrame(pen, x, width, height, 3, inks.moved);
+  if (left.has(block)) drawFrame(pen, x, width, height, 3, inks.moved, [4, 3]);
+  if (isPointed(SEGMENT * cells.number + block)) drawFrame(pen, x, width, height, 4, inks.cursor);
 }
+
+// The cursor's block, and the old or the new places of what stands there, where the line wrote it again.
+function pointedAt() {
+  if (!cursor) return [];
+  const address = SEGMENT * cursor[0] + cursor[1];
+  return [address, ...oldPlaces(address, changes), ...newPlaces(address, changes)];
+}
+
+let pointed = [];
+const isPointed = address => pointed.includes(address);
 
 function drawCells(parts) {
   const { pen, cells } = parts, letters = cells.width / SEGMENT >= FEWEST_LETTERS * devicePixelRatio;
@@ -83,7 +96,10 @@ function drawAll() {
   segments.forEach(drawCells);
 }
 
-// Paints a row, and outlines what it has that it had not in the frame before.
+// The blocks of a segment among addresses.
+const within = (number, addresses) => new Set(addresses.filter(address => segmentOf(address) === number).map(blockOf));
+
+// Paints a row, and outlines what the line wrote or made another, and the old and the new place of what the cleaner moved.
 function paintRow(text, before) {
   const { number, state, live, signs } = rowParts(text), parts = segments[number], old = before && rowParts(before).signs;
   parts.segment.className = "segment " + state + (before && before !== text ? " other" : "");
@@ -91,20 +107,26 @@ function paintRow(text, before) {
   parts.live.textContent = live;
   parts.live.style.setProperty("--share", 100 * live / SEGMENT_BYTES + "%");
   parts.signs = signs;
-  parts.others = new Set();
+  parts.others = within(number, [...changes.written]);
+  const moves = changes.moves.filter(({ moved }) => moved);
+  parts.left = within(number, moves.map(({ from }) => from));
+  parts.came = within(number, moves.map(({ to }) => to));
   for (let block = 0; old && block < SEGMENT; block++) if (signs[block] !== old[block]) parts.others.add(block);
   drawCells(parts);
 }
 
 function paintLog(to) {
-  const before = to > 0 ? rowsAt(to - 1) : [], now = rowsAt(to), changed = [];
-  now.forEach((row, number) => {
-    const isOther = to > 0 && row !== before[number];
-    if (isOther || row !== rows[number] || outlined.includes(number)) paintRow(row, before[number]);
-    if (isOther) changed.push(number);
+  const before = to > 0 ? logAt(to - 1) : { rows: [], owners: [] }, now = logAt(to), touched = new Set();
+  changes = to > 0 ? changesIn(frames[to], before, now) : NO_CHANGES;
+  pointed = pointedAt();
+  for (const address of changes.written) touched.add(segmentOf(address));
+  for (const { from } of changes.moves) touched.add(segmentOf(from));
+  now.rows.forEach((row, number) => {
+    if (to > 0 && row !== before.rows[number]) touched.add(number);
+    if (touched.has(number) || row !== shown.rows[number] || outlined.has(number)) paintRow(row, before.rows[number]);
   });
-  outlined = changed;
-  rows = now;
+  outlined = touched;
+  shown = now;
 }
 
 // Shows a line, with the place that a denial is about.
@@ -134,6 +156,8 @@ function addRow({ from, path, depth, more }, caller, { before, judged }) {
   const line = element("div", "row", byId("tree"));
   if (more) return line.textContent = more + " more names";
   const judge = classOf(caller, from), now = JSON.stringify({ ...from, names: 0 });
+  line.number = from.number;
+  element("span", "number", line).textContent = from.number;
   element("span", "mode", line).append(from.kind === "dir" ? "d" : "-", ...classesOf(from).map(([name, letters]) => {
     const part = document.createElement(name === judge ? "b" : "span");
     part.textContent = letters;
@@ -167,17 +191,45 @@ function shownBefore(paths) {
   return new Map(rows.map(({ from, path }) => [path, JSON.stringify({ ...from, names: 0 })]));
 }
 
-// Tells of the cell under the cursor.
+// Shows the checks of a denied call, or of one that `.why` asks about, in the place of the legend.
+function paintChecks() {
+  const checks = checksAt(at), list = byId("asked"), aside = document.querySelector("aside"), { root } = treeAt(at);
+  aside.classList.toggle("asks", checks !== null);
+  list.replaceChildren();
+  for (const check of checks ?? []) {
+    const [where, detail] = subjectWords(check, lineAt(at), root, callerOf(at)), row = element("p", check.met ? "" : "unmet", list);
+    element("b", "", row).textContent = check.rule;
+    element("span", "", row).textContent = ASKS[check.rule];
+    element("span", "of", row).textContent = where + (where && detail ? ": " : "") + detail;
+    element("b", "", row).textContent = check.met ? "yes" : "no";
+  }
+  aside.scrollTop = checks ? aside.scrollHeight : 0;
+}
+
+// The paths of the tree by number, and the versions of what is live, as this frame has them.
+function ownedNow() {
+  const { root, known } = treeAt(at);
+  if (owned.at !== at) owned = { at, paths: known ? pathsByNumber(root) : new Map(), versions: versionsIn(shown) };
+  return owned;
+}
+
+// Tells of the cell under the cursor, and marks the rows of the tree whose it is.
 function tellCell() {
-  byId("cell").textContent = cursor ? cellWords(rowParts(rows[cursor[0]]), cursor[1])
+  const [number, block] = cursor ?? [], names = cursor ? shown.owners[number][block] ?? [] : [];
+  const { paths, versions } = cursor ? ownedNow() : {};
+  const numbers = names.filter(name => isPresent(name, versions)).map(name => parseInt(name, 10));
+  for (const row of byId("tree").children) row.classList.toggle("pointed", numbers.includes(row.number));
+  byId("cell").textContent = cursor
+    ? cellWords(rowParts(shown.rows[number]), block, names, versions, paths) + moveWords(SEGMENT * number + block, changes)
     : "Point at a block, or go to the segments by Tab and the arrows.";
 }
 
 function setCursor(number, block) {
-  const from = cursor;
+  if (cursor && cursor[0] === number && cursor[1] === block) return;
+  const from = pointed;
   cursor = [number, block];
-  if (from) drawCells(segments[from[0]]);
-  drawCells(segments[number]);
+  pointed = pointedAt();
+  for (const segment of new Set([...from, ...pointed].map(segmentOf))) drawCells(segments[segment]);
   tellCell();
 }
 
@@ -194,6 +246,7 @@ function show(to) {
   at = to;
   paintTalk();
   paintTree();
+  paintChecks();
   tellCell();
   slider.value = jump.value = at;
   byId("where").textContent = "of " + last;
@@ -262,8 +315,8 @@ function moveCursor(key) {
   const [number, block] = cursor ?? [0, 0];
   const moves = { ArrowLeft: [0, -1], ArrowRight: [0, 1], ArrowUp: [-1, 0], ArrowDown: [1, 0] };
   const [down, right] = cursor ? moves[key] : [0, 0];
-  const within = (value, count) => Math.max(0, Math.min(count - 1, value));
-  setCursor(within(number + down, segments.length), within(block + right, SEGMENT));
+  const inside = (value, count) => Math.max(0, Math.min(count - 1, value));
+  setCursor(inside(number + down, segments.length), inside(block + right, SEGMENT));
 }
 
 const KEYS = {
@@ -311,7 +364,7 @@ matchMedia("(prefers-color-scheme: dark)").onchange = drawAll;
 readFilm();
 readTrees();
 slider.max = jump.max = last;
-rowsAt(0).forEach((_, number) => addSegment(number));
+logAt(0).rows.forEach((_, number) => addSegment(number));
 addMarks();
 show(+location.hash.slice(1));
 fit();

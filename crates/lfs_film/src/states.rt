@@ -1,8 +1,8 @@
 //! The states of a film's page: what each frame shows.
 
 /// The second part of the script, in JavaScript. A frame is a line of JSON: the number of the line, the line, what was
-/// told of it, what waits, and the rows that are new. Each 64th frame's whole rows are kept, so that any frame's are
-/// found by at most 63 steps.
+/// told of it, what waits, the rows that are new, and whose the blocks are that were written. Each 64th frame's whole log
+/// is kept, so that any frame's is found by at most 63 steps.
 pub const STATES: &[u8] = br#"const KEY_STEP = 64;
 const frames = document.getElementById("film").textContent.trim().split("\n").map(text => JSON.parse(text));
 const last = frames.length - 1;
@@ -11,10 +11,32 @@ const isComment = line => line.startsWith('#');
 const isChapter = line => line.startsWith('##');
 const commentText = line => line.replace(/^#+ */, "");
 
-// Puts the new rows of a frame among the rows.
-function apply(rows, frame) {
-  for (let n = 4; n < frame.length; n++) rows[parseInt(frame[n], 10)] = frame[n];
+const isOwners = text => text[0] === "+" || text[0] === "=";
+
+// What stands in a block, by name: `NUMBER VERSION BLOCK` for a block of a file, `NUMBER VERSION` for each record.
+const namesIn = part => part[0] === " " ? part.match(/\d+ \d+/g) : part ? [part] : [];
+
+// A text of owners: the segment, the first block that it is about, and the names of that block and those behind it.
+function ownersIn(text, owners) {
+  const space = text.indexOf(" "), number = +text.slice(1, space), start = text[0] === "+" ? owners[number].length : 0;
+  return { number, start, names: text.slice(space + 1).split(";").slice(0, -1).map(namesIn) };
 }
+
+// Puts what is new in a frame into the log: rows, and whose the blocks are.
+function apply({ rows, owners }, frame) {
+  for (let n = 4; n < frame.length; n++) {
+    const text = frame[n];
+    if (!isOwners(text)) {
+      rows[parseInt(text, 10)] = text;
+      owners[parseInt(text, 10)] ??= [];
+    } else {
+      const { number, start, names } = ownersIn(text, owners);
+      owners[number] = owners[number].slice(0, start).concat(names);
+    }
+  }
+}
+
+const copyOfLog = ({ rows, owners }) => ({ rows: rows.slice(), owners: owners.slice() });
 
 // The kind of mark that a frame has on the slider.
 function markOf(line, told) {
@@ -28,14 +50,14 @@ function markOf(line, told) {
 const keys = [], marks = [], chapters = [];
 const callers = new Int32Array(last + 1), captions = new Int32Array(last + 1);
 
-// Goes once through the film: whole rows, marks, and for each frame its caller's line and its caption's.
+// Goes once through the film: whole logs, marks, and for each frame its caller's line and its caption's.
 function readFilm() {
-  const rows = [];
+  const log = { rows: [], owners: [] };
   let caller = 0, caption = 0;
   frames.forEach((frame, at) => {
     const [, line, told] = frame;
-    apply(rows, frame);
-    if (at % KEY_STEP === 0) keys.push(rows.slice());
+    apply(log, frame);
+    if (at % KEY_STEP === 0) keys.push(copyOfLog(log));
     if (line.startsWith("as ") && !FAULT.test(told)) caller = at;
     if (isComment(line)) caption = at;
     callers[at] = caller;
@@ -46,11 +68,11 @@ function readFilm() {
   });
 }
 
-// The rows as a frame shows them.
-function rowsAt(at) {
-  const key = Math.floor(at / KEY_STEP), rows = keys[key].slice();
-  for (let n = key * KEY_STEP + 1; n <= at; n++) apply(rows, frames[n]);
-  return rows;
+// The log as a frame shows it: its rows, and whose its blocks are.
+function logAt(at) {
+  const key = Math.floor(at / KEY_STEP), log = copyOfLog(keys[key]);
+  for (let n = key * KEY_STEP + 1; n <= at; n++) apply(log, frames[n]);
+  return log;
 }
 
 // The parts of a row.

@@ -4,11 +4,11 @@
 pub const STYLE: &[u8] = br#"
 :root { color-scheme: light dark; --ground: #fff; --ink: #1a1a1a; --faint: #ccc; --pane: #f3f4f6; --dead: #f4f4f4;
   --data: #0072b2; --indirect: #e69f00; --records: #cc79a7; --summary: #666; --label: #111;
-  --denied: #b00020; --denied-pane: #fde7ea; --refused: #9a5b00; --refused-pane: #fdf0dc; --mark: #ffd75e; }
+  --denied: #b00020; --denied-pane: #fde7ea; --refused: #9a5b00; --refused-pane: #fdf0dc; --mark: #ffd75e; --moved: #d55e00; }
 @media (prefers-color-scheme: dark) { :root:not(.printed) { --ground: #16181c; --ink: #e6e6e6; --faint: #3a3d44;
   --pane: #22252b; --dead: #24262b; --data: #56b4e9; --indirect: #f0b840; --records: #d895bd; --summary: #999;
   --label: #eee; --denied: #ff8a98; --denied-pane: #43161d; --refused: #ffbe5c; --refused-pane: #3b2a10;
-  --mark: #7a5c00; } }
+  --mark: #7a5c00; --moved: #ff8c42; } }
 * { box-sizing: border-box; }
 html { font: clamp(14px, 1.1vw, 20px)/1.35 sans-serif; }
 body { background: var(--ground); color: var(--ink); margin: 0; padding: 0.5rem 0.8rem; height: 100vh;
@@ -45,6 +45,8 @@ header small { margin-left: auto; opacity: 0.75; }
 .row .mode b { background: var(--mark); }
 .row .who { min-width: 7ch; }
 .row .flags { color: var(--refused); }
+.row .number { min-width: 3ch; text-align: right; opacity: 0.7; }
+.row.pointed { outline: 2px solid var(--denied); outline-offset: -2px; }
 .row.other { font-weight: bold; border-color: var(--ink); }
 .row.judged { background: var(--denied-pane); border-color: var(--denied); }
 mark { background: var(--mark); color: var(--ink); outline: 2px solid var(--denied); }
@@ -56,7 +58,7 @@ main { flex: 1; min-height: 0; display: flex; gap: 1rem; }
   grid-template-rows: repeat(var(--rows, 64), var(--row, 12px)); grid-auto-columns: 1fr;
   font: var(--letter, 10px)/1 monospace; overflow: hidden; }
 #log:focus-visible { outline: 2px solid var(--data); outline-offset: 2px; }
-#cell { height: 1.4em; overflow: hidden; }
+#cell { height: 2.75em; overflow-y: auto; }
 .segment { display: grid; grid-template-columns: 4ch 7ch 6ch 1fr; align-items: center; min-width: 0; }
 .segment .number { text-align: right; padding-right: 1ch; }
 .segment.clean .state, b.clean { opacity: 0.55; }
@@ -84,9 +86,18 @@ i[data-sign="r"] { --c: var(--records); }
 i[data-sign="d"], i[data-sign="i"], i[data-sign="r"] { color: var(--ink);
   background: repeating-linear-gradient(45deg, var(--dead) 0 2px, var(--c) 2px 3px); }
 i.other { outline: 2px solid var(--ink); outline-offset: -2px; }
+i.came { outline: 2px solid var(--moved); outline-offset: -2px; }
+i.left { outline: 2px dashed var(--moved); outline-offset: -2px; }
 aside { flex: none; width: 19rem; overflow-y: auto; font-size: 0.85rem; line-height: 1.3; }
 aside h2 { font-size: 1rem; }
 aside p { margin-bottom: 0.28rem; }
+#checks { display: none; }
+.asks #checks { display: block; }
+.asks #legend { display: none; }
+#asked p { display: grid; grid-template-columns: 2em 7.5em 1fr 2em; column-gap: 0.4em; margin: 0; padding: 0.1rem 0.2rem; }
+#asked { max-width: 34rem; }
+#asked .of { overflow-wrap: anywhere; }
+#asked .unmet { background: var(--denied-pane); color: var(--denied); font-weight: bold; }
 .full { flex: none; }
 @media (max-width: 800px) {
   body, main, #top { height: auto; display: block; }
@@ -100,7 +111,9 @@ aside p { margin-bottom: 0.28rem; }
   header, #scale, #cell { display: none; }
   body, main { display: block; height: auto; }
   #tree { flex: none; overflow: visible; }
-  aside { width: auto; margin-top: 1em; columns: 2; }
+  aside { width: auto; margin-top: 1em; }
+  #legend { columns: 2; }
+  .asks #legend { display: block; }
   * { print-color-adjust: exact; -webkit-print-color-adjust: exact; }
 }
 "#;

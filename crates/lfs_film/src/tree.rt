@@ -1,14 +1,15 @@
 //! The tree of a film's page: what the served lines made of it.
 
 /// The third part of the script, in JavaScript. The tree isn't in the frames: it is what the lines that were served do,
-/// as `docs/RULES.md` says. Each 512th frame's whole tree is kept, so that any frame's is found by at most 511 steps.
+/// as `docs/RULES.md` says, numbers too. Each 512th frame's whole tree is kept, so that any frame's is found by at most
+/// 511 steps.
 pub const TREE: &[u8] =
     br#"const TREE_STEP = 512, ROWS_MOST = 300, NAMES_MOST = 100, SET_ID = 0o6000;
 const FLAG_NAMES = [[0x1, "nodump"], [0x2, "uchg"], [0x4, "uappnd"], [0x10000, "arch"], [0x20000, "schg"], [0x40000, "sappnd"]];
 const CUT = / \.\.$/;
 
-function row(kind, owner, group, mode, flags = 0) {
-  return { kind, owner, group, mode, flags, names: kind === "dir" ? new Map() : null };
+function row(number, kind, owner, group, mode) {
+  return { number, kind, owner, group, mode, flags: 0, names: kind === "dir" ? new Map() : null };
 }
 
 function copied(from) {
@@ -32,20 +33,31 @@ function parentOf(root, path) {
   return [found(root, names), name];
 }
 
-function make(root, caller, kind, path, mode) {
-  const [parent, name] = parentOf(root, path);
-  parent.names.set(name, row(kind, caller.user, parent.group, parseInt(mode, 8)));
+// The least number that no row has, from 4 up; from then on it is used.
+function freeNumber(used) {
+  let number = 4;
+  while (used.has(number)) number++;
+  used.add(number);
+  return number;
 }
 
-function remove(root, path) {
+function make({ root, used }, caller, kind, path, mode) {
   const [parent, name] = parentOf(root, path);
+  parent.names.set(name, row(freeNumber(used), kind, caller.user, parent.group, parseInt(mode, 8)));
+}
+
+function remove({ root, used }, path) {
+  const [parent, name] = parentOf(root, path);
+  used.delete(parent.names.get(name).number);
   parent.names.delete(name);
 }
 
-function move(root, from, to) {
-  const moved = found(root, namesOf(from)), [parent, name] = parentOf(root, to);
-  if (found(root, namesOf(to)) === moved) return;
-  remove(root, from);
+function move(tree, from, to) {
+  const moved = found(tree.root, namesOf(from)), there = found(tree.root, namesOf(to));
+  if (there === moved) return;
+  if (there) remove(tree, to);
+  const [parent, name] = parentOf(tree.root, to), [left, old] = parentOf(tree.root, from);
+  left.names.delete(old);
   parent.names.set(name, moved);
 }
 
@@ -56,20 +68,20 @@ function clearSetId(changed, caller) {
 
 // What each served call does to the tree.
 const EFFECTS = {
-  create: (root, caller, [path, mode]) => make(root, caller, "file", path, mode),
-  mkdir: (root, caller, [path, mode]) => make(root, caller, "dir", path, mode),
-  unlink: (root, caller, [path]) => remove(root, path),
-  rmdir: (root, caller, [path]) => remove(root, path),
-  rename: (root, caller, [from, to]) => move(root, from, to),
-  chmod: (root, caller, [path, mode]) => { found(root, namesOf(path)).mode = parseInt(mode, 8); },
-  chflags: (root, caller, [path, flags]) => { found(root, namesOf(path)).flags = parseInt(flags, 16); },
-  chown: (root, caller, [path, owner, group]) => {
+  create: (tree, caller, [path, mode]) => make(tree, caller, "file", path, mode),
+  mkdir: (tree, caller, [path, mode]) => make(tree, caller, "dir", path, mode),
+  unlink: (tree, caller, [path]) => remove(tree, path),
+  rmdir: (tree, caller, [path]) => remove(tree, path),
+  rename: (tree, caller, [from, to]) => move(tree, from, to),
+  chmod: ({ root }, caller, [path, mode]) => { found(root, namesOf(path)).mode = parseInt(mode, 8); },
+  chflags: ({ root }, caller, [path, flags]) => { found(root, namesOf(path)).flags = parseInt(flags, 16); },
+  chown: ({ root }, caller, [path, owner, group]) => {
     const changed = found(root, namesOf(path));
     Object.assign(changed, { owner: +owner, group: +group });
     clearSetId(changed, caller);
   },
-  length: (root, caller, [path]) => clearSetId(found(root, namesOf(path)), caller),
-  write: (root, caller, words) => {
+  length: ({ root }, caller, [path]) => clearSetId(found(root, namesOf(path)), caller),
+  write: ({ root }, caller, words) => {
     if (words.at(-1) !== "-") clearSetId(found(root, namesOf(words[0])), caller);
   }
 };
@@ -79,17 +91,17 @@ function follow(tree, at) {
   const line = lineAt(at), [verb, ...words] = line.split(" ");
   if (!tree.known || !Object.hasOwn(EFFECTS, verb) || !/^\d+ ok$/m.test(toldAt(at))) return;
   if (CUT.test(line) && verb !== "write") tree.known = false;
-  else EFFECTS[verb](tree.root, callerOf(at), words);
+  else EFFECTS[verb](tree, callerOf(at), words);
 }
 
-const trees = [];
+const trees = [], copyOf = ({ root, used, known }) => ({ root: copied(root), used: new Set(used), known });
 
 // Keeps the trees of some frames, once those before are read.
 function readTrees() {
-  const tree = { root: row("dir", 0, 0, 0o755), known: true };
+  const tree = { root: row(2, "dir", 0, 0, 0o755), used: new Set(), known: true };
   for (let at = 0; at <= last; at++) {
     follow(tree, at);
-    if (at % TREE_STEP === 0) trees.push({ root: copied(tree.root), known: tree.known });
+    if (at % TREE_STEP === 0) trees.push(copyOf(tree));
   }
 }
 
@@ -98,8 +110,7 @@ let latest = { at: Infinity, tree: null };
 function treeAt(at) {
   const key = Math.floor(at / TREE_STEP);
   if (latest.at > at || latest.at < key * TREE_STEP) {
-    const kept = trees[key];
-    latest = { at: key * TREE_STEP, tree: { root: copied(kept.root), known: kept.known } };
+    latest = { at: key * TREE_STEP, tree: copyOf(trees[key]) };
   }
   while (latest.at < at) follow(latest.tree, ++latest.at);
   return latest.tree;
@@ -145,6 +156,17 @@ function rowsOf(root, paths) {
   };
   walk(root, "", 0);
   return seen;
+}
+
+// The paths of a tree, by their numbers.
+function pathsByNumber(root) {
+  const paths = new Map();
+  const walk = (from, path) => {
+    paths.set(from.number, path || "/");
+    for (const [name, below] of from.names ?? []) walk(below, path + "/" + name);
+  };
+  walk(root, "");
+  return paths;
 }
 
 // The path up to a component of it.

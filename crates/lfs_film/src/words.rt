@@ -130,12 +130,4 @@ function waitingWords(text) {
   if (!+blocks && !+records) return "Nothing waits: all is in the log.";
   return counted(+blocks, "block") + " and " + counted(+records, "inode record") + " wait in memory, in no segment yet.";
 }
-
-// What stands in a block of a row, in words.
-function cellWords({ number, signs }, block) {
-  const sign = signs[block], [kind, life] = SIGNS[sign];
-  const behind = sign === "S" ? signs.slice(block + 1).search(/[S.]|$/) : 0;
-  const more = behind ? " (" + counted(behind, "block") + ")" : "";
-  return "segment " + number + ", block " + block + ", address " + (64 * number + block) + ": " + kind + ", " + life + more + ".";
-}
 "#;

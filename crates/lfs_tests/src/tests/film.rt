@@ -52,7 +52,8 @@ pub(super) fn expect_frames(rt: &impl Abort, alloc: Global, page: &[u8], frames:
     assert!(rt; page.ends_with("</script></body></html>\n"));
 }
 
-/// The frame of the fresh log of six segments: the label, a summary and a block with the root's record of 128 bytes.
+/// The frame of the fresh log of six segments: the label, a summary and a block with the root's record of 128 bytes, of
+/// number 2 and version 1.
 const FRESH: &str = "<script id=\"film\" type=\"application/json\">
 [0,\"\",\"\",\"waiting 0 blocks 0 records\\u000a\"\
     ,\"   0 active   128 LSR.............................................................\\u000a\"\
@@ -60,20 +61,23 @@ const FRESH: &str = "<script id=\"film\" type=\"application/json\">
     ,\"   2  clean     0 ................................................................\\u000a\"\
     ,\"   3  clean     0 ................................................................\\u000a\"\
     ,\"   4  clean     0 ................................................................\\u000a\"\
-    ,\"   5  clean     0 ................................................................\\u000a\"]
+    ,\"   5  clean     0 ................................................................\\u000a\"\
+    ,\"+0 ;; 2 1;\"]
 ";
 
 /// A talk of six lines, of which three change nothing.
 pub(super) const TALK: &[u8] = b"create /a 0644\nstat /a\nsync\n\nsync\nwrite /a end 78\n";
 
 /// The frames of its lines. The root's block waits, with the records of the root and of the file; `sync` writes the
-/// block and one block of both records, 512 and 256 bytes, and the record before is dead. A byte makes one block of data
-/// wait. The others change neither a row nor what waits.
+/// block and one block of both records, 512 and 256 bytes, and the record before is dead; behind the summary stand block 0
+/// of number 2 and the records of numbers 2 and 4. A byte makes one block of data wait. The others change neither a row nor
+/// what waits.
 pub(super) const FRAMES: &str =
     "[1,\"create /a 0644\",\"0 ok\\u000a\",\"waiting 1 blocks 2 records\\u000a\"]
 [2,\"stat /a\",\"0 stat 4 file 0 0 0644 00000000 0\\u000a\",\"waiting 1 blocks 2 records\\u000a\"]
 [3,\"sync\",\"0 ok\\u000a\",\"waiting 0 blocks 0 records\\u000a\"\
-    ,\"   0 active   768 LSrSDR..........................................................\\u000a\"]
+    ,\"   0 active   768 LSrSDR..........................................................\\u000a\"\
+    ,\"+0 ;2 1 0; 2 1 4 1;\"]
 [4,\"\",\"\",\"waiting 0 blocks 0 records\\u000a\"]
 [5,\"sync\",\"0 ok\\u000a\",\"waiting 0 blocks 0 records\\u000a\"]
 [6,\"write /a end 78\",\"0 ok\\u000a\",\"waiting 1 blocks 1 records\\u000a\"]
