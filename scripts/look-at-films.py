@@ -6,8 +6,8 @@ look-at-films.py [FILM..] [--browser PROGRAM] [--pictures FOLDER] opens each fil
 in bytes. The time is the script's and the layout's, without the drawing by the browser; a frame that took over 30 ms is tried
 up to four times more, as other work on the machine may have held it up, and the least time counts. Told as faults, with
 status 1: a message in the console or an error of the script; a part of the page that moves or changes its size between
-frames; a page that is larger than the window; a frame that took over 30 ms. Of a film of over 1,000 frames 1,000 are looked
-at, in no order.
+frames; a page that is larger than the window; a frame that took over 30 ms; checks of a `.why` that the page has otherwise
+than they were told. Of a film of over 1,000 frames 1,000 are looked at, in no order.
 With --pictures the frame that ADDRESS names, or the last one, is stored as FOLDER/NAME.png; a film is given as FILM#ADDRESS.
 """
 
@@ -40,7 +40,11 @@ LAST = """<script>
   };
   const timeOf = to => { const start = performance.now(); show(to); root.offsetHeight; return performance.now() - start; };
   const moved = new Set(), times = [], root = document.documentElement, most = 1000;
-  let first = null, longest = 0, slowest = 0, large = 0;
+  const checkWords = ({ rule, path, at, met }) => [rule, path, at, met ? "yes" : "no"].join(" ");
+  const toldWords = told => [...told.matchAll(/^([A-Z][0-9]) .{15} path ([01]) at ([0-9]+) (yes|no)/gm)].map(found => found.slice(1).join(" "));
+  const isUnlike = at => lineAt(at).startsWith(".why ") && (checksAt(at) ?? []).length > 0
+    && checksAt(at).map(checkWords).join() !== toldWords(toldAt(at)).join();
+  let first = null, longest = 0, slowest = 0, large = 0, unlike = 0;
   for (let n = 0; n < Math.min(last + 1, most); n++) {
     const to = last < most ? n : n * 7919 % (last + 1), from = at;
     let took = timeOf(to);
@@ -54,10 +58,11 @@ LAST = """<script>
     first ??= now;
     now.forEach((place, part) => { if (place !== first[part]) moved.add(places[part].id || places[part].tagName); });
     if (root.scrollHeight > innerHeight || root.scrollWidth > innerWidth) large++;
+    if (isUnlike(to)) unlike++;
   }
   const report = document.createElement("pre"), half = times.sort((a, b) => a - b)[times.length >> 1], seen = times.length;
   report.id = "looked";
-  const found = { frames: last + 1, seen, half, longest, slowest, large, moved: [...moved], errors: lookedErrors };
+  const found = { frames: last + 1, seen, half, longest, slowest, large, unlike, moved: [...moved], errors: lookedErrors };
   report.textContent = JSON.stringify(found);
   document.body.appendChild(report);
 }
@@ -93,6 +98,8 @@ def faults_of(report, console):
         faults.append("moves: " + ", ".join(report["moved"]))
     if report["large"]:
         faults.append(f"{report['large']} frames are larger than {WIDTH} by {HEIGHT}")
+    if report["unlike"]:
+        faults.append(f"{report['unlike']} frames of a .why have other checks than were told")
     if report["longest"] > MOST_MS:
         faults.append(f"frame {report['slowest']} took {report['longest']:.1f} ms")
     return faults
