@@ -32,7 +32,7 @@ SHOWN = re.compile(r"    (\S.*?)(?: {2,}(0 .*))?$")
 # a place of one machine, which nobody else has
 PLACE = re.compile(r"(?<![\w.])/(?:work|opt|tmp|root|usr|Users)/")
 # what belongs to the toolchain, Rust or the field, and stands in no file of ours
-OTHERS = set("bazel cargo clang perf just rg grep usize isize vec panic assert fusepy omega grind simp".split())
+OTHERS = set("bazel cargo clang perf just rg grep usize isize vec panic assert omega grind simp".split())
 
 
 def pages():

@@ -13,7 +13,7 @@ from pathlib import Path
 
 ROOT = 1
 REGULAR, DIRECTORY = 0o100000, 0o040000
-O_RDONLY, O_WRONLY, O_RDWR, O_TRUNC, O_APPEND = 0, 1, 2, 0o1000, 0o2000
+O_RDONLY, O_WRONLY, O_RDWR, TO_RUN, O_TRUNC, O_APPEND = 0, 1, 2, 0o40, 0o1000, 0o2000
 LOOKUP, FORGET, GETATTR, SETATTR, READLINK, SYMLINK, MKNOD, MKDIR, UNLINK, RMDIR = 1, 2, 3, 4, 5, 6, 8, 9, 10, 11
 RENAME, LINK, OPEN, READ, WRITE, STATFS, RELEASE, FSYNC, GETXATTR, FLUSH, INIT = 12, 13, 14, 15, 16, 17, 18, 20, 22, 25, 26
 OPENDIR, READDIR, RELEASEDIR, ACCESS, CREATE, INTERRUPT, DESTROY, IOCTL = 27, 28, 29, 34, 35, 36, 38, 39
@@ -219,6 +219,8 @@ def flags(talk):
     talk.say(IOCTL, 5, struct.pack("<QIIQII", 0, 0, 0x40086602, 0, 4, 0) + struct.pack("<I", 0x50), 7, reply=bytes(16), restated=[5])
     talk.say(IOCTL, 5, get, 7, reply=bytes(16) + struct.pack("<I", 0x50))
     talk.say(WRITE, 5, write_in(0, b"x"), 7, error=errno.EPERM)
+    talk.say(ACCESS, 5, struct.pack("<II", 2, 0), 7, error=errno.EPERM)
+    talk.say(ACCESS, 5, struct.pack("<II", 4, 0), 7, reply=b"")
     talk.say(IOCTL, 5, struct.pack("<QIIQII", 0, 0, 0x5401, 0, 0, 0), 7, error=errno.ENOTTY)
 
 
@@ -241,6 +243,18 @@ def closed(talk):
     talk.say(SETATTR, 7, setattr_in(1, mode=0o660), 7, reply=attr_out(attr(7, REGULAR | 0o660, 7, 0)), restated=[7])
     talk.say(RELEASE, 7, release_in(1), reply=b"")
     talk.say(GETATTR, 7, bytes(16), 7, reply=attr_out(attr(7, REGULAR | 0o660, 7, 0)))
+
+
+def run(talk):
+    """Who may run a file: whom its mode grants that, and the superuser where it grants it to somebody."""
+    to_run, may_run = struct.pack("<II", O_RDONLY | TO_RUN, 0), struct.pack("<II", 1, 0)
+    for mode, granted in ((0o544, (7, 0)), (0o444, ()), (0o445, (8, 0))):
+        talk.say(SETATTR, 6, setattr_in(1, mode=mode), 7, reply=attr_out(attr(6, REGULAR | mode, 7, 0, 2)), restated=[6])
+        for user in (7, 8, 0):
+            error = 0 if user in granted else errno.EACCES
+            talk.say(OPEN, 6, to_run, user, reply=opened(), error=error)
+            talk.say(ACCESS, 6, may_run, user, reply=b"", error=error)
+    talk.say(ACCESS, 2, may_run, 8, reply=b"")
 
 
 def rest(talk):
@@ -266,7 +280,7 @@ def main():
     if len(sys.argv) != 2:
         sys.exit(__doc__)
     talk = Talk()
-    for part in (beginning, files, attributes, names, pieces, flags, closed, rest):
+    for part in (beginning, files, attributes, names, pieces, flags, closed, run, rest):
         part(talk)
     folder = Path(sys.argv[1])
     (folder / "stdin").write_bytes(talk.messages)

@@ -1,9 +1,8 @@
 #!/usr/bin/env python3
 """Tries on a mounted volume what commands.txt can't spell: odd bytes in names, and what must not be done by them.
 
-odd_names.py FOLDER [fuse], as root, where FOLDER is the mount of an empty volume, by `lfs_fuse` where the second word says
-so: that takes names that are UTF-8 alone, and lets the maker of a read-only file read and write it until it is closed. Each
-line that fails is printed; the last line says how many passed and failed.
+odd_names.py FOLDER, as root, where FOLDER is the mount of an empty volume. Each line that fails is printed; the last line
+says how many passed and failed.
 """
 import errno
 import os
@@ -15,7 +14,6 @@ NAMES = [b"a\nb", b"\n", b" ", b"a b", b"\t", b"\r", b"a\r\nb", b"%", b"%0a", b"
          "\u00e9\u6f22\U0001f600".encode(), b"\xff\xfe", b"x\n.quit", b"as 0 0", b"...", b"\\", b"'\"", b"a" * 255,
          b"\n" * 85]
 counts = {True: 0, False: 0}
-BY_FUSE = sys.argv[2:] == ["fuse"]
 
 
 def check(what, found, wanted):
@@ -75,12 +73,9 @@ def one_name(name):
 
 def names():
     for name in NAMES:
-        if BY_FUSE and name == b"\xff\xfe":
-            check(name, as_user(7, write, name, name), "EINVAL")
-            continue
         seen = [name, len(name), [name], False, [name], 0o600, 7, [name], b"in", []]
         check(name, as_user(7, one_name, name), seen)
-    odd = sorted(b"a" + bytes([it]) + b"z" for it in range(1, 128 if BY_FUSE else 256) if it != ord("/"))
+    odd = sorted(b"a" + bytes([it]) + b"z" for it in range(1, 256) if it != ord("/"))
     for name in odd:
         check(name, as_user(8, write, name, name), None)
     check("all bytes are listed", as_user(7, lambda: sorted(os.listdir(b"."))), odd)
@@ -91,8 +86,9 @@ def names():
     for name in odd:
         check(name, as_user(8, os.unlink, name + name), None)
     check("all are gone", os.listdir(b"."), [])
-    for name in (b"a" * 256,) if BY_FUSE else (b"a" * 256, b"\n" * 86, b"\xff" * 255):
-        check(len(name), as_user(7, write, name, b""), "ENAMETOOLONG")
+    for name in (b"a", b"\n", b"\xff"):
+        check(name, as_user(7, write, name * 256, b""), "ENAMETOOLONG")
+        check(name, as_user(7, one_name, name * 255)[-1], [])
     folders = ["/".join(it * ["a" * 200]) for it in range(1, 6)]
     for it in folders:
         as_user(7, os.mkdir, it)
@@ -150,7 +146,7 @@ def lent():
     write("other", b"other", 0o640)
     os.chown("other", 7, 7)
     file = as_user(7, os.open, "made", os.O_CREAT | os.O_WRONLY, 0o444)
-    check("the mode while it is open", mode_of("made"), 0o644 if BY_FUSE else 0o444)
+    check("the mode while it is open", mode_of("made"), 0o644)
     check("another's open of it", as_user(8, os.open, "made", os.O_WRONLY), "EACCES")
     os.rename("made", "aside")
     os.rename("other", "made")

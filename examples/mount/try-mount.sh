@@ -1,15 +1,13 @@
 #!/usr/bin/env bash
 # Mounts fresh volumes, tries them as several users, and unmounts: the commands of commands.txt, whose prints are
 # compared with what stands there; odd_names.py; and writing many times what a small volume holds.
-# try-mount.sh PROGRAM [MIB], where PROGRAM is a built lfs_fuse, or an lfs_shell behind lfs_mount.py, and MIB, by default 32,
-# is how much is written; as root, with /dev/fuse, e2fsprogs and make, and for an lfs_shell python3-fusepy. The last line
-# says how many tries passed and failed; the status is 0 where none failed.
+# try-mount.sh PROGRAM [MIB], where PROGRAM is a built lfs_fuse, and MIB, by default 32, is how much is written; as root, with
+# /dev/fuse, e2fsprogs and make. The last line says how many tries passed and failed; the status is 0 where none failed.
 set -euo pipefail
 here=$(cd "$(dirname "$0")" && pwd)
-program=$(realpath "$1")
+export LFS_FUSE
+LFS_FUSE=$(realpath "$1")
 mebibytes=${2:-32}
-fuse=
-[ "$(basename "$program")" != lfs_fuse ] || fuse=fuse
 folder=$(mktemp -d)
 chmod 755 "$folder"
 export LC_ALL=C
@@ -22,11 +20,7 @@ unmount() {
 trap 'unmount; rmdir "$folder"; rm -f "$folder.log"' EXIT
 # Mounts a volume of these options, and stands in it.
 mount_volume() {
-    if [ -n "$fuse" ]; then
-        LFS_FUSE=$program "$here/mount.sh" "$folder" "$@" &
-    else
-        /usr/bin/python3 "$here/lfs_mount.py" "$program" "$folder" --journal 1000000 "$@" &
-    fi
+    "$here/mount.sh" "$folder" "$@" &
     for _ in $(seq 100); do
         mountpoint -q "$folder" && break
         sleep 0.1
@@ -72,7 +66,7 @@ while IFS= read -r line; do
 done < "$here/commands.txt"
 finish
 
-odd=$(timeout 1200 /usr/bin/python3 "$here/odd_names.py" "$folder" $fuse 2>&1 || true)
+odd=$(timeout 1200 /usr/bin/python3 "$here/odd_names.py" "$folder" 2>&1 || true)
 last=${odd##*$'\n'}
 if [[ $last =~ ^([0-9]+)\ passed,\ ([0-9]+)\ failed$ ]]; then
     passed=$((passed + BASH_REMATCH[1]))

@@ -36,12 +36,13 @@ writes WriteOnly = true
 writes ReadWrite = true
 writes Neither = true
 
--- to open a file: to read no bytes and to write none, as the flags tell, and to cut it
+-- to open a file: to read no bytes and to write none, as the flags tell, to cut it, and to look at one that is to be run
 abbrev pub asked_to_open : OpenFlags → List (List ℕ) → List Request
 asked_to_open flags path =
     asked_if (reads flags.access) (Read path 0 0)
     ++ asked_if (writes flags.access) (Write path (put_at flags.append 0) [])
     ++ asked_if flags.truncate (SetLength path 0)
+    ++ asked_if flags.exec (Stat path)
 
 -- the permissions that a message tells
 abbrev pub mode_of : ℕ → ℕ

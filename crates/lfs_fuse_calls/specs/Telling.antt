@@ -1,14 +1,18 @@
 -- What a kernel is told of the answers to the calls of a message.
-use Rattle.std.specs.Prelude.{◌≡◌, ℕ, ◌+◌, ◌*◌, min, Bool, true, false, ◌&&◌, ◌||◌, not, List, [], ◌∷◌, length, Option}
-use Rattle.std.specs.Prelude.{None, Some, if◌then◌else◌, ⊤}
+use Rattle.std.specs.Prelude.{◌≡◌, ℕ, ◌+◌, ◌*◌, ◌==◌, min, Bool, true, false, ◌&&◌, ◌||◌, not, List, [], ◌∷◌, length}
+use Rattle.std.specs.Prelude.{Option, None, Some, if◌then◌else◌, ⊤}
+use Rattle.std.specs.Int.RustNames.{bit_and}
 use Rattle.lfs_types.specs.Caller.{Caller}
+use Rattle.lfs_types.specs.Kinds.{is_directory_kind}
 use Rattle.lfs_types.specs.declared.answer.Answer.{Answer}
 use Rattle.lfs_types.specs.declared.answer.Answer.TheVariants as answers
 use Rattle.lfs_types.specs.declared.answer.Served.TheVariants as served
 use Rattle.lfs_types.specs.declared.attrs.Attrs.{Attrs}
 use Rattle.lfs_types.specs.declared.attrs.Bit.TheVariants as bit
 use Rattle.lfs_rules.specs.Grants.{grants_of}
+use Rattle.lfs_rules.specs.Locks.{is_immutable}
 use Rattle.lfs_fuse_wire.specs.declared.attributes.Access.{Access}
+use Rattle.lfs_fuse_wire.specs.declared.flags.OpenFlags.{OpenFlags}
 use Rattle.lfs_fuse_wire.specs.Said.{Said, lookup, getattr, access, mknod, mkdir, create, unlink, rmdir, opening, read}
 use Rattle.lfs_fuse_wire.specs.Said.{write, opendir}
 use Rattle.lfs_fuse_reply.specs.declared.errno.Errno.{Errno}
@@ -58,16 +62,39 @@ written_by size given = min (4096 * min 32 (count_served given)) size
 abbrev pub opened_file : Opened
 opened_file = record { handle = 0; direct_io = true }
 
+-- whether a mode lets somebody run a file
+abbrev pub is_runnable : ℕ → Bool
+is_runnable mode = not (bit_and mode 0o111 == 0)
+
+-- whether a caller may run a file, or search a directory: a file that nobody may run not even the superuser
+abbrev pub may_run : Caller → Attrs → Bool
+may_run caller attrs = grants_of caller attrs bit.Search && (is_directory_kind attrs.kind || is_runnable attrs.mode)
+
 -- whether a mode grants what is asked
 abbrev pub is_granted : Caller → Access → Attrs → Bool
 is_granted caller wanted attrs =
     (not wanted.read || grants_of caller attrs bit.Read)
     && (not wanted.write || grants_of caller attrs bit.Write)
-    && (not wanted.execute || grants_of caller attrs bit.Search)
+    && (not wanted.execute || may_run caller attrs)
 
-abbrev pub grant_told : Bool → Told
-grant_told true = told.Done
-grant_told false = told.Error errno.EACCES
+abbrev pub granted : Bool → Told → Told
+granted true reply = reply
+granted false reply = told.Error errno.EACCES
+
+-- that nobody writes what is immutable is told first
+abbrev pub access_to : Caller → Access → Attrs → Told
+access_to caller wanted attrs =
+    if wanted.write && is_immutable attrs then told.Error errno.EPERM
+    else granted (is_granted caller wanted attrs) told.Done
+
+-- what is told of a file that is opened to run it
+abbrev pub run_told : Caller → Option Seen → Told
+run_told caller (Some seen) = granted (may_run caller seen.attrs) (told.Open opened_file)
+run_told caller None = told.Error errno.EIO
+
+-- what is told of a file that is opened: one that is to be run may be run by its caller
+abbrev pub opened_told : Caller → OpenFlags → Option Seen → Told
+opened_told caller flags seen = if flags.exec then run_told caller seen else told.Open opened_file
 
 -- an entry with the attributes that a Stat shows; a node may be wanting, for a fault that no rule has
 abbrev pub TellsEntry : Option Seen → Told → Type 0
@@ -102,7 +129,7 @@ attr_told (Some seen) = told.Attr (attr_of seen.number seen.attrs)
 attr_told None = told.Error errno.EIO
 
 abbrev pub access_told : Caller → Access → Option Seen → Told
-access_told caller wanted (Some seen) = grant_told (is_granted caller wanted seen.attrs)
+access_told caller wanted (Some seen) = access_to caller wanted seen.attrs
 access_told caller wanted None = told.Error errno.EIO
 
 -- these bytes, or want of memory
@@ -138,7 +165,7 @@ SaysServed caller (getattr fields) given reply = reply ≡ attr_told (seen_in gi
 SaysServed caller (access wanted) given reply = reply ≡ access_told caller wanted (seen_in given)
 SaysServed caller (unlink name) given reply = reply ≡ told.Done
 SaysServed caller (rmdir name) given reply = reply ≡ told.Done
-SaysServed caller (opening fields) given reply = reply ≡ told.Open opened_file
+SaysServed caller (opening fields) given reply = reply ≡ opened_told caller fields.flags (seen_in given)
 SaysServed caller (read fields) given reply = TellsBytes (all_bytes given) reply
 SaysServed caller (write fields bytes) given reply = reply ≡ told.Written (written_by (length bytes) given)
 SaysServed caller (opendir fields) given reply = TellsListing reply

@@ -111,7 +111,25 @@ fn asked_to_open(alloc: Global, flags: &OpenFlags, path: &Path) -> Result<Vec<Re
         let path = path.try_clone(alloc)?;
         calls.push(Request::SetLength { path, len: 0 })?;
     }
+    push_running(alloc, &mut calls, flags, path)?;
     Ok(calls)
+}
+
+/// Adds the call that looks at a file which is opened to run it.
+fn push_running(
+    alloc: Global,
+    calls: &mut Vec<Request>,
+    flags: &OpenFlags,
+    path: &Path,
+) -> Result<(), AllocError>
+    ensures { OnOk result (calls.new.items ≡ calls.old.items
+        ++ asked_if flags.now.exec (Request.Stat path.now)) }
+{
+    if flags.exec {
+        let path = path.try_clone(alloc)?;
+        calls.push(Request::Stat { path })?;
+    }
+    Ok(())
 }
 
 /// Adds the call by which a file is opened to be written.

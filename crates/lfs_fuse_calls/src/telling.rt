@@ -1,7 +1,7 @@
 //! What a kernel is told of answers.
 
 ghost use Rattle.std.specs.Prelude.{◌≡◌, ◌*◌, ◌≤◌, min, length, option_copied};
-ghost use Rattle.lfs_fuse_calls.specs.Telling.{TellsBytes, access_told, attr_told, count_served, grant_told, is_granted, or_else, refusal_at_once, refusal_in, seen_in, seen_of, written_by, named_in, refusal_told};
+ghost use Rattle.lfs_fuse_calls.specs.Telling.{TellsBytes, access_to, access_told, attr_told, count_served, is_granted, is_runnable, may_run, opened_told, refusal_at_once, refusal_in, run_told, seen_in, written_by, named_in, refusal_told};
 ghost use Rattle.lfs_fuse_wire.specs.Views.{view};
 ghost use Rattle.lfs_fuse_calls.specs.Shown.{all_bytes};
 
@@ -10,13 +10,23 @@ use crate::errors::refusal;
 use crate::shown::{all_bytes, is_served};
 use crate::told::Told;
 use lfs_fuse_reply::errno::Errno;
+use lfs_fuse_reply::reply::Opened;
 use lfs_fuse_wire::attributes::Access;
+use lfs_fuse_wire::flags::OpenFlags;
 use lfs_fuse_wire::message::Message;
 use lfs_rules::access::grants;
+use lfs_rules::flags::immutable;
 use lfs_types::answer::{Answer, Served};
 use lfs_types::attrs::{Attrs, Bit};
 use lfs_types::cred::Cred;
+use lfs_types::mode::Mode;
 use std::alloc::Global;
+
+/// A file's handle tells nothing apart, as each read and write names its file.
+pub const OPENED_FILE: Opened = Opened {
+    handle: 0,
+    direct_io: true,
+};
 
 /// What a Stat shows.
 #[derive(Clone, Copy)]
@@ -91,13 +101,41 @@ pub fn written_by(size: usize, answers: &[Answer]) -> u32
     (4_096 * count_served(answers)).min(size) as u32
 }
 
+/// Whether a mode lets somebody run a file.
+fn is_runnable(mode: Mode) -> bool
+    ensures { result ≡ is_runnable mode }
+{
+    mode.bits() & 0o111 != 0
+}
+
+/// Whether a caller may run a file, or search a directory: a file that nobody may run not even the superuser (execve(2)).
+fn may_run(cred: &Cred, attrs: &Attrs) -> bool
+    ensures { result ≡ may_run cred.now attrs.now }
+{
+    grants(attrs, cred, Bit::Search) && (attrs.kind.is_directory() || is_runnable(attrs.mode))
+}
+
 /// Whether a mode grants what is asked.
 fn is_granted(cred: &Cred, wanted: &Access, attrs: &Attrs) -> bool
     ensures { result ≡ is_granted cred.now wanted.now attrs.now }
 {
     (!wanted.read || grants(attrs, cred, Bit::Read))
         && (!wanted.write || grants(attrs, cred, Bit::Write))
-        && (!wanted.execute || grants(attrs, cred, Bit::Search))
+        && (!wanted.execute || may_run(cred, attrs))
+}
+
+/// Whether a user may do what he asks with a file of these attributes, as access(2) tells it: nobody writes what is immutable.
+fn access_to(cred: &Cred, wanted: &Access, attrs: &Attrs) -> Told
+    ensures { result ≡ access_to cred.now wanted.now attrs.now }
+{
+    if wanted.write && immutable(attrs) {
+        return Told::Error(Errno::EPERM);
+    }
+    if is_granted(cred, wanted, attrs) {
+        Told::Done
+    } else {
+        Told::Error(Errno::EACCES)
+    }
 }
 
 /// Whether a user may do what he asks, by what a Stat shows.
@@ -105,14 +143,35 @@ pub fn access_told(cred: &Cred, wanted: &Access, answers: &[Answer]) -> Told
     ensures { result ≡ access_told cred.now wanted.now (seen_in answers.now) }
 {
     match seen_in(answers) {
+        Some(seen) => access_to(cred, wanted, &seen.attrs),
+        None => Told::Error(Errno::EIO),
+    }
+}
+
+/// What a caller is told of a file that he opened to run it, by what a Stat shows.
+fn run_told(cred: &Cred, answers: &[Answer]) -> Told
+    ensures { result ≡ run_told cred.now (seen_in answers.now) }
+{
+    match seen_in(answers) {
         Some(seen) => {
-            if is_granted(cred, wanted, &seen.attrs) {
-                Told::Done
+            if may_run(cred, &seen.attrs) {
+                Told::Open(OPENED_FILE)
             } else {
                 Told::Error(Errno::EACCES)
             }
         }
         None => Told::Error(Errno::EIO),
+    }
+}
+
+/// What a caller is told of a file that he opened: one that is to be run may be run by him.
+pub fn opened_told(cred: &Cred, flags: &OpenFlags, answers: &[Answer]) -> Told
+    ensures { result ≡ opened_told cred.now flags.now (seen_in answers.now) }
+{
+    if flags.exec {
+        run_told(cred, answers)
+    } else {
+        Told::Open(OPENED_FILE)
     }
 }
 

@@ -6,12 +6,11 @@ ghost use Rattle.lfs_fuse_calls.specs.Telling.{SaysServed};
 ghost use Rattle.lfs_mount.specs.Handled.{AreAskedAndMade, IsHandled, hangs_in};
 
 use crate::making::make;
-use crate::naming::OPENED_FILE;
 use crate::tree::Tree;
 use lfs_fuse_calls::asked::asked;
 use lfs_fuse_calls::paths::{name_of, path_of};
 use lfs_fuse_calls::telling::{
-    access_told, attr_told, bytes_told, named_in, refusal_told, seen_in, written_by,
+    access_told, attr_told, bytes_told, named_in, opened_told, refusal_told, seen_in, written_by,
 };
 use lfs_fuse_calls::told::Told;
 use lfs_fuse_reply::errno::Errno;
@@ -71,7 +70,7 @@ impl<F: FileStore + Drop> Tree<F> {
             Message::Unlink(_) | Message::Rmdir(_) => self.removed_told(node, name),
             Message::GetAttr(_) => attr_told(answers.as_slice()),
             Message::Access(wanted) => access_told(cred, wanted, answers.as_slice()),
-            Message::Open(_) => Told::Open(OPENED_FILE),
+            Message::Open(fields) => opened_told(cred, &fields.flags, answers.as_slice()),
             Message::Read(_) => bytes_told(alloc, answers.as_slice()),
             Message::Write(_, bytes) => {
                 Told::Written(written_by(bytes.len(), answers.as_slice()))

@@ -7,21 +7,14 @@ ghost use Rattle.lfs_mount.specs.Handled.{IsNodeFault};
 
 use crate::tree::Tree;
 use lfs_fuse_calls::attr::attr;
-use lfs_fuse_calls::telling::Seen;
+use lfs_fuse_calls::telling::{OPENED_FILE, Seen};
 use lfs_fuse_calls::told::Told;
 use lfs_fuse_reply::attr::Entry;
 use lfs_fuse_reply::errno::Errno;
-use lfs_fuse_reply::reply::Opened;
 use lfs_nodes::{LookUpFault, NodeId};
 use lfs_types::name::Name;
 use lfs_types::store::FileStore;
 use std::alloc::Global;
-
-/// A file's handle tells nothing apart, as each read and write names its file.
-pub(crate) const OPENED_FILE: Opened = Opened {
-    handle: 0,
-    direct_io: true,
-};
 
 /// The error of a look-up that is given no node.
 fn error_of(fault: LookUpFault) -> Errno
