@@ -23,28 +23,28 @@ abbrev pub changed_rows : List (List ℕ) → List (List ℕ) → List (List ℕ
 changed_rows old new = first_changed old new (length new)
 
 -- whether a text goes on where another ends
-abbrev pub goes_on : List ℕ → List ℕ → Bool
-goes_on old new = pointwise nat_eq (take (length old) new) old
+abbrev pub runs_on : List ℕ → List ℕ → Bool
+runs_on old new = pointwise nat_eq (take (length old) new) old
 
 -- a sign, the number of a segment, and behind a space whose its blocks are
-abbrev pub owners_text : ℕ → ℕ → List ℕ → List ℕ
-owners_text sign number text = sign ∷ decimal number ++ 32 ∷ text
+abbrev pub told_owners : ℕ → ℕ → List ℕ → List ℕ
+told_owners sign number text = sign ∷ decimal number ++ 32 ∷ text
 
 -- whose the blocks of the segment of a number are, where that isn't as before: what follows behind a plus sign, where
 -- it goes on, else the whole behind an equals sign
 abbrev pub changed_owner : ℕ → List ℕ → List ℕ → List (List ℕ)
 changed_owner number old new =
     if bytes_eq old new then []
-    else (if goes_on old new then owners_text 43 number (drop (length old) new) else owners_text 61 number new) ∷ []
+    else (if runs_on old new then told_owners 43 number (drop (length old) new) else told_owners 61 number new) ∷ []
 
 -- those of the first n numbers
-unfoldable pub first_owners : List (List ℕ) → List (List ℕ) → ℕ → List (List ℕ)
-first_owners old new zero = []
-first_owners old new (suc n) = first_owners old new n ++ changed_owner n (row_at old n) (row_at new n)
+unfoldable pub first_changed_owners : List (List ℕ) → List (List ℕ) → ℕ → List (List ℕ)
+first_changed_owners old new zero = []
+first_changed_owners old new (suc n) = first_changed_owners old new n ++ changed_owner n (row_at old n) (row_at new n)
 
 -- whose the blocks are of each segment where that isn't as before, in order
 abbrev pub changed_owners : List (List ℕ) → List (List ℕ) → List (List ℕ)
-changed_owners old new = first_owners old new (length new)
+changed_owners old new = first_changed_owners old new (length new)
 
 -- a text in a frame: a comma, and it in quotation marks
 abbrev pub item : List ℕ → List ℕ

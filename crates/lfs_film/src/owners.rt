@@ -2,7 +2,7 @@
 
 ghost use Rattle.std.specs.Prelude.{◌≡◌, ◌++◌, bytes_eq, IfOk, OnOk};
 ghost use Rattle.std.specs.List.{flat_map};
-ghost use Rattle.lfs_film.specs.Frames.{changed_owner, changed_owners, item, owners_text};
+ghost use Rattle.lfs_film.specs.Frames.{changed_owner, changed_owners, item, told_owners};
 
 use crate::changed::row_at;
 use crate::frame::push_item;
@@ -46,15 +46,15 @@ fn push_changed(
         return Ok(());
     }
     let text = match new.strip_prefix(old) {
-        Some(more) => owners_text(alloc, MORE, number, more)?,
-        None => owners_text(alloc, ANOTHER, number, new)?,
+        Some(more) => told_owners(alloc, MORE, number, more)?,
+        None => told_owners(alloc, ANOTHER, number, new)?,
     };
     push_item(out, text.as_slice())
 }
 
 /// A sign, a number, and behind a space a text.
-fn owners_text(alloc: Global, sign: u8, number: usize, text: &[u8]) -> Result<Vec<u8>, AllocError>
-    ensures { IfOk result (λ told. told.items ≡ owners_text sign number text.now) }
+fn told_owners(alloc: Global, sign: u8, number: usize, text: &[u8]) -> Result<Vec<u8>, AllocError>
+    ensures { IfOk result (λ told. told.items ≡ told_owners sign number text.now) }
 {
     let mut told = Vec::new(alloc);
     told.push(sign)?;

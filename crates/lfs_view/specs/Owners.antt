@@ -20,15 +20,15 @@ abbrev pub block_owner : SummaryEntry → List ℕ
 block_owner e = decimal e.number ++ spaced (decimal e.version ∷ decimal (block_number e.block) ∷ []) ++ part_end
 
 -- a record: the number and the version of its file, a space before each
-abbrev pub record_owner : Option LoggedRecord → List ℕ
-record_owner None = []
-record_owner (Some logged) = spaced (decimal logged.number ∷ decimal logged.version ∷ [])
+abbrev pub logged_owner : Option LoggedRecord → List ℕ
+logged_owner None = []
+logged_owner (Some logged) = spaced (decimal logged.number ∷ decimal logged.version ∷ [])
 
 -- the records in a block of records, by their slots
 abbrev pub records_owners : Parts → ℕ → List ℕ
 records_owners p address =
-    record_owner (logged_at p address 0) ++ record_owner (logged_at p address 1) ++ record_owner (logged_at p address 2)
-    ++ record_owner (logged_at p address 3) ++ part_end
+    logged_owner (logged_at p address 0) ++ logged_owner (logged_at p address 1) ++ logged_owner (logged_at p address 2)
+    ++ logged_owner (logged_at p address 3) ++ part_end
 
 -- whose is what stands at an address: nothing is told of the label and of a summary, and has a part
 abbrev pub kind_owner : Parts → ℕ → Kind → List ℕ

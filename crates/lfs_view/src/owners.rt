@@ -5,7 +5,7 @@ ghost use Rattle.std.specs.List.{flat_map};
 ghost use Rattle.lfs_types.specs.declared.limits.TheConstants.{SEGMENT_BLOCKS};
 ghost use Rattle.lfs_staging.specs.Store.{IsStore};
 ghost use Rattle.lfs_view.specs.Cells.{IsIn, logged_at};
-ghost use Rattle.lfs_view.specs.Owners.{block_owner, cell_owner, kind_owner, owners_of, owners_text, record_owner, records_owners};
+ghost use Rattle.lfs_view.specs.Owners.{block_owner, cell_owner, kind_owner, owners_of, owners_text, logged_owner, records_owners};
 
 use crate::cells::{Cell, Kind, walked};
 use crate::records::{LoggedRecord, logged_at};
@@ -101,7 +101,7 @@ fn push_records_owners(out: &mut Vec<u8>, parts: &Parts, address: u32) -> Result
 
 /// Appends the file of a record in a slot, if one is there.
 fn push_record_owner(out: &mut Vec<u8>, logged: Option<LoggedRecord>) -> Result<(), AllocError>
-    ensures { OnOk result (out.new.items ≡ out.old.items ++ record_owner logged) }
+    ensures { OnOk result (out.new.items ≡ out.old.items ++ logged_owner logged) }
 {
     let Some(record) = logged else {
         return Ok(());

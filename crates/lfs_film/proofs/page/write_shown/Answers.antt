@@ -12,6 +12,6 @@ returns g c =
     (parts_written (g.W.Write.contents c.args.writer.now) (g.W.Write.contents c.write_text.new.writer)
     (g.W.Write.contents c.write_text-2.new.writer)
     (g.W.Write.contents c.write_text-3.new.writer) BLOCKS.now CHECKS.now CHECKS.now SCRIPT.now
-        c.in_ok-write_text.ensures
+    c.in_ok-write_text.ensures
     refl c.in_ok-write_text-2.ensures)
     c.write_text-3.ensures
