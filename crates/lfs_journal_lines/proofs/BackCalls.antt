@@ -28,7 +28,7 @@ use Rattle.lfs_journal_lines.proofs.BackWords.{AreField, IsOperand, bytes_operan
 use Rattle.lfs_journal_lines.proofs.BackWords.{flags_operand, level_operand, long_operand, mode_operand, short_operand}
 use Rattle.lfs_journal_lines.specs.Asked.{or_old, path_told, paths_put, plain_word, request_told, with_path}
 use Rattle.lfs_journal_lines.specs.Asked.{with_target}
-use Rattle.lfs_journal_lines.specs.Ranges.{HasText, IsRequest}
+use Rattle.lfs_journal_lines.specs.Ranges.{IsRequest}
 
 -- the operands of a call are the words of a field, and are read as the call
 pub record Tells (request : Request) : Type 0 where
@@ -173,16 +173,16 @@ tells_sync =
     record { words = field_none; back = tells_by Sync Sync refl refl said refl }
 
 -- each call is told
-pub tells : (request : Request) → IsRequest request → HasText request → Tells request
-tells (Stat path) is text =
+pub tells : (request : Request) → IsRequest request → Tells request
+tells (Stat path) is =
     tells_one Stat _ [] (record {
       operands_are = λ p. refl;
       kind_is = λ p. refl;
       puts = λ e p. refl;
       said = λ p read. rw read refl;
       rest = tt;
-    }) path (spelled path is text)
-tells (Read path off len) is text =
+    }) path (spelled path is)
+tells (Read path off len) is =
     tells_one (λ p. Read p off len) _ (decimal off ∷ decimal len ∷ [])
     (record {
       operands_are = λ p. refl;
@@ -190,17 +190,17 @@ tells (Read path off len) is text =
       puts = λ e p. refl;
       said = λ p read. rw (read, long_read off is.1, short_read len is.2) refl;
       rest = (long_operand off is.1, (short_operand len is.2, tt));
-    }) path (spelled path is.0 text)
-tells (Write path place bytes) is text = tells_write path place bytes (spelled path is.0 text) is
-tells (Names path) is text =
+    }) path (spelled path is.0)
+tells (Write path place bytes) is = tells_write path place bytes (spelled path is.0) is
+tells (Names path) is =
     tells_one Names _ [] (record {
       operands_are = λ p. refl;
       kind_is = λ p. refl;
       puts = λ e p. refl;
       said = λ p read. rw read refl;
       rest = tt;
-    }) path (spelled path is text)
-tells (SetLength path len) is text =
+    }) path (spelled path is)
+tells (SetLength path len) is =
     tells_one (λ p. SetLength p len) _ (decimal len ∷ [])
     (record {
       operands_are = λ p. refl;
@@ -208,8 +208,8 @@ tells (SetLength path len) is text =
       puts = λ e p. refl;
       said = λ p read. rw (read, long_read len is.1) refl;
       rest = (long_operand len is.1, tt);
-    }) path (spelled path is.0 text)
-tells (Create path mode) is text =
+    }) path (spelled path is.0)
+tells (Create path mode) is =
     tells_one (λ p. Create p mode) _ (mode_text mode ∷ [])
     (record {
       operands_are = λ p. refl;
@@ -217,8 +217,8 @@ tells (Create path mode) is text =
       puts = λ e p. refl;
       said = λ p read. rw (read, mode_read mode is.1) refl;
       rest = (mode_operand mode is.1, tt);
-    }) path (spelled path is.0 text)
-tells (Mkdir path mode) is text =
+    }) path (spelled path is.0)
+tells (Mkdir path mode) is =
     tells_one (λ p. Mkdir p mode) _ (mode_text mode ∷ [])
     (record {
       operands_are = λ p. refl;
@@ -226,25 +226,25 @@ tells (Mkdir path mode) is text =
       puts = λ e p. refl;
       said = λ p read. rw (read, mode_read mode is.1) refl;
       rest = (mode_operand mode is.1, tt);
-    }) path (spelled path is.0 text)
-tells (Unlink path) is text =
+    }) path (spelled path is.0)
+tells (Unlink path) is =
     tells_one Unlink _ [] (record {
       operands_are = λ p. refl;
       kind_is = λ p. refl;
       puts = λ e p. refl;
       said = λ p read. rw read refl;
       rest = tt;
-    }) path (spelled path is text)
-tells (Rmdir path) is text =
+    }) path (spelled path is)
+tells (Rmdir path) is =
     tells_one Rmdir _ [] (record {
       operands_are = λ p. refl;
       kind_is = λ p. refl;
       puts = λ e p. refl;
       said = λ p read. rw read refl;
       rest = tt;
-    }) path (spelled path is text)
-tells (Rename from to) is text = tells_rename from to (spelled from is.0 text.0) (spelled to is.1 text.1)
-tells (Chmod path mode) is text =
+    }) path (spelled path is)
+tells (Rename from to) is = tells_rename from to (spelled from is.0) (spelled to is.1)
+tells (Chmod path mode) is =
     tells_one (λ p. Chmod p mode) _ (mode_text mode ∷ [])
     (record {
       operands_are = λ p. refl;
@@ -252,8 +252,8 @@ tells (Chmod path mode) is text =
       puts = λ e p. refl;
       said = λ p read. rw (read, mode_read mode is.1) refl;
       rest = (mode_operand mode is.1, tt);
-    }) path (spelled path is.0 text)
-tells (Chown path uid gid) is text =
+    }) path (spelled path is.0)
+tells (Chown path uid gid) is =
     tells_one (λ p. Chown p uid gid) _ (decimal uid ∷ decimal gid ∷ [])
     (record {
       operands_are = λ p. refl;
@@ -261,8 +261,8 @@ tells (Chown path uid gid) is text =
       puts = λ e p. refl;
       said = λ p read. rw (read, short_read uid is.1, short_read gid is.2) refl;
       rest = (short_operand uid is.1, (short_operand gid is.2, tt));
-    }) path (spelled path is.0 text)
-tells (Chflags path flags) is text =
+    }) path (spelled path is.0)
+tells (Chflags path flags) is =
     tells_one (λ p. Chflags p flags) _ (flags_text flags ∷ [])
     (record {
       operands_are = λ p. refl;
@@ -270,6 +270,6 @@ tells (Chflags path flags) is text =
       puts = λ e p. refl;
       said = λ p read. rw (read, flags_read_back flags is.1.0 is.1.1) refl;
       rest = (flags_operand flags is.1, tt);
-    }) path (spelled path is.0 text)
-tells (SetLevel level) is text = tells_level level
-tells Sync is text = tells_sync
+    }) path (spelled path is.0)
+tells (SetLevel level) is = tells_level level
+tells Sync is = tells_sync

@@ -153,8 +153,8 @@ record TellsEvent (event : Event) : Type 0 where
 
 tells_event : (event : Event) → IsEvent event → IsTold event → TellsEvent event
 tells_event (User request answer) is told =
-    let call = tells request is.0 told.0 in
-    let came = tells_answer answer is.1 told.1 in
+    let call = tells request is.0 in
+    let came = tells_answer answer is.1 told in
     let verb = verb_alone (kind_of request) in
     record {
       call = field_more (request_word (kind_of request)) (operands request)

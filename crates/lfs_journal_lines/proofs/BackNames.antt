@@ -5,11 +5,10 @@ use Rattle.std.proofs.Common.{arith, append_assoc, length-append, rules, tests}
 use Rattle.std.specs.Prelude.{not}
 use Rattle.std.specs.Char.{digit_char, digit_value}
 use Rattle.std.specs.List.{All, list_all}
-use Rattle.std.specs.Str.{is_utf8}
 use Rattle.std.proofs.lemmas.Bool.{and_parts, cases_Bool}
 use Rattle.std.proofs.lemmas.List.{append-nil}
 use Rattle.std.proofs.lemmas.List.Folds.{list_all-append}
-use Rattle.std.proofs.lemmas.Str.{digit_value-digit_char, is_utf8-from_IsUtf8}
+use Rattle.std.proofs.lemmas.Str.{digit_value-digit_char}
 use Rattle.lfs_types.specs.Naming.{name_fault}
 use Rattle.lfs_types.specs.Paths.{names_fault, or_later, path_text, slashed}
 use Rattle.lfs_words.proofs.PathBack.{path_back, path_read_back}
@@ -25,7 +24,7 @@ use Rattle.lfs_journal_lines.proofs.BackWords.{no_bar}
 use Rattle.lfs_journal_lines.proofs.ReadingLemmas.{escape_told, plain_told}
 use Rattle.lfs_journal_lines.specs.Asked.{is_escaped, or_old, path_told, plain_word}
 use Rattle.lfs_journal_lines.specs.Escapes.{before, byte_told, bytes_told, escaped_path, name_told, names_told}
-use Rattle.lfs_journal_lines.specs.Ranges.{AreBytes, IsName, IsPath, IsText}
+use Rattle.lfs_journal_lines.specs.Ranges.{AreBytes, IsName, IsPath}
 use Rattle.lfs_journal_lines.specs.Reading.{is_bar}
 
 -- ---- bytes
@@ -205,14 +204,12 @@ named_text [] odd = absurd (cc)
 named_text (name ∷ names) odd = refl
 
 -- a path that no script can spell
-as_escape : (path : List (List ℕ)) → IsPath path → IsText path → can_spell path ≡ false → Spelled path
-as_escape path is text odd =
+as_escape : (path : List (List ℕ)) → IsPath path → can_spell path ≡ false → Spelled path
+as_escape path is odd =
     let e : path_word path ≡ 37 ∷ slashed (map name_text path) = rw odd refl in
-    let utf8 : is_utf8 (slashed path) ≡ true =
-    subst (λ bs. is_utf8 bs ≡ true) (named_text path odd) (is_utf8-from_IsUtf8 (path_text path) text) in
     let read : path_of (slashed path) ≡ Ok path =
     subst (λ bs. path_of bs ≡ Ok path) (named_text path odd) (path_read_back path (no_fault 1 path is.each) is.few) in
-    let escaped : escaped_path (slashed (map name_text path)) ≡ Ok path = rw (slashed_back path is.each, utf8) read in
+    let escaped : escaped_path (slashed (map name_text path)) ≡ Ok path = rw (slashed_back path is.each) read in
     record {
       root = [];
       escape = Some path;
@@ -226,6 +223,6 @@ as_escape path is text odd =
       whole = refl;
     }
 
-pub spelled : (path : List (List ℕ)) → IsPath path → IsText path → Spelled path
-spelled path is text =
-    elim (cases_Bool (can_spell path)) [ inl spells ↦ as_script path is spells | inr odd ↦ as_escape path is text odd ]
+pub spelled : (path : List (List ℕ)) → IsPath path → Spelled path
+spelled path is =
+    elim (cases_Bool (can_spell path)) [ inl spells ↦ as_script path is spells | inr odd ↦ as_escape path is odd ]

@@ -1,20 +1,17 @@
 -- What is read, step by step.
 use Rattle.std.proofs.Common.{◌≡◌, ℕ, suc, ◌+◌, ◌-◌, ◌<◌, ◌≤◌, ◌==◌, Bool, true, false, cond, List, [], ◌∷◌, ◌++◌}
 use Rattle.std.proofs.Common.{length, map, take, drop, get_or, None, Some, Result, Ok, Err, Bor, refl, ap, sym, subst}
-use Rattle.std.proofs.Common.{◌∙◌, inl, inr, arith, append_assoc, add-one, length-drop}
+use Rattle.std.proofs.Common.{◌∙◌, arith, append_assoc, add-one, length-drop}
 use Rattle.std.specs.Prelude.{not, position}
 use Rattle.std.specs.List.{prefix_len}
 use Rattle.std.proofs.Math.ListN.{drop_of_length-le}
 use Rattle.std.proofs.Math.Seq.{drop-cons}
-use Rattle.std.specs.Str.{IsUtf8, is_utf8}
-use Rattle.std.proofs.lemmas.Bool.{cases_Bool}
-use Rattle.std.proofs.lemmas.Str.{IsUtf8-from_is_utf8, is_utf8-from_IsUtf8}
 use Rattle.std.proofs.lemmas.List.{append-nil, drop-map, get_or-map, length-map, take-map, take_all}
 use Rattle.lfs_words.proofs.InfoLemmas.{shown}
 use Rattle.lfs_words.specs.Faults.{ReadsAs, ◌>>=◌}
 use Rattle.lfs_words.specs.PathText.{path_of}
 use Rattle.lfs_words.specs.declared.fault.FaultKind.{FaultKind}
-use Rattle.lfs_words.specs.declared.fault.FaultKind.TheVariants.{Bytes, Words}
+use Rattle.lfs_words.specs.declared.fault.FaultKind.TheVariants.{Words}
 use Rattle.lfs_journal_lines.specs.Answers.{denial_of, denial_told, stat_of, stat_told}
 use Rattle.lfs_journal_lines.specs.Escapes.{before, byte_told, bytes_told, escaped_byte, escaped_path, name_told}
 use Rattle.lfs_journal_lines.specs.Escapes.{names_told}
@@ -188,19 +185,6 @@ cut_missed refs place = rw place refl
 -- ---- paths
 
 -- a path behind a percent sign
-pub text_there : (text bytes path : List ℕ) (result : Result (List (List ℕ)) FaultKind) → bytes_told text ≡ Ok bytes
-    → path ≡ bytes → IsUtf8 bytes → ReadsAs (path_of path) result
-    → ReadsAs (escaped_path text) result
-text_there text bytes path result told same utf8 reads =
-    let is : is_utf8 bytes ≡ true = is_utf8-from_IsUtf8 bytes utf8 in
-    let e : path_of path ≡ escaped_path text = rw (told, is) (ap path_of same) in
-    subst (λ read. ReadsAs read result) e reads
-
--- bytes that are no text
-pub text_missed : (text bytes : List ℕ) → bytes_told text ≡ Ok bytes → (IsUtf8 bytes → ⊥) → escaped_path text
-    ≡ Err Bytes
-text_missed text bytes told none =
-    elim (cases_Bool (is_utf8 bytes)) [
-      | inl is ↦ absurd (none (IsUtf8-from_is_utf8 bytes is))
-      | inr no_text ↦ rw (told, no_text) refl
-    ]
+pub text_there : (text bytes : List ℕ) (result : Result (List (List ℕ)) FaultKind) → bytes_told text ≡ Ok bytes
+    → ReadsAs (path_of bytes) result → ReadsAs (escaped_path text) result
+text_there text bytes result told reads = subst (λ read. ReadsAs (read >>= path_of) result) (sym told) reads

@@ -1,7 +1,6 @@
 -- Bytes of names, read back as answers have them.
 use Rattle.std.specs.Prelude.{ℕ, ◌+◌, ◌*◌, ◌==◌, List, [], ◌∷◌, Option, None, Some, Result, Ok, Err, if◌then◌else◌}
 use Rattle.std.specs.Char.{digit_value}
-use Rattle.std.specs.Str.{is_utf8}
 use Rattle.lfs_types.specs.Naming.{name_fault}
 use Rattle.lfs_types.specs.declared.name.BadName.{BadName}
 use Rattle.lfs_types.specs.declared.path.BadPath.TheVariants.{Name}
@@ -9,7 +8,7 @@ use Rattle.lfs_words.specs.BytesText.{is_hex_digit}
 use Rattle.lfs_words.specs.Faults.{◌>>=◌}
 use Rattle.lfs_words.specs.PathText.{path_of, unless}
 use Rattle.lfs_words.specs.declared.fault.FaultKind.{FaultKind}
-use Rattle.lfs_words.specs.declared.fault.FaultKind.TheVariants.{Bytes, Path, Hex}
+use Rattle.lfs_words.specs.declared.fault.FaultKind.TheVariants.{Path, Hex}
 
 -- the value of a digit of 0-9 a-f
 abbrev pub digit_told : ℕ → Result ℕ FaultKind
@@ -59,4 +58,4 @@ names_told (word ∷ words) = do
 abbrev pub escaped_path : List ℕ → Result (List (List ℕ)) FaultKind
 escaped_path text = do
   path ← bytes_told text
-  if is_utf8 path then path_of path else Err Bytes
+  path_of path

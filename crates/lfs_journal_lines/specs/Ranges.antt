@@ -1,11 +1,10 @@
 -- What the types of an entry's parts keep, and which entries a journal may have.
 use Rattle.std.specs.Prelude.{◌≡◌, ℕ, ◌^◌, ◌<◌, ◌≤◌, slice_index, true, List, length, None}
 use Rattle.std.specs.List.{All}
-use Rattle.std.specs.Str.{IsUtf8}
 use Rattle.lfs_types.specs.Caller.{Caller}
 use Rattle.lfs_types.specs.FlagNumbers.{IsKnown}
 use Rattle.lfs_types.specs.Naming.{name_fault}
-use Rattle.lfs_types.specs.Paths.{path_text, slashed}
+use Rattle.lfs_types.specs.Paths.{slashed}
 use Rattle.lfs_types.specs.declared.answer.Answer.{Answer}
 use Rattle.lfs_types.specs.declared.answer.Answer.TheVariants.{Served as Shows, Denied, Refused}
 use Rattle.lfs_types.specs.declared.answer.Resource.TheVariants.{NoMemory, JournalFull}
@@ -108,27 +107,6 @@ pub record IsCaller (cred : Caller) : Type 0 where
 
 -- ---- which entries a journal may have
 
--- a path that is a text in UTF-8, as each is that was read
-abbrev pub IsText : List (List ℕ) → Type 0
-IsText names = IsUtf8 (path_text names)
-
-abbrev pub HasText : Request → Type 0
-HasText (Stat path) = IsText path
-HasText (Read path off len) = IsText path
-HasText (Write path place bytes) = IsText path
-HasText (Names path) = IsText path
-HasText (SetLength path len) = IsText path
-HasText (Create path mode) = IsText path
-HasText (Mkdir path mode) = IsText path
-HasText (Unlink path) = IsText path
-HasText (Rmdir path) = IsText path
-HasText (Rename from to) = IsText from × IsText to
-HasText (Chmod path mode) = IsText path
-HasText (Chown path uid gid) = IsText path
-HasText (Chflags path flags) = IsText path
-HasText (SetLevel level) = Unit {0}
-HasText Sync = Unit {0}
-
 -- an answer of which a journal has an entry: not for want of memory or of its own room, and at most 4,096 bytes of a
 -- Read
 abbrev pub IsKept : Answer → Type 0
@@ -139,5 +117,5 @@ IsKept answer = Unit {0}
 
 -- an event that a line tells
 abbrev pub IsTold : Event → Type 0
-IsTold (User request answer) = HasText request × IsKept answer
+IsTold (User request answer) = IsKept answer
 IsTold (Cleaner kind came) = Unit {0}

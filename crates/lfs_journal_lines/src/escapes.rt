@@ -2,6 +2,7 @@
 
 ghost use Rattle.std.specs.Prelude.{◌≡◌, ◌≢◌, ◌<◌, [], length, Ok, Err, map, IfOk, MatchOption, MatchResult, ⊤};
 ghost use Rattle.lfs_words.specs.Faults.{ReadsAs};
+ghost use Rattle.lfs_words.specs.PathText.{path_of};
 ghost use Rattle.lfs_words.specs.declared.fault.FaultKind.TheVariants.{Memory};
 ghost use Rattle.lfs_journal_lines.specs.Escapes.{before, byte_told, bytes_told, digit_told, escaped_byte, escaped_path, name_told, names_told};
 
@@ -9,18 +10,24 @@ use lfs_types::name::{BadName, Name};
 use lfs_types::path::{BadPath, Path};
 use lfs_types::payload::Names;
 use lfs_words::fault::FaultKind;
-use lfs_words::path::path_of;
 use std::alloc::Global;
-use std::str;
 
 /// The path that a text tells, which stands behind a percent sign.
 pub(crate) fn escaped_path(alloc: Global, text: &[u8]) -> Result<Path, FaultKind>
     ensures { ReadsAs (escaped_path text.now) result }
 {
     let bytes = bytes_told(alloc, text)?;
-    match str::from_utf8(bytes.as_slice()) {
-        Ok(text) => path_of(alloc, text),
-        Err(_) => Err(FaultKind::Bytes),
+    path_of(alloc, bytes.as_slice())
+}
+
+/// The path that bytes spell, in UTF-8 or not.
+fn path_of(alloc: Global, text: &[u8]) -> Result<Path, FaultKind>
+    ensures { ReadsAs (path_of text.now) result }
+{
+    match Path::parse_bytes(alloc, text) {
+        Ok(path) => Ok(path),
+        Err(BadPath::Memory) => Err(FaultKind::Memory),
+        Err(fault) => Err(FaultKind::Path(fault)),
     }
 }
 

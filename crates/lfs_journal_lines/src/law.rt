@@ -20,8 +20,7 @@ use lfs_types::payload::Payload;
 use lfs_types::request::{Place, Request};
 use lfs_types::rule::Denial;
 
-/// The line of an entry tells this entry: of each entry that a journal may have, whose paths are texts in UTF-8, as each
-/// path is that was read.
+/// The line of an entry tells this entry, of each entry that a journal may have.
 pub fn reads_back(entry: &Entry)
     ensures { IsTold entry.now.event → entry_told (entry_text entry.now) ≡ Ok entry.now }
 {

@@ -32,6 +32,7 @@ const LINES: &[u8] = b"\
 0 as 0 0 | mkdir /a 1777 | refused DirectoryFull
 0 as 0 0 | unlink %/a%20b/c%25%7f | denied F1 EPERM 0 2
 0 as 0 0 | rmdir %/%c3%a4 | denied K2 ENOTEMPTY 0 1
+0 as 0 0 | rmdir %/%ff%c3/a | denied N2 ENOENT 0 1
 0 as 0 0 | rename %/a%20b /c | denied N2 ENOENT 0 1
 0 as 0 0 | rename /a %/c%20d | denied S1 EACCES 1 4294967295
 0 as 0 0 | rename %/a%20b %/c%20d | ok
@@ -92,6 +93,10 @@ fn entries_by_hand(rt: HostRuntime) {
     let path = Path::parse(rt.alloc(), "/a b").expect(&rt, "a path");
     let entry = call(&rt, Request::Unlink { path }, Answer::Served(Served::Done));
     let line = b"1 as 0 0 | unlink %/a%20b | ok";
+    expect_eq(&rt, read_entry(rt.alloc(), line), Ok(entry));
+    let path = Path::parse_bytes(rt.alloc(), b"/\xff/\xc3").expect(&rt, "a path");
+    let entry = call(&rt, Request::Unlink { path }, Answer::Served(Served::Done));
+    let line = b"1 as 0 0 | unlink %/%ff/%c3 | ok";
     expect_eq(&rt, read_entry(rt.alloc(), line), Ok(entry));
     let entry = call(&rt, Request::Sync, Answer::Refused(Resource::NoSpace));
     let line = b"1 as 0 0 | sync | refused NoSpace";
@@ -212,13 +217,6 @@ fn faults_of_the_call(rt: HostRuntime) {
         b"0 as 0 0 | stat %/a%2G | ok",
         field,
         FaultKind::Hex,
-    );
-    expect_fault(
-        &rt,
-        rt.alloc(),
-        b"0 as 0 0 | stat %/%ff | ok",
-        field,
-        FaultKind::Bytes,
     );
     expect_fault(
         &rt,
