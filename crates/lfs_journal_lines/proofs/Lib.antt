@@ -5,3 +5,4 @@ pub mod BackNames
 pub mod BackWords
 pub mod ReadingLemmas
 pub mod TellingLemmas
+pub mod NumberLemmas

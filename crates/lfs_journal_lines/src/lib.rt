@@ -6,6 +6,7 @@ mod asked;
 mod escapes;
 pub mod fault;
 pub mod law;
+pub mod numbering;
 mod outcomes;
 pub mod reading;
 pub mod telling;

@@ -2,6 +2,7 @@
 
 use crate::fault::{Field, LineFault};
 use crate::law::reads_back;
+use crate::numbering::{finds_line, unnumbered};
 use crate::reading::read_entry;
 use crate::telling::push_entries;
 use lfs_model::journal::{CleanerKind, CleanerOutcome, Entry, Event};
@@ -80,6 +81,7 @@ fn each_line_is_told_again(rt: HostRuntime) {
         };
         let entry = read_entry(rt.alloc(), line).expect(&rt, "an entry");
         reads_back(&entry);
+        finds_line(&entry);
         entries.push(entry).expect(&rt, "memory");
         rest = behind;
     }
@@ -101,6 +103,27 @@ fn entries_by_hand(rt: HostRuntime) {
     let entry = call(&rt, Request::Sync, Answer::Refused(Resource::NoSpace));
     let line = b"1 as 0 0 | sync | refused NoSpace";
     expect_eq(&rt, read_entry(rt.alloc(), line), Ok(entry));
+}
+
+#[test]
+fn numbers_by_hand(rt: HostRuntime) {
+    let line = b"1 as 0 0 | sync | ok";
+    expect_eq(&rt, unnumbered(line, 12), Some(line.as_slice()));
+    expect_eq(
+        &rt,
+        unnumbered(b"#12 1 as 0 0 | sync | ok", 12),
+        Some(line.as_slice()),
+    );
+    expect_eq(&rt, unnumbered(b"#12 1 as 0 0 | sync | ok", 13), None);
+    expect_eq(&rt, unnumbered(b"#012 1 as 0 0 | sync | ok", 12), None);
+    expect_eq(&rt, unnumbered(b"#121 as 0 0 | sync | ok", 12), None);
+    expect_eq(&rt, unnumbered(b"#", 0), None);
+    let last = b"#18446744073709551615 x";
+    expect_eq(
+        &rt,
+        unnumbered(last, 18_446_744_073_709_551_615),
+        Some(b"x".as_slice()),
+    );
 }
 
 #[test]
