@@ -252,7 +252,7 @@ fn row_of(stat: &Result<Served, NotServed>) -> Option<ShownRow>
 }
 
 /// Nothing is said against what is legal.
-fn legal_if(is_legal: bool) -> Result<(), EntryFault>
+pub(crate) fn legal_if(is_legal: bool) -> Result<(), EntryFault>
     ensures { result ≡ if is_legal then Ok tt else Err EntryFault.Illegal }
 {
     if is_legal {
