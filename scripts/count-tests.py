@@ -9,7 +9,7 @@ LAYERS = {
     "calls, volume and sessions": "calls known flatfiles volume trace settle cleaner server",
     "the log": "segments ifile inodes bmap log recency cache staging segwrite logstore fsck image trees view",
     "a mount": "fuse_wire fuse_reply nodes fuse_calls stamps mount fuse_talk",
-    "texts and programs": "words print script journal_lines io audit live film programs auditing checking",
+    "texts and programs": "words print script journal_lines io sinks audit live film programs auditing checking",
 }
 
 

@@ -1,5 +1,5 @@
 -- A talk whose lines are a script does what a run of the script does.
-use Rattle.std.proofs.Common.{◌≡◌, ℕ, ◌+◌, ◌≤◌, Bool, true, false, cond, List, [], ◌∷◌, ◌++◌, length, Option, None}
+use Rattle.std.proofs.Common.{◌≡◌, ℕ, ◌+◌, ◌≤◌, ◌⊎◌, Bool, true, false, cond, List, [], ◌∷◌, ◌++◌, length, Option, None}
 use Rattle.std.proofs.Common.{Some, Result, Ok, Err, inl, inr, refl, sym, ap, subst, ◌∙◌, arith, append_assoc}
 use Rattle.std.proofs.Common.{append-nil}
 use Rattle.std.specs.Io.KnownBytes.{Appends}
@@ -11,6 +11,7 @@ use Rattle.lfs_model.specs.declared.journal.Entry.{Entry}
 use Rattle.lfs_model.specs.declared.steps.Step.{Step as Made}
 use Rattle.lfs_model.specs.declared.steps.StepAnswer.{StepAnswer}
 use Rattle.lfs_model.specs.Runs.{kept_steps}
+use Rattle.lfs_model.specs.Steps.{IsLegal}
 use Rattle.lfs_print.specs.ReportText.{report_text}
 use Rattle.lfs_words.specs.Lines.{HasNoLineFeed, IsFirstLine, is_printable}
 use Rattle.lfs_words.specs.Wording.{is_bare, words_of}
@@ -33,8 +34,9 @@ use Rattle.lfs_volume.specs.Seen.{Seen}
 use Rattle.lfs_audit.specs.Output.{IsOutput}
 use Rattle.lfs_audit.specs.Runs.{AreAsked, Runs, lines_text}
 use Rattle.lfs_audit.specs.Scripts.{log_cleaner}
-use Rattle.lfs_audit.proofs.RunLemmas.{begun_answers, begun_legal, lines_of_runs, runs_joined, runs_none}
+use Rattle.lfs_audit.proofs.RunLemmas.{begun_answers, lines_of_runs, runs_joined, runs_none}
 use Rattle.lfs_live.specs.Hearing.{heard_of, is_dotted}
+use Rattle.lfs_live.specs.Held.{Course, MovesOn, drained}
 use Rattle.lfs_live.specs.Scripts.{WritesAsScript, log_talker}
 use Rattle.lfs_live.specs.Talkers.{Talker}
 use Rattle.lfs_live.specs.Talking.{Does, Hears, HearsAll, IsLast, IsTalk, ended, first_speaker}
@@ -221,43 +223,80 @@ record Goes {F : Type 0} (r : Cleaner F) (old new : Seen F) (draft : Drafted) (t
   short : All IsShort (lines_of rest)
   goes_on : plan_from number after (lines_of rest) ≡ Ok plan
 
-script-heard : {F : Type 0} (t : Talker F) (old new : Seen F) (speaker
+true-is-false : (b : Bool) → b ≡ true → b ≡ false → ⊥
+true-is-false b holds fails = absurd (cc)
+
+unmoved-closed : (b : Bool) → (b ≡ true → ⊥) → b ≡ false
+unmoved-closed true never = absurd (never refl)
+unmoved-closed false never = refl
+
+unmoved-volume : {F : Type 0} (was_open : Bool) (middle : Seen F) (handed : List Entry) (after : Course F) → was_open
+    ≡ false
+    → ((after.volume ≡ middle) × (after.handed ≡ handed))
+    ⊎ ((was_open ≡ true) × (after.volume ≡ drained middle) × (after.handed ≡ handed ++ middle.journal))
+    → (after.volume ≡ middle) × (after.handed ≡ handed)
+unmoved-volume was_open middle handed after closed (inl stays) = stays
+unmoved-volume was_open middle handed after closed (inr moved) = absurd (true-is-false was_open moved.0 closed)
+
+-- a line moves nothing on of a talk without a sink
+unmoved : {F : Type 0} (was_open : Bool) (middle : Seen F) (handed : List Entry) (after : Course F) → was_open ≡ false
+    → MovesOn was_open middle handed after
+    → (after.volume ≡ middle) × (after.handed ≡ handed) × (after.is_open ≡ false)
+unmoved was_open middle handed after closed moves = (
+  (unmoved-volume was_open middle handed after closed moves.moved).0,
+  (unmoved-volume was_open middle handed after closed moves.moved).1,
+  unmoved-closed after.is_open (λ taking. true-is-false was_open (moves.opened taking) closed),
+)
+
+script-heard : {F : Type 0} (t : Talker F) (old new : Course F) (speaker
     then : Speaker) (lines : List (List ℕ)) (told rest : List ℕ) (n : ℕ) (draft : Drafted) (plan : Planned)
-    → HearsAll t old speaker lines told new then → draft.session ≡ speaker.session → draft.cred ≡ speaker.cred
+    → HearsAll t old speaker lines told new then → old.is_open ≡ false → draft.session ≡ speaker.session → draft.cred
+    ≡ speaker.cred
     → All IsShort (lines_of (ended lines ++ rest)) → plan_from n draft (lines_of (ended lines ++ rest)) ≡ Ok plan
-    → Goes t.cleaner old new draft then told rest plan
-script-heard t old new speaker then [] told rest n draft plan hears session cred short ok = record {
-  number = n;
-  after = draft;
-  followed = followed-none t.cleaner old new draft draft
-      then told hears.0 refl (session ∙ ap (λ (s : Speaker). s.session) (sym hears.1)) (cred
-      ∙ ap (λ (s : Speaker). s.cred) (sym hears.1)) hears.2;
-  short = short;
-  goes_on = ok;
-}
-script-heard {F} t old new speaker then (line ∷ lines) told rest n draft plan hears session cred short ok =
+    → Goes t.cleaner old.volume new.volume draft then told rest plan × (new.handed ≡ old.handed)
+script-heard {F} t old new speaker then [] told rest n draft plan hears closed session cred short ok = (
+  record {
+    number = n;
+    after = draft;
+    followed = followed-none t.cleaner old.volume new.volume draft draft
+        then told (ap (λ (c : Course F). c.volume) hears.0) refl (session
+        ∙ ap (λ (s : Speaker). s.session) (sym hears.1)) (cred ∙ ap (λ (s : Speaker). s.cred) (sym hears.1)) hears.2;
+    short = short;
+    goes_on = ok;
+  },
+  ap (λ (c : Course F). c.handed) hears.0,
+)
+script-heard {F} t old new speaker then (line ∷ lines) told rest n draft plan hears closed session cred short ok =
     let text = ended (line ∷ lines) ++ rest in
     let behind = ended lines ++ rest in
-    let cut = first-of line lines rest hears.5 in
+    let cut = first-of line lines rest hears.6 in
     let shorts : All IsShort (line ∷ lines_of behind) = subst (All IsShort) (lines_first text line behind cut) short in
     let read = said-there n (line_said line) (λ (s : Line). plan_from (n + 1) (added draft s) (lines_of behind)) plan
     (sym (plan_step n draft text line behind cut) ∙ ok) in
     let says : heard_of line ≡ heard.Line read.0 =
     heard-said line read.0 (All-head IsShort line (lines_of behind) shorts) read.1 in
-    let does : Does t.cleaner old speaker read.0 hears.0 hears.2 hears.3 =
-    subst (λ (h : Heard). Hears t old speaker h hears.0 hears.2 hears.3) says hears.6 in
-    let followed = followed-line t.cleaner old hears.2 draft speaker hears.3 read.0 hears.0 session cred does in
-    let more = script-heard t hears.2 new hears.3
-    then lines hears.1 rest (n + 1) (added draft read.0) plan hears.7 followed.session followed.cred
+    let middle = hears.2 in
+    let after = hears.3 in
+    let next = hears.4 in
+    let does : Does t.cleaner old.volume speaker read.0 hears.0 middle next =
+    subst (λ (h : Heard). Hears t old.handed old.volume speaker h hears.0 middle next) says hears.7 in
+    let still = unmoved old.is_open middle old.handed after closed hears.8 in
+    let followed = followed-line t.cleaner old.volume middle draft speaker next read.0 hears.0 session cred does in
+    let more = script-heard t after new next
+    then lines hears.1 rest (n + 1) (added draft read.0) plan hears.9 still.2 followed.session followed.cred
     (All-tail IsShort line (lines_of behind) shorts) read.2 in
-    record {
-      number = more.number;
-      after = more.after;
-      followed = followed-joined t.cleaner old hears.2 new draft (added draft read.0) more.after hears.3
-          then hears.0 hears.1 told hears.4 followed more.followed;
-      short = more.short;
-      goes_on = more.goes_on;
-    }
+    let goes = subst (λ (v : Seen F). Goes t.cleaner v new.volume (added draft read.0)
+    then hears.1 rest plan) still.0 more.0 in (
+      record {
+        number = goes.number;
+        after = goes.after;
+        followed = followed-joined t.cleaner old.volume middle new.volume draft (added draft read.0) goes.after next
+            then hears.0 hears.1 told hears.5 followed goes.followed;
+        short = goes.short;
+        goes_on = goes.goes_on;
+      },
+      more.1 ∙ still.1,
+    )
 
 -- ---- the end of a script
 
@@ -304,30 +343,36 @@ told-whole told told_last lines report all none is same =
     ap (λ (l : List ℕ). (told ++ l) ++ report) none ∙ ap (λ (l : List ℕ). l ++ report) (append-nil told)
     ∙ ap (λ (l : List ℕ). l ++ report) is ∙ ap (λ (l : List ℕ). lines ++ l) same
 
-script-written : (old new : Seen Parts) (script behind : List ℕ) (start out : Option (List ℕ)) (plan : Planned)
-    → old.journal ≡ [] → plan_of script ≡ Ok plan → All IsShort (lines_of script)
+script-written : (old new : Course Parts) (script behind : List ℕ) (start out : Option (List ℕ)) (plan : Planned)
+    → old.volume.journal ≡ [] → old.handed ≡ [] → old.is_open ≡ false → plan_of script ≡ Ok plan
+    → All IsShort (lines_of script)
     → IsTalk log_talker old new (Some script) (Some behind) start out
     → (text : List ℕ) × IsOutput log_cleaner
-    (Begins (state_of old.since) old.since_level) script old.limit old.store text × Appends start out text
-script-written old new script behind start out plan empty parsed short talk =
+    (Begins (state_of old.volume.since) old.volume.since_level) script old.volume.limit old.volume.store text
+    × Appends start out text
+script-written old new script behind start out plan empty unhanded closed parsed short talk =
     let all = talk.heard in
     let rest = all.last ++ behind in
     let whole : script ≡ ended all.lines ++ rest = all.taken ∙ append_assoc (ended all.lines) all.last behind in
-    let goes = script-heard log_talker old new first_speaker all.then all.lines all.told rest 1 first_draft plan
-    all.heard refl refl
+    let went = script-heard log_talker old new first_speaker all.then all.lines all.told rest 1 first_draft plan
+    all.heard closed refl refl
     (subst (λ (s : List ℕ). All IsShort (lines_of s)) whole short)
     (subst (λ (s : List ℕ). plan_from 1 first_draft (lines_of s) ≡ Ok plan) whole parsed) in
+    let goes = went.0 in
+    let none : new.handed ≡ [] = went.1 ∙ unhanded in
     let fin = script-ends goes.number goes.after plan all.last all.told_last behind all.ends goes.short goes.goes_on in
     let ran = goes.followed.ran in
     let made = goes.followed.made in
     let answers = goes.followed.answers in
     let steps : goes.followed.steps ≡ plan.steps = sym goes.followed.grown ∙ ap (λ (p : Planned). p.steps) fin.1 in
-    let entries : new.journal ≡ kept_steps made answers = ran.entered
+    let entries : new.volume.journal ≡ kept_steps made answers = ran.entered
     ∙ ap (λ (j : List Entry). j ++ kept_steps made answers) empty in
+    let kept : new.handed ++ new.volume.journal
+    ≡ kept_steps made answers = ap (λ (l : List Entry). l ++ new.volume.journal) none ∙ entries in
     let text = lines_text made answers ++ report_text (kept_steps made answers) in
-    let written : Appends start out ((all.told ++ all.told_last) ++ report_text new.journal) =
-    Appends-trans start talk.before out (all.told ++ all.told_last) (report_text new.journal) all.printed talk.reported
-    in (
+    let written : Appends start out ((all.told ++ all.told_last) ++ report_text (new.handed ++ new.volume.journal)) =
+    Appends-trans start talk.before out (all.told ++ all.told_last)
+    (report_text (new.handed ++ new.volume.journal)) all.printed talk.reported in (
       text,
       record {
         plan = plan;
@@ -335,21 +380,22 @@ script-written old new script behind start out plan empty parsed short talk =
         run = record {
           made = made;
           answers = answers;
-          after = new.store;
+          after = new.volume.store;
           asked = subst (λ (s : List Step). AreAsked s made answers) steps goes.followed.asked;
-          answered = begun_answers log_cleaner old new made answers empty ran;
-          legal = begun_legal log_cleaner old new made answers empty ran talk.legal;
+          answered = begun_answers log_cleaner old.volume new.volume made answers empty ran;
+          legal = λ from begins. subst (λ (l : List Entry). IsLegal (state_of old.volume.store).shape.numbers
+              (state_of old.volume.store).shape.segments l from) kept (talk.legal from begins);
           printed = refl;
         };
       },
       subst (λ (l : List ℕ). Appends start out l)
-          (told-whole all.told all.told_last (lines_text made answers) (report_text new.journal)
-          (report_text (kept_steps made answers)) fin.0 goes.followed.printed (ap report_text entries))
+          (told-whole all.told all.told_last (lines_text made answers) (report_text (new.handed ++ new.volume.journal))
+          (report_text (kept_steps made answers)) fin.0 goes.followed.printed (ap report_text kept))
           written,
     )
 
 -- the lines of a script that is all that a reader has
 pub script_law : WritesAsScript
-script_law old new script None start out plan empty parsed short talk = absurd talk.heard.taken
-script_law old new script (Some behind) start out plan empty parsed short talk =
-    script-written old new script behind start out plan empty parsed short talk
+script_law old new script None start out plan empty unhanded closed parsed short talk = absurd talk.heard.taken
+script_law old new script (Some behind) start out plan empty unhanded closed parsed short talk =
+    script-written old new script behind start out plan empty unhanded closed parsed short talk

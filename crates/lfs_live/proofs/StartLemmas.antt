@@ -1,49 +1,42 @@
 -- Talks over fresh volumes.
-use Rattle.std.proofs.Common.{◌≡◌, ℕ, List, [], Option, Result, Ok, Err, IfErr}
-use Rattle.std.specs.Prelude.{OnOk}
+use Rattle.std.proofs.Common.{◌≡◌, ℕ, Bool, List, [], refl, subst, sym, Option, Result, Ok, Err, IfErr}
 use Rattle.lfs_staging.specs.declared.parts.Parts.{Parts}
 use Rattle.lfs_types.specs.Tree.{opening_world}
 use Rattle.lfs_logstore.specs.States.{state_of}
+use Rattle.lfs_model.specs.Counts.{counts_of}
 use Rattle.lfs_volume.specs.Journals.{Begins}
 use Rattle.lfs_volume.specs.Seen.{Seen}
 use Rattle.lfs_audit.specs.declared.fault.RunFault.{RunFault}
 use Rattle.lfs_audit.specs.declared.fault.RunFault.TheVariants.{Read, TooLong, Script, Format, Memory, Write}
 use Rattle.lfs_live.specs.Faults.{IsTalkFault}
-use Rattle.lfs_live.specs.Scripts.{HasHeardOfLog, IsLogFault, IsLogTalk, log_talker}
-use Rattle.lfs_live.specs.Talking.{HasHeardSoFar, IsTalk}
+use Rattle.lfs_live.specs.Held.{HasBegun, Held, Sink}
+use Rattle.lfs_live.specs.Scripts.{HasHeardOfLog, IsFresh, IsKeptLogTalk, IsLogFault, log_talker}
+use Rattle.lfs_live.specs.Talking.{HasKeptSoFar, IsKeptTalk}
 use Rattle.lfs_server.specs.Fresh.{IsFreshLog}
 
 -- a talk over a fresh volume, with its end
-pub log_talk : {A : Type 0} (segments inodes frames limit : ℕ) (old new : Seen Parts)
-    (known left start out : Option (List ℕ)) (outcome : Result A RunFault)
-    → old.journal ≡ [] → old.limit ≡ limit → IsFreshLog segments inodes frames old.store
-    → Begins (state_of old.since) old.since_level opening_world
-    → OnOk outcome (IsTalk log_talker old new known left start out)
-    → OnOk outcome (IsLogTalk segments inodes frames limit known left start out)
-log_talk segments inodes frames limit old new known left start out (Ok x) empty room log begins talk =
-    record {
-      old = old;
-      new = new;
-      fresh = record { log = log; empty = empty; begins = begins; room = room };
-      talk = talk;
-    }
-log_talk segments inodes frames limit old new known left start out (Err fault) empty room log begins talk = tt
+pub log_talk : {J : Type 0} (sink : Sink J) (segments inodes frames limit : ℕ) (old new : Held Parts J)
+    (known left start out : Option (List ℕ))
+    → IsFresh segments inodes frames limit old.volume
+    → IsKeptTalk log_talker sink old new known left start out
+    → IsKeptLogTalk segments inodes frames limit old.is_open new.is_open (sink.next old.sink)
+    (sink.contents old.sink) (sink.contents new.sink) known left start out
+log_talk {J} sink segments inodes frames limit old new known left start out fresh talk = record {
+  talk = record {
+    old = old.volume;
+    new = record { volume = new.volume; handed = talk.handed; is_open = talk.was_open };
+    fresh = fresh;
+    talk = talk.talk;
+  };
+  kept = λ taking. (talk.kept taking).lines;
+}
 
--- up to a read that failed
-pub log_heard : {A : Type 0} (segments inodes frames limit : ℕ) (old new : Seen Parts)
-    (known left start out : Option (List ℕ)) (outcome : Result A RunFault)
-    → old.journal ≡ [] → old.limit ≡ limit → IsFreshLog segments inodes frames old.store
-    → Begins (state_of old.since) old.since_level opening_world
-    → IfErr outcome (λ fault. fault ≡ Read → HasHeardSoFar log_talker old new known left start out)
-    → IfErr outcome (λ fault. fault ≡ Read → HasHeardOfLog segments inodes frames limit known left start out)
-log_heard segments inodes frames limit old new known left start out (Ok x) empty room log begins heard = tt
-log_heard segments inodes frames limit old new known left start out (Err fault) empty room log begins heard = λ failed.
-    record {
-      old = old;
-      new = new;
-      fresh = record { log = log; empty = empty; begins = begins; room = room };
-      so_far = heard failed;
-    }
+-- a fresh volume
+pub fresh_log : (segments inodes frames limit : ℕ) (v : Seen Parts) → v.journal ≡ [] → v.limit ≡ limit
+    → IsFreshLog segments inodes frames v.store
+    → Begins (state_of v.since) v.since_level opening_world → IsFresh segments inodes frames limit v
+fresh_log segments inodes frames limit v empty room log begins =
+    record { log = log; empty = empty; begins = begins; room = room }
 
 -- the fault of a talk is one over a fresh volume
 pub log_fault : {A : Type 0} (segments inodes frames : ℕ) (outcome : Result A RunFault) → IfErr outcome IsTalkFault
@@ -55,3 +48,50 @@ log_fault segments inodes frames (Err (Script fault)) cause = cause
 log_fault segments inodes frames (Err (Format fault)) cause = absurd cause
 log_fault segments inodes frames (Err Memory) cause = cause
 log_fault segments inodes frames (Err Write) cause = cause
+
+-- a volume of whose journal a sink has nothing
+abbrev pub begun : {F J : Type 0} → Seen F → J → Bool → Held F J
+begun volume sink is_open = record { volume = volume; sink = sink; told = counts_of []; given = 0; is_open = is_open }
+
+-- a talk that begins so, with its end
+pub begun_talk : {J : Type 0} (sink : Sink J) (segments inodes frames limit : ℕ) (volume : Seen Parts) (j : J)
+    (is_open : Bool) (old new : Held Parts J) (known left start out : Option (List ℕ))
+    → old ≡ begun volume j is_open → IsFresh segments inodes frames limit volume
+    → (HasBegun old → IsKeptTalk log_talker sink old new known left start out)
+    → IsKeptLogTalk segments inodes frames limit is_open new.is_open (sink.next j) (sink.contents j)
+    (sink.contents new.sink) known left start out
+begun_talk {J} sink segments inodes frames limit volume j is_open old new known left start out is fresh talk =
+    log_talk sink segments inodes frames limit (begun volume j is_open) new known left start out fresh
+    (subst (λ (h : Held Parts J). HasBegun h → IsKeptTalk log_talker sink h new known left start out) is talk
+    (refl, refl))
+
+-- up to a read that failed
+pub begun_heard : {J : Type 0} (sink : Sink J) (segments inodes frames limit : ℕ) (volume : Seen Parts) (j : J)
+    (is_open : Bool) (old new : Held Parts J) (known left start out : Option (List ℕ))
+    → old ≡ begun volume j is_open → IsFresh segments inodes frames limit volume
+    → (HasBegun old → HasKeptSoFar log_talker sink old new known left start out)
+    → HasHeardOfLog segments inodes frames limit is_open known left start out
+begun_heard {J} sink segments inodes frames limit volume j is_open old new known left start out is fresh heard =
+    let so_far = subst (λ (h : Held Parts J). HasBegun h → HasKeptSoFar log_talker sink h new known left start out) is
+    heard (refl, refl) in
+    record {
+      old = volume;
+      new = record { volume = new.volume; handed = so_far.handed; is_open = so_far.was_open };
+      fresh = fresh;
+      so_far = so_far.so_far;
+    }
+
+-- the sink and whether it takes more, as they are handed back
+pub kept_as : {J : Type 0} (sink : Sink J) (segments inodes frames limit : ℕ) (was_open : Bool) (new : Held Parts J)
+    (last : J) (is_open : Bool) (number : ℕ) (first known left start out : Option (List ℕ))
+    → last ≡ new.sink → is_open ≡ new.is_open
+    → IsKeptLogTalk segments inodes frames limit was_open new.is_open number first (sink.contents new.sink)
+    known left start out
+    → IsKeptLogTalk segments inodes frames limit was_open is_open number first (sink.contents last)
+    known left start out
+kept_as {J} sink segments inodes frames limit was_open new last is_open number first known left start
+    out same still talk =
+    subst (λ (b : Bool). IsKeptLogTalk segments inodes frames limit was_open b number first (sink.contents last)
+    known left start out) (sym still)
+    (subst (λ (j : J). IsKeptLogTalk segments inodes frames limit was_open new.is_open number first (sink.contents j)
+    known left start out) (sym same) talk)

@@ -1,16 +1,27 @@
 -- Lines are heard one after another.
-use Rattle.std.proofs.Common.{◌≡◌, ◌≢◌, ℕ, List, [], ◌∷◌, ◌++◌, Bool, true, false, Result, Ok, Err, IfOk, Option, inl}
-use Rattle.std.proofs.Common.{inr, refl, sym, ap, subst, ◌∙◌, append_assoc, append-nil}
+use Rattle.std.proofs.Common.{◌≡◌, ◌≢◌, ℕ, List, [], ◌∷◌, ◌++◌, drop, take, Bool, true, false, Result, Ok, Err, IfOk}
+use Rattle.std.proofs.Common.{Option, inl, inr, refl, sym, ap, subst, ◌∙◌, append_assoc, append-nil}
 use Rattle.std.specs.Io.KnownBytes.{Appends, Consumes, Keeps}
-use Rattle.std.proofs.KnownBytes.{Appends-kept, Appends-nil, Appends-trans, Consumes-trans}
+use Rattle.std.proofs.KnownBytes.{Appends-kept, Appends-nil, Appends-trans, Consumes-nil, Consumes-trans}
 use Rattle.std.proofs.lemmas.Grind.{flat_map-append}
+use Rattle.std.proofs.lemmas.List.{take-append-drop}
 use Rattle.std.proofs.lemmas.List.Elements.{All-nil}
+use Rattle.lfs_types.specs.StoreStates.{StoreState}
+use Rattle.lfs_model.specs.Counts.{counts_of}
+use Rattle.lfs_model.specs.Steps.{IsLegal}
+use Rattle.lfs_model.specs.declared.journal.Entry.{Entry}
+use Rattle.lfs_print.specs.ReportText.{report_text}
+use Rattle.lfs_volume.specs.Journals.{Since}
 use Rattle.lfs_volume.specs.Seen.{Seen}
+use Rattle.lfs_live.specs.Held.{Course, HasKept, Held, MovesOn, Sink, Takes, course_of}
+use Rattle.lfs_live.proofs.KeepingLemmas.{all_legal, kept_line, kept_moved, kept_none, line_follows, moves_on}
+use Rattle.lfs_live.proofs.KeepingLemmas.{takes_more}
 use Rattle.lfs_words.specs.Lines.{HasNoLineFeed}
 use Rattle.lfs_live.specs.Hearing.{heard_of}
-use Rattle.lfs_live.specs.Steps.{FailsHere, HearsLast, HearsNext, IsTold}
+use Rattle.lfs_live.specs.Steps.{FailsHere, HeardAll, HeardSoFar, HearsLast, HearsNext, IsTold}
 use Rattle.lfs_live.specs.Talkers.{Talker}
-use Rattle.lfs_live.specs.Talking.{HasHeardAll, HasHeardSoFar, Hears, HearsAll, ended, first_speaker}
+use Rattle.lfs_live.specs.Talking.{HasHeardAll, HasHeardSoFar, HasKeptSoFar, Hears, HearsAll, IsKeptTalk, ended}
+use Rattle.lfs_live.specs.Talking.{first_speaker}
 use Rattle.lfs_live.specs.Telling.{cut_text, ended_line}
 use Rattle.lfs_live.specs.Pieces.{IsPiece}
 use Rattle.lfs_live.specs.declared.hearing.Dot.TheVariants.{Quit}
@@ -21,40 +32,61 @@ use Rattle.lfs_live.specs.declared.telling.Speaker.{Speaker}
 
 -- A volume and who speaks became these by lines that were read, one after another, and what is told of them is written,
 -- and nothing else.
-pub record HasHeard {F : Type 0} (r : Talker F) (old new : Seen F) (then : Speaker)
+pub record HasHeard {F J : Type 0} (r : Talker F) (sink : Sink J) (old new : Held F J) (then : Speaker)
     (known left start out : Option (List ℕ)) : Type 0 where
+  pub handed : List Entry
   pub lines : List (List ℕ)
   pub told : List ℕ
-  pub heard : HearsAll r old first_speaker lines told new then
+  pub heard : HearsAll r (course_of old []) first_speaker lines told (course_of new handed) then
+  pub kept : HasKept r.cleaner.state sink old new handed
   pub taken : Consumes known left (ended lines)
   pub printed : Appends start out told
 
+-- no line was heard
+pub heard_none : {F J : Type 0} (r : Talker F) (sink : Sink J) (v : Held F J) (speaker : Speaker)
+    (known start : Option (List ℕ)) → speaker ≡ first_speaker
+    → v.told ≡ counts_of [] → v.given ≡ 0 → HasHeard r sink v v speaker known known start start
+heard_none r sink v speaker known start first told given = record {
+  handed = [];
+  lines = [];
+  told = [];
+  heard = (refl, first, refl);
+  kept = kept_none r.cleaner.state sink v told given;
+  taken = Consumes-nil known;
+  printed = Appends-nil start;
+}
+
 -- one more line
-hears-more : {F : Type 0} (r : Talker F) (old middle new : Seen F) (first speaker
+hears-more : {F : Type 0} (r : Talker F) (old middle : Course F) (volume : Seen F) (new : Course F) (first speaker
     then : Speaker) (lines : List (List ℕ)) (line told more : List ℕ)
     → HearsAll r old first lines told middle speaker → HasNoLineFeed line
-    → Hears r middle speaker (heard_of line) more new then
-    → HearsAll r old first (lines ++ line ∷ []) (told ++ more) new then
-hears-more {F} r old middle new first speaker then [] line told more heard unended next = (
+    → Hears r middle.handed middle.volume speaker (heard_of line) more volume then
+    → MovesOn middle.is_open volume middle.handed new → HearsAll r old first (lines ++ line ∷ []) (told ++ more) new
+    then
+hears-more {F} r old middle volume new first speaker then [] line told more heard unended next moves = (
   more,
   [],
+  volume,
   new,
   then,
   ap (λ (l : List ℕ). l ++ more) heard.2 ∙ sym (append-nil more),
   unended,
-  subst (λ (v : Seen F). Hears r v first (heard_of line) more new then) heard.0
-      (subst (λ (s : Speaker). Hears r middle s (heard_of line) more new then) heard.1 next),
+  subst (λ (c : Course F). Hears r c.handed c.volume first (heard_of line) more volume then) heard.0
+      (subst (λ (s : Speaker). Hears r middle.handed middle.volume s (heard_of line) more volume then) heard.1 next),
+  subst (λ (c : Course F). MovesOn c.is_open volume c.handed new) heard.0 moves,
   (refl, refl, refl),
 )
-hears-more r old middle new first speaker then (l ∷ lines) line told more heard unended next = (
+hears-more r old middle volume new first speaker then (l ∷ lines) line told more heard unended next moves = (
   heard.0,
   heard.1 ++ more,
   heard.2,
   heard.3,
-  ap (λ (l : List ℕ). l ++ more) heard.4 ∙ append_assoc heard.0 heard.1 more,
-  heard.5,
+  heard.4,
+  ap (λ (l : List ℕ). l ++ more) heard.5 ∙ append_assoc heard.0 heard.1 more,
   heard.6,
-  hears-more r heard.2 middle new heard.3 speaker then lines line heard.1 more heard.7 unended next,
+  heard.7,
+  heard.8,
+  hears-more r heard.3 middle volume new heard.4 speaker then lines line heard.1 more heard.9 unended next moves,
 )
 
 ended-more : (lines : List (List ℕ)) (line : List ℕ) → ended (lines ++ line ∷ []) ≡ ended lines ++ ended_line line
@@ -62,84 +94,176 @@ ended-more lines line = flat_map-append ended_line lines (line ∷ [])
     ∙ ap (λ (l : List ℕ). ended lines ++ l) (append-nil (ended_line line))
 
 -- one more line was heard
-pub heard_next : {F : Type 0} (r : Talker F) (old middle new : Seen F) (speaker
+pub heard_next : {F J : Type 0} (r : Talker F) (sink : Sink J) (old middle new : Held F J) (speaker
     then : Speaker) (known left rest start out more : Option (List ℕ))
-    → HasHeard r old middle speaker known left start out → HearsNext r middle new speaker
-    then left rest out more → HasHeard r old new then known rest start more
-heard_next r old middle new speaker then known left rest start out more heard next = record {
-  lines = heard.lines ++ next.line ∷ [];
-  told = heard.told ++ next.told;
-  heard = hears-more r old middle new first_speaker speaker
-      then heard.lines next.line heard.told next.told heard.heard next.unended next.heard;
-  taken = subst (λ (l : List ℕ). Consumes known rest l) (sym (ended-more heard.lines next.line))
-      (Consumes-trans known left rest (ended heard.lines) (ended_line next.line) heard.taken next.taken);
-  printed = Appends-trans start out more heard.told next.told heard.printed next.printed;
-}
+    → HasHeard r sink old middle speaker known left start out → HearsNext r sink middle new speaker
+    then left rest out more → HasHeard r sink old new then known rest start more
+heard_next {F} {J} r sink old middle new speaker then known left rest start out more heard next =
+    let told = next.heard in
+    let volume = told.middle in
+    let done : Held F J = record middle { volume = volume } in
+    let hears = told.heard heard.handed heard.kept.counted in
+    let follows = line_follows r heard.handed middle.volume volume speaker then (heard_of next.line) told.told hears in
+    record {
+      handed = heard.handed ++ told.more;
+      lines = heard.lines ++ next.line ∷ [];
+      told = heard.told ++ told.told;
+      heard = hears-more r (course_of old []) (course_of middle heard.handed) volume
+          (course_of new (heard.handed ++ told.more)) first_speaker speaker
+          then heard.lines next.line heard.told told.told
+          heard.heard next.unended hears (moves_on r.cleaner.state sink done new heard.handed told.more volume
+          middle.is_open refl refl told.moves told.room);
+      kept = kept_moved r.cleaner.state sink old done new heard.handed told.more
+          (kept_line r.cleaner.state sink old middle heard.handed volume heard.kept follows) told.moves;
+      taken = subst (λ (l : List ℕ). Consumes known rest l) (sym (ended-more heard.lines next.line))
+          (Consumes-trans known left rest (ended heard.lines) (ended_line next.line) heard.taken next.taken);
+      printed = Appends-trans start out more heard.told told.told heard.printed told.printed;
+    }
 
 -- the last was heard
-pub heard_last : {F : Type 0} (r : Talker F) (old middle new : Seen F) (speaker : Speaker)
+pub heard_last : {F J : Type 0} (r : Talker F) (sink : Sink J) (old middle new : Held F J) (speaker : Speaker)
     (known left rest start out more : Option (List ℕ))
-    → HasHeard r old middle speaker known left start out → new ≡ middle → HearsLast left rest out more
-    → HasHeardAll r old new known rest start more
-heard_last {F} r old middle new speaker known left rest start out more heard same last = record {
-  then = speaker;
-  lines = heard.lines;
-  last = last.last;
-  told = heard.told;
-  told_last = last.told;
-  heard = subst (λ (v : Seen F). HearsAll r old first_speaker heard.lines heard.told v speaker) (sym same) heard.heard;
-  ends = last.ends;
-  taken = Consumes-trans known left rest (ended heard.lines) last.last heard.taken last.taken;
-  printed = Appends-trans start out more heard.told last.told heard.printed last.printed;
-}
+    → HasHeard r sink old middle speaker known left start out → new ≡ middle → HearsLast left rest out more
+    → HeardAll r sink old new known rest start more
+heard_last {F} {J} r sink old middle new speaker known left rest start out more heard same last =
+    subst (λ (v : Held F J). HeardAll r sink old v known rest start more) (sym same)
+    (record {
+      handed = heard.handed;
+      heard = record {
+        then = speaker;
+        lines = heard.lines;
+        last = last.last;
+        told = heard.told;
+        told_last = last.told;
+        heard = heard.heard;
+        ends = last.ends;
+        taken = Consumes-trans known left rest (ended heard.lines) last.last heard.taken last.taken;
+        printed = Appends-trans start out more heard.told last.told heard.printed last.printed;
+      };
+      kept = heard.kept;
+    })
 
 -- a read failed
-pub heard_failed : {F : Type 0} (r : Talker F) (old middle new : Seen F) (speaker : Speaker)
+pub heard_failed : {F J : Type 0} (r : Talker F) (sink : Sink J) (old middle new : Held F J) (speaker : Speaker)
     (known left rest start out more : Option (List ℕ))
-    → HasHeard r old middle speaker known left start out → new ≡ middle → FailsHere left rest out more
-    → HasHeardSoFar r old new known rest start more
-heard_failed {F} r old middle new speaker known left rest start out more heard same fails = record {
-  then = speaker;
-  lines = heard.lines;
-  part = fails.part;
-  told = heard.told;
-  heard = subst (λ (v : Seen F). HearsAll r old first_speaker heard.lines heard.told v speaker) (sym same) heard.heard;
-  unended = fails.unended;
-  taken = Consumes-trans known left rest (ended heard.lines) fails.part heard.taken fails.taken;
-  printed = Appends-kept start out more heard.told heard.printed fails.silent;
-}
+    → HasHeard r sink old middle speaker known left start out → new ≡ middle → FailsHere left rest out more
+    → HeardSoFar r sink old new known rest start more
+heard_failed {F} {J} r sink old middle new speaker known left rest start out more heard same fails =
+    subst (λ (v : Held F J). HeardSoFar r sink old v known rest start more) (sym same)
+    (record {
+      handed = heard.handed;
+      heard = record {
+        then = speaker;
+        lines = heard.lines;
+        part = fails.part;
+        told = heard.told;
+        heard = heard.heard;
+        unended = fails.unended;
+        taken = Consumes-trans known left rest (ended heard.lines) fails.part heard.taken fails.taken;
+        printed = Appends-kept start out more heard.told heard.printed fails.silent;
+      };
+      kept = heard.kept;
+    })
 
 -- no more lines are read
-pub heard_enough : {F : Type 0} (r : Talker F) (old new : Seen F) (speaker : Speaker)
+pub heard_enough : {F J : Type 0} (r : Talker F) (sink : Sink J) (old new : Held F J) (speaker : Speaker)
     (known left start out : Option (List ℕ))
-    → HasHeard r old new speaker known left start out → HasHeardSoFar r old new known left start out
-heard_enough r old new speaker known left start out heard = record {
-  then = speaker;
-  lines = heard.lines;
-  part = [];
-  told = heard.told;
-  heard = heard.heard;
-  unended = All-nil (λ (b : ℕ). b ≢ 10);
-  taken = subst (λ (l : List ℕ). Consumes known left l) (sym (append-nil (ended heard.lines))) heard.taken;
-  printed = heard.printed;
+    → HasHeard r sink old new speaker known left start out → HeardSoFar r sink old new known left start out
+heard_enough r sink old new speaker known left start out heard = record {
+  handed = heard.handed;
+  heard = record {
+    then = speaker;
+    lines = heard.lines;
+    part = [];
+    told = heard.told;
+    heard = heard.heard;
+    unended = All-nil (λ (b : ℕ). b ≢ 10);
+    taken = subst (λ (l : List ℕ). Consumes known left l) (sym (append-nil (ended heard.lines))) heard.taken;
+    printed = heard.printed;
+  };
+  kept = heard.kept;
+}
+
+-- ---- the end
+
+-- the sink has what it lacked
+pub kept_whole : {F J : Type 0} (state : F → StoreState) (sink : Sink J) (old now : Held F J) (new : Held F J)
+    (handed : List Entry) → HasKept state sink old now handed
+    → new.volume ≡ now.volume → (new.is_open ≡ true → now.is_open ≡ true)
+    → (new.is_open ≡ true → Takes sink now.sink new.sink (drop now.given now.volume.journal))
+    → new.is_open ≡ true → Takes sink old.sink new.sink (handed ++ new.volume.journal)
+kept_whole {F} {J} state sink old now new handed kept same opened takes = λ taking.
+    let journal = now.volume.journal in
+    let whole : handed ++ new.volume.journal ≡ (handed ++ take now.given journal) ++ drop now.given journal =
+    ap (λ (v : Seen F). handed ++ v.journal) same
+    ∙ ap (λ (l : List Entry). handed ++ l) (sym (take-append-drop now.given journal))
+    ∙ sym (append_assoc handed (take now.given journal) (drop now.given journal)) in
+    takes_more sink old.sink now.sink new.sink (handed ++ take now.given journal) (drop now.given journal) (handed
+    ++ new.volume.journal) whole
+    (kept.given (opened taking)) (takes taking)
+
+-- the report is written
+pub talk_ended : {F J : Type 0} (r : Talker F) (sink : Sink J) (old now new : Held F J)
+    (known left start before out : Option (List ℕ))
+    → HeardAll r sink old now known left start before → new.volume ≡ now.volume → new.told ≡ now.told
+    → (new.is_open ≡ true → now.is_open ≡ true)
+    → (new.is_open ≡ true → Takes sink now.sink new.sink (drop now.given now.volume.journal))
+    → ((handed : List Entry) → new.told ≡ counts_of handed
+    → Appends before out (report_text (handed ++ new.volume.journal)))
+    → Since (r.cleaner.state new.volume.since) new.volume.since_level
+    (λ from. IsLegal (r.cleaner.state new.volume.store).shape.numbers
+    (r.cleaner.state new.volume.store).shape.segments new.volume.journal from)
+    → IsKeptTalk r sink old new known left start out
+talk_ended {F} {J} r sink old now new known left start before out heard same told opened takes reported legal = record {
+  handed = heard.handed;
+  was_open = now.is_open;
+  talk = record {
+    before = before;
+    heard = subst (λ (v : Seen F). HasHeardAll r (course_of old [])
+        (record { volume = v; handed = heard.handed; is_open = now.is_open }) known left start before)
+        (sym same) heard.heard;
+    legal = subst (λ (v : Seen F). Since (r.cleaner.state old.volume.since) old.volume.since_level
+        (λ from. IsLegal (r.cleaner.state old.volume.store).shape.numbers
+        (r.cleaner.state old.volume.store).shape.segments (heard.handed ++ v.journal) from)) (sym same)
+        (all_legal r.cleaner.state sink old now heard.handed heard.kept
+        (subst (λ (v : Seen F). Since (r.cleaner.state v.since) v.since_level
+        (λ from. IsLegal (r.cleaner.state v.store).shape.numbers
+        (r.cleaner.state v.store).shape.segments v.journal from)) same legal));
+    reported = reported heard.handed (told ∙ heard.kept.counted);
+  };
+  kept = kept_whole r.cleaner.state sink old now new heard.handed heard.kept same opened takes;
+}
+
+-- the same up to a read that failed
+pub talk_failed : {F J : Type 0} (r : Talker F) (sink : Sink J) (old now new : Held F J)
+    (known left start out : Option (List ℕ))
+    → HeardSoFar r sink old now known left start out → new.volume ≡ now.volume
+    → (new.is_open ≡ true → now.is_open ≡ true)
+    → (new.is_open ≡ true → Takes sink now.sink new.sink (drop now.given now.volume.journal))
+    → HasKeptSoFar r sink old new known left start out
+talk_failed {F} {J} r sink old now new known left start out heard same opened takes = record {
+  handed = heard.handed;
+  was_open = now.is_open;
+  so_far = subst (λ (v : Seen F). HasHeardSoFar r (course_of old [])
+      (record { volume = v; handed = heard.handed; is_open = now.is_open }) known left start out)
+      (sym same) heard.heard;
+  kept = kept_whole r.cleaner.state sink old now new heard.handed heard.kept same opened takes;
 }
 
 -- ---- one line
 
 -- a line was read, and is told
-pub next_told : {F : Type 0} (r : Talker F) (old new : Seen F) (speaker
+pub next_told : {F J : Type 0} (r : Talker F) (sink : Sink J) (old new : Held F J) (speaker
     then : Speaker) (known left start out : Option (List ℕ)) (is_ended : Bool) (kept line : List ℕ)
-    → IsPiece known left is_ended kept → is_ended ≡ true → line ≡ kept → IsTold r old new speaker
+    → IsPiece known left is_ended kept → is_ended ≡ true → line ≡ kept → IsTold r sink old new speaker
     then (heard_of line) start out
-    → HearsNext r old new speaker then known left start out
-next_told r old new speaker then known left start out is_ended kept line piece whole same told = record {
+    → HearsNext r sink old new speaker then known left start out
+next_told r sink old new speaker then known left start out is_ended kept line piece whole same told = record {
   line = piece.line;
-  told = told.told;
   unended = piece.unended;
-  heard = subst (λ (h : Heard). Hears r old speaker h told.told new then) (ap heard_of same
-      ∙ heard_kept piece.line kept piece.kept_of) told.heard;
+  heard = subst (λ (h : Heard). IsTold r sink old new speaker
+      then h start out) (ap heard_of same ∙ heard_kept piece.line kept piece.kept_of) told;
   taken = piece.ended whole;
-  printed = told.printed;
 }
 
 -- a line was read that quits

@@ -1,5 +1,6 @@
 pub mod Faults
 pub mod Hearing
+pub mod Held
 pub mod JournalText
 pub mod Pieces
 pub mod Scripts

@@ -1,5 +1,5 @@
 -- A talk over a fresh volume, and one whose lines are a script.
-use Rattle.std.specs.Prelude.{◌≡◌, ℕ, ◌≤◌, List, [], length, Option, Some, Ok}
+use Rattle.std.specs.Prelude.{◌≡◌, ℕ, ◌≤◌, Bool, true, false, List, [], ◌++◌, length, Option, Some, Ok}
 use Rattle.std.specs.Io.KnownBytes.{Appends}
 use Rattle.std.specs.List.{All}
 use Rattle.lfs_types.specs.Tree.{opening_world}
@@ -7,6 +7,7 @@ use Rattle.lfs_logstore.specs.States.{state_of}
 use Rattle.lfs_staging.specs.declared.parts.Parts.{Parts}
 use Rattle.lfs_script.specs.PlanTypes.{Planned}
 use Rattle.lfs_script.specs.Plans.{lines_of, plan_of}
+use Rattle.lfs_model.specs.declared.journal.Entry.{Entry}
 use Rattle.lfs_volume.specs.Journals.{Begins}
 use Rattle.lfs_volume.specs.Seen.{Seen}
 use Rattle.lfs_audit.specs.Output.{IsOutput}
@@ -14,6 +15,8 @@ use Rattle.lfs_audit.specs.Scripts.{log_cleaner}
 use Rattle.lfs_audit.specs.declared.fault.RunFault.{RunFault}
 use Rattle.lfs_audit.specs.declared.fault.RunFault.TheVariants.{Format}
 use Rattle.lfs_live.specs.Faults.{IsTalkFault}
+use Rattle.lfs_live.specs.Held.{Course}
+use Rattle.lfs_sinks.specs.Numbered.{numbered_text}
 use Rattle.lfs_live.specs.Talkers.{Talker, talker_of}
 use Rattle.lfs_live.specs.Talking.{HasHeardSoFar, IsTalk}
 use Rattle.lfs_view.specs.MapText.{map_text}
@@ -32,31 +35,48 @@ pub record IsFresh (segments inodes frames limit : ℕ) (volume : Seen Parts) : 
   pub begins : Begins (state_of volume.since) volume.since_level opening_world
   pub room : volume.limit ≡ limit
 
--- a talk over a fresh volume
-pub record IsLogTalk (segments inodes frames limit : ℕ) (known left start out : Option (List ℕ)) : Type 0 where
+-- a sink's bytes, where they are known, grew by the lines of entries, numbered from this number on
+abbrev pub IsJournalOf : ℕ → Option (List ℕ) → Option (List ℕ) → List Entry → Type 0
+IsJournalOf number first last entries = Appends first last (numbered_text number entries)
+
+-- a talk over a fresh volume, with a sink that took entries at first or did not
+pub record IsLogTalk (segments inodes frames limit : ℕ) (was_open : Bool)
+    (known left start out : Option (List ℕ)) : Type 0 where
   pub old : Seen Parts
-  pub new : Seen Parts
+  pub new : Course Parts
   pub fresh : IsFresh segments inodes frames limit old
-  pub talk : IsTalk log_talker old new known left start out
+  pub talk : IsTalk log_talker (record { volume = old; handed = []; is_open = was_open }) new known left start out
+
+-- The same, and where the sink took entries to the end, its bytes became these by the lines of all entries, numbered
+-- from this number on.
+pub record IsKeptLogTalk (segments inodes frames limit : ℕ) (was_open is_open : Bool) (number : ℕ)
+    (first last known left start out : Option (List ℕ)) : Type 0 where
+  pub talk : IsLogTalk segments inodes frames limit was_open known left start out
+  pub kept : is_open ≡ true → IsJournalOf number first last (talk.new.handed ++ talk.new.volume.journal)
 
 -- the same up to a read that failed
-pub record HasHeardOfLog (segments inodes frames limit : ℕ) (known left start out : Option (List ℕ)) : Type 0 where
+pub record HasHeardOfLog (segments inodes frames limit : ℕ) (was_open : Bool)
+    (known left start out : Option (List ℕ)) : Type 0 where
   pub old : Seen Parts
-  pub new : Seen Parts
+  pub new : Course Parts
   pub fresh : IsFresh segments inodes frames limit old
-  pub so_far : HasHeardSoFar log_talker old new known left start out
+  pub so_far : HasHeardSoFar log_talker (record { volume = old; handed = []; is_open = was_open }) new known left start
+      out
 
 -- a talk over a fresh volume may end in this fault
 abbrev pub IsLogFault : ℕ → ℕ → ℕ → RunFault → Type 0
 IsLogFault segments inodes frames (Format fault) = IsFormatFault segments inodes frames fault
 IsLogFault segments inodes frames fault = IsTalkFault fault
 
--- What a talk writes whose lines are a script without a fault, in which no line has more than 65,536 bytes, a run of
--- that script writes, from wherever the journal began.
+-- What a talk without a sink writes whose lines are a script without a fault, in which no line has more than 65,536
+-- bytes, a
+-- run of that script writes, from wherever the journal began.
 abbrev pub WritesAsScript : Type 0
 WritesAsScript =
-    (old new : Seen Parts) (script : List ℕ) (left start out : Option (List ℕ)) (plan : Planned)
-    → old.journal ≡ [] → plan_of script ≡ Ok plan → All (λ line. length line ≤ 65536) (lines_of script)
+    (old new : Course Parts) (script : List ℕ) (left start out : Option (List ℕ)) (plan : Planned)
+    → old.volume.journal ≡ [] → old.handed ≡ [] → old.is_open ≡ false
+    → plan_of script ≡ Ok plan → All (λ line. length line ≤ 65536) (lines_of script)
     → IsTalk log_talker old new (Some script) left start out
-    → (text : List ℕ) × IsOutput log_cleaner
-    (Begins (state_of old.since) old.since_level) script old.limit old.store text × Appends start out text
+    → let v = old.volume in
+    (text : List ℕ) × IsOutput log_cleaner (Begins (state_of v.since) v.since_level) script v.limit v.store text
+    × Appends start out text

@@ -1,9 +1,10 @@
 -- What lines do, one after another, and what is told of them.
-use Rattle.std.specs.Prelude.{◌≡◌, ℕ, ◌⊎◌, false, List, [], ◌∷◌, ◌++◌, Option, Some}
+use Rattle.std.specs.Prelude.{◌≡◌, ℕ, ◌⊎◌, Bool, true, false, List, [], ◌∷◌, ◌++◌, Option, Some}
 use Rattle.std.specs.Io.KnownBytes.{Appends, Consumes, IsAtEnd}
 use Rattle.std.specs.List.{flat_map}
 use Rattle.lfs_types.specs.StoreStates.{StoreState}
 use Rattle.lfs_model.specs.Steps.{IsLegal}
+use Rattle.lfs_model.specs.declared.journal.Entry.{Entry}
 use Rattle.lfs_print.specs.ReportText.{report_text}
 use Rattle.lfs_script.specs.declared.plan.Line.{Line}
 use Rattle.lfs_script.specs.declared.plan.Line.TheVariants.{Nothing, Session, Caller, Act}
@@ -14,6 +15,7 @@ use Rattle.lfs_volume.specs.Seen.{Seen}
 use Rattle.lfs_audit.specs.Runs.{TellsLine}
 use Rattle.lfs_why.specs.WhyText.{why_text}
 use Rattle.lfs_live.specs.Hearing.{heard_of}
+use Rattle.lfs_live.specs.Held.{Course, Held, MovesOn, Sink, Takes, course_of}
 use Rattle.lfs_live.specs.Talkers.{Talker}
 use Rattle.lfs_live.specs.Telling.{cut_text, dot_text, ended_line, fault_line}
 use Rattle.lfs_live.specs.declared.hearing.Dot.TheVariants.{Quit}
@@ -43,31 +45,36 @@ pub record LooksOn {F : Type 0} (before after : StoreState) (old new : Seen F) :
   pub since : new.since ≡ old.since
   pub since_level : new.since_level ≡ old.since_level
 
--- the same of each line: a call that is explained is not made, and a word of the server's own and a fault change
--- nothing
-abbrev pub Hears : {F : Type 0} → Talker F → Seen F → Speaker → Heard → List ℕ → Seen F → Speaker → Type 0
-Hears r old speaker (heard.Line line) told new then = Does r.cleaner old speaker line told new then
-Hears r old speaker (heard.Why request) told new then =
+-- The same of each line, with the entries that were handed out by then: a call that is explained is not made, and a
+-- word of
+-- the server's own and a fault change nothing.
+abbrev pub Hears : {F : Type 0} → Talker F → List Entry → Seen F → Speaker → Heard → List ℕ → Seen F → Speaker → Type 0
+Hears r handed old speaker (heard.Line line) told new then = Does r.cleaner old speaker line told new then
+Hears r handed old speaker (heard.Why request) told new then =
     LooksOn (r.cleaner.state old.store) (r.cleaner.state new.store) old new × (then ≡ speaker)
     × AtPresent r.cleaner.state old (λ w. told ≡ why_text w speaker.cred request)
-Hears r old speaker (heard.Dot dot) told new then =
-    (new ≡ old) × (then ≡ speaker) × (dot_text r.map_text r.segment_text dot old ≡ Some told)
-Hears r old speaker (heard.Fault fault) told new then = (new ≡ old) × (then ≡ speaker) × (told ≡ fault_line fault)
+Hears r handed old speaker (heard.Dot dot) told new then =
+    (new ≡ old) × (then ≡ speaker) × (dot_text r.map_text r.segment_text dot handed old ≡ Some told)
+Hears r handed old speaker (heard.Fault fault) told new
+    then = (new ≡ old) × (then ≡ speaker) × (told ≡ fault_line fault)
 
--- the same of lines, one after another
-abbrev pub HearsAll : {F : Type 0} → Talker F → Seen F → Speaker → List (List ℕ) → List ℕ → Seen F → Speaker → Type 0
+-- the same of lines, one after another, behind each of which entries may be handed out
+abbrev pub HearsAll : {F : Type 0} → Talker F → Course F → Speaker → List (List ℕ) → List ℕ → Course F → Speaker
+    → Type 0
 HearsAll r old speaker [] told new then = (new ≡ old) × (then ≡ speaker) × (told ≡ [])
 HearsAll {F} r old speaker (line ∷ lines) told new then =
-    (first : List ℕ) × (rest : List ℕ) × (middle : Seen F) × (next : Speaker)
+    (first : List ℕ) × (rest : List ℕ) × (middle : Seen F) × (after : Course F) × (next : Speaker)
     × (told ≡ first ++ rest) × HasNoLineFeed line
-    × Hears r old speaker (heard_of line) first middle next × HearsAll r middle next lines rest new then
+    × Hears r old.handed old.volume speaker (heard_of line) first middle next
+    × MovesOn old.is_open middle old.handed after
+    × HearsAll r after next lines rest new then
 
 -- lines, each with its line feed
 abbrev pub ended : List (List ℕ) → List ℕ
 ended lines = flat_map ended_line lines
 
 -- Lines were read, and what is told of them is written; and a part of a line was read, of which nothing is told.
-pub record HasHeardSoFar {F : Type 0} (r : Talker F) (old new : Seen F)
+pub record HasHeardSoFar {F : Type 0} (r : Talker F) (old new : Course F)
     (known left start out : Option (List ℕ)) : Type 0 where
   pub then : Speaker
   pub lines : List (List ℕ)
@@ -86,7 +93,7 @@ IsLast last told left =
 
 -- Lines were read up to one that quits, or to the end of the input, and what is told of each is written, in order, and
 -- nothing else.
-pub record HasHeardAll {F : Type 0} (r : Talker F) (old new : Seen F)
+pub record HasHeardAll {F : Type 0} (r : Talker F) (old new : Course F)
     (known left start out : Option (List ℕ)) : Type 0 where
   pub then : Speaker
   pub lines : List (List ℕ)
@@ -98,11 +105,33 @@ pub record HasHeardAll {F : Type 0} (r : Talker F) (old new : Seen F)
   pub taken : Consumes known left (ended lines ++ last)
   pub printed : Appends start out (told ++ told_last)
 
--- the same, and then the report of the journal, which is legal from the tree where it began
-pub record IsTalk {F : Type 0} (r : Talker F) (old new : Seen F) (known left start out : Option (List ℕ)) : Type 0 where
+-- the same, and then the report of all entries, those that were handed out and those that are kept, which are legal
+-- from
+-- the tree where the journal began
+pub record IsTalk {F : Type 0} (r : Talker F) (old new : Course F)
+    (known left start out : Option (List ℕ)) : Type 0 where
   pub before : Option (List ℕ)
   pub heard : HasHeardAll r old new known left start before
-  pub legal : Since (r.cleaner.state new.since) new.since_level
-      (λ from. IsLegal (r.cleaner.state new.store).shape.numbers
-      (r.cleaner.state new.store).shape.segments new.journal from)
-  pub reported : Appends before out (report_text new.journal)
+  pub legal : Since (r.cleaner.state old.volume.since) old.volume.since_level (λ from.
+      let shape = (r.cleaner.state old.volume.store).shape in
+      IsLegal shape.numbers shape.segments (new.handed ++ new.volume.journal) from)
+  pub reported : Appends before out (report_text (new.handed ++ new.volume.journal))
+
+-- A talk with its sink: the entries that were handed out; and a sink that takes more has the lines of all entries, in
+-- order,
+-- each once.
+pub record IsKeptTalk {F J : Type 0} (r : Talker F) (sink : Sink J) (old new : Held F J)
+    (known left start out : Option (List ℕ)) : Type 0 where
+  pub handed : List Entry
+  pub was_open : Bool
+  pub talk : IsTalk r (course_of old []) (record (course_of new handed) { is_open = was_open }) known left start out
+  pub kept : new.is_open ≡ true → Takes sink old.sink new.sink (handed ++ new.volume.journal)
+
+-- the same up to a read that failed
+pub record HasKeptSoFar {F J : Type 0} (r : Talker F) (sink : Sink J) (old new : Held F J)
+    (known left start out : Option (List ℕ)) : Type 0 where
+  pub handed : List Entry
+  pub was_open : Bool
+  pub so_far : HasHeardSoFar r (course_of old [])
+      (record (course_of new handed) { is_open = was_open }) known left start out
+  pub kept : new.is_open ≡ true → Takes sink old.sink new.sink (handed ++ new.volume.journal)

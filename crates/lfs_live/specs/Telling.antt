@@ -1,5 +1,6 @@
 -- What is told of faults and of the words of the server's own.
 use Rattle.std.specs.Prelude.{ℕ, List, [], ◌∷◌, ◌++◌, codes, Option, None, Some, if◌then◌else◌}
+use Rattle.lfs_model.specs.declared.journal.Entry.{Entry}
 use Rattle.lfs_print.specs.ReportText.{report_text}
 use Rattle.lfs_words.specs.declared.fault.FaultKind.{FaultKind}
 use Rattle.lfs_words.specs.declared.fault.FaultKind.TheVariants.{Cut, Bytes, Words, Many, Number, Range, Path, Hex}
@@ -54,12 +55,13 @@ help_text =
     ++ ended_line (codes ".help    these lines")
     ++ ended_line (codes ".quit    ends with the report, as the end of the input does")
 
--- what a word of the server's own tells of a volume, by the texts that its store shows of its log; `.quit` tells
--- nothing, but ends
-abbrev pub dot_text : {F : Type 0} → (F → List ℕ) → (F → ℕ → List ℕ) → Dot → Seen F → Option (List ℕ)
-dot_text map_text segment_text (Journal count) volume = Some (journal_text count volume.journal)
-dot_text map_text segment_text Map volume = Some (map_text volume.store)
-dot_text map_text segment_text (Segment number) volume = Some (segment_text volume.store number)
-dot_text map_text segment_text Report volume = Some (report_text volume.journal)
-dot_text map_text segment_text Help volume = Some help_text
-dot_text map_text segment_text Quit volume = None
+-- What a word of the server's own tells of a volume and of the entries that were handed out of its journal, by the
+-- texts that
+-- its store shows of its log; `.quit` tells nothing, but ends.
+abbrev pub dot_text : {F : Type 0} → (F → List ℕ) → (F → ℕ → List ℕ) → Dot → List Entry → Seen F → Option (List ℕ)
+dot_text map_text segment_text (Journal count) handed volume = Some (journal_text count volume.journal)
+dot_text map_text segment_text Map handed volume = Some (map_text volume.store)
+dot_text map_text segment_text (Segment number) handed volume = Some (segment_text volume.store number)
+dot_text map_text segment_text Report handed volume = Some (report_text (handed ++ volume.journal))
+dot_text map_text segment_text Help handed volume = Some help_text
+dot_text map_text segment_text Quit handed volume = None

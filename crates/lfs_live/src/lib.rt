@@ -10,4 +10,6 @@ pub mod same;
 pub mod start;
 pub mod talk;
 pub mod telling;
+pub mod tended;
 pub mod watch;
+pub mod witnesses;

@@ -1,70 +1,130 @@
 //! A talk over a fresh volume.
 
-ghost use Rattle.std.specs.Prelude.{◌≡◌, IfErr, OnOk};
+ghost use Rattle.std.specs.Prelude.{◌≡◌, false, IfErr, IfOk, OnOk};
 ghost use Rattle.lfs_server.specs.Serving.{IsInRange};
 ghost use Rattle.lfs_audit.specs.declared.fault.RunFault.TheVariants.{Read as Failed};
-ghost use Rattle.lfs_live.specs.Scripts.{HasHeardOfLog, IsLogFault, IsLogTalk};
+ghost use Rattle.lfs_live.specs.Scripts.{HasHeardOfLog, IsKeptLogTalk, IsLogFault, IsLogTalk};
 
 use crate::talk::talk;
+use crate::tended::Tended;
 use crate::watch::{Nobody, Watch};
+use crate::witnesses::Witnesses;
 use lfs_audit::fault::RunFault;
 use lfs_logstore::LogStore;
 use lfs_server::fresh::fresh_volume;
+use lfs_sinks::sink::{JournalSink, Nowhere};
 use lfs_types::store::Params;
 use std::alloc::{AllocError, Global};
-use std::io::{Read, Write};
+use std::io::{self, Read, Write};
+
+/// What a talk over a fresh volume is set up with.
+#[derive(Drop)]
+pub struct Setup<J: Drop, V: Drop> {
+    /// The parameters of the volume.
+    pub params: Params,
+    /// Who stands beside.
+    pub witnesses: Witnesses<J, V>,
+}
 
 /// Reads lines up to the end of the input, or to one that quits; does what each says on a fresh volume over the log store,
-/// and writes what is told of it, before it reads the next; and then writes the report.
+/// and writes what is told of it, before it reads the next; and then writes the report. One who watches is shown the fresh
+/// store, with an empty line of which nothing is told, and then each line that was answered. A sink that still takes entries
+/// at the end, when the witnesses are handed back, has each.
 ///
 /// # Errors
 ///
-/// `Format` where the volume is not made; else those of `talk`.
+/// `Format` where the volume is not made; `Memory` where the one who watches finds none; else those of `talk`.
+pub fn run_kept<J: JournalSink + Drop, V: Watch<LogStore> + Drop, R: Read, W: Write, D: Write>(
+    alloc: Global,
+    reader: &mut R,
+    writer: &mut W,
+    teller: &mut D,
+    setup: Setup<J, V>,
+) -> Result<Witnesses<J, V>, RunFault>
+    ensures written { let p = setup.params in let before = setup.witnesses in IfOk result (λ after.
+        IsKeptLogTalk p.segments p.inodes p.frames p.journal before.is_open after.is_open (J.next before.sink)
+        (J.contents before.sink) (J.contents after.sink)
+        (R.remaining reader.old) (R.remaining reader.new)
+        (W.contents writer.old) (W.contents writer.new)) }
+    ensures so_far { let p = setup.params in IfErr result (λ fault. fault ≡ Failed → HasHeardOfLog
+        p.segments p.inodes p.frames p.journal setup.witnesses.is_open
+        (R.remaining reader.old) (R.remaining reader.new)
+        (W.contents writer.old) (W.contents writer.new)) }
+    ensures silent { IfOk result (λ after. after.is_open ≡ setup.witnesses.is_open → teller.new ≡ teller.old) }
+    ensures ranges { let p = setup.params in OnOk result (IsInRange p.segments p.inodes p.frames) }
+    ensures fault { let p = setup.params in IfErr result (IsLogFault p.segments p.inodes p.frames) }
+{
+    let volume = fresh_volume(alloc, setup.params)?;
+    let mut tended = Tended::new(alloc, volume, setup.witnesses);
+    match tended.watch.watch(alloc, &[], &[], tended.volume.store()) {
+        Ok(()) => {}
+        Err(AllocError) => return Err(RunFault::Memory),
+    }
+    talk(alloc, reader, writer, teller, &mut tended)?;
+    Ok(tended.into_witnesses())
+}
+
+/// The same without a sink: the journal is kept, up to its limit. The one who watches is handed back.
+///
+/// # Errors
+///
+/// Those of `run_kept`.
+pub fn run_watched<V: Watch<LogStore> + Drop, R: Read, W: Write>(
+    alloc: Global,
+    reader: &mut R,
+    writer: &mut W,
+    watch: V,
+    params: Params,
+) -> Result<V, RunFault>
+    ensures written { OnOk result (IsLogTalk
+        params.segments params.inodes params.frames params.journal false
+        (R.remaining reader.old) (R.remaining reader.new)
+        (W.contents writer.old) (W.contents writer.new)) }
+    ensures so_far { IfErr result (λ fault. fault ≡ Failed → HasHeardOfLog
+        params.segments params.inodes params.frames params.journal false
+        (R.remaining reader.old) (R.remaining reader.new)
+        (W.contents writer.old) (W.contents writer.new)) }
+    ensures ranges { OnOk result (IsInRange params.segments params.inodes params.frames) }
+    ensures fault { IfErr result (IsLogFault params.segments params.inodes params.frames) }
+{
+    let witnesses = Witnesses {
+        sink: Nowhere,
+        is_open: false,
+        program: "",
+        watch,
+    };
+    let setup = Setup { params, witnesses };
+    let teller = &mut io::sink();
+    match run_kept(alloc, reader, writer, teller, setup) {
+        Ok(witnesses) => Ok(witnesses.watch),
+        Err(fault) => Err(fault),
+    }
+}
+
+/// The same, and nobody watches.
+///
+/// # Errors
+///
+/// Those of `run_kept`.
 pub fn run_lines<R: Read, W: Write>(
     alloc: Global,
     reader: &mut R,
     writer: &mut W,
     params: Params,
 ) -> Result<(), RunFault>
-    ensures written { OnOk result (IsLogTalk params.segments params.inodes params.frames params.journal
+    ensures written { OnOk result (IsLogTalk
+        params.segments params.inodes params.frames params.journal false
         (R.remaining reader.old) (R.remaining reader.new)
         (W.contents writer.old) (W.contents writer.new)) }
     ensures so_far { IfErr result (λ fault. fault ≡ Failed → HasHeardOfLog
-        params.segments params.inodes params.frames params.journal
+        params.segments params.inodes params.frames params.journal false
         (R.remaining reader.old) (R.remaining reader.new)
         (W.contents writer.old) (W.contents writer.new)) }
     ensures ranges { OnOk result (IsInRange params.segments params.inodes params.frames) }
     ensures fault { IfErr result (IsLogFault params.segments params.inodes params.frames) }
 {
-    run_watched(alloc, reader, writer, &mut Nobody, params)
-}
-
-/// The same, and one who watches is shown the fresh store, with an empty line of which nothing is told, and then each line
-/// that was answered.
-///
-/// # Errors
-///
-/// Those of `run_lines`; `Memory` where the one who watches finds none.
-pub fn run_watched<V: Watch<LogStore>, R: Read, W: Write>(
-    alloc: Global,
-    reader: &mut R,
-    writer: &mut W,
-    watch: &mut V,
-    params: Params,
-) -> Result<(), RunFault>
-    ensures written { OnOk result (IsLogTalk params.segments params.inodes params.frames params.journal
-        (R.remaining reader.old) (R.remaining reader.new)
-        (W.contents writer.old) (W.contents writer.new)) }
-    ensures so_far { IfErr result (λ fault. fault ≡ Failed → HasHeardOfLog
-        params.segments params.inodes params.frames params.journal
-        (R.remaining reader.old) (R.remaining reader.new)
-        (W.contents writer.old) (W.contents writer.new)) }
-    ensures ranges { OnOk result (IsInRange params.segments params.inodes params.frames) }
-    ensures fault { IfErr result (IsLogFault params.segments params.inodes params.frames) }
-{
-    let mut volume = fresh_volume(alloc, params)?;
-    match watch.watch(alloc, &[], &[], volume.store()) {
-        Ok(()) => talk(alloc, reader, writer, &mut volume, watch),
-        Err(AllocError) => Err(RunFault::Memory),
+    match run_watched(alloc, reader, writer, Nobody, params) {
+        Ok(_) => Ok(()),
+        Err(fault) => Err(fault),
     }
 }

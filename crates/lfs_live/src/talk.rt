@@ -1,82 +1,128 @@
 //! Lines of a reader, each answered on a writer before the next is read.
 
-ghost use Rattle.std.specs.Prelude.{◌≡◌, false, true, IfErr, IfOk, OnOk};
+ghost use Rattle.std.specs.Prelude.{◌≡◌, ◌++◌, [], List, false, true, IfErr, IfOk, OnOk};
 ghost use Rattle.std.specs.Io.KnownBytes.{Appends, Keeps};
 ghost use Rattle.lfs_audit.specs.declared.fault.RunFault.TheVariants.{Read};
+ghost use Rattle.lfs_model.specs.Counts.{counts_of};
+ghost use Rattle.lfs_model.specs.Steps.{IsLegal};
+ghost use Rattle.lfs_print.specs.ReportText.{report_text};
 ghost use Rattle.lfs_volume.specs.Cleanings.{cleaner_of};
-ghost use Rattle.lfs_live.specs.Steps.{FailsHere, HearsLast, HearsNext, IsTold};
+ghost use Rattle.lfs_volume.specs.Journals.{Since};
+ghost use Rattle.lfs_live.specs.Held.{HasBegun, sink_of};
+ghost use Rattle.lfs_live.specs.Steps.{FailsHere, HeardAll, HeardSoFar, HearsLast, HearsNext, IsTold};
 ghost use Rattle.lfs_live.specs.Talkers.{talker_of};
-ghost use Rattle.lfs_live.specs.Talking.{HasHeardAll, HasHeardSoFar, IsTalk};
+ghost use Rattle.lfs_live.specs.Talking.{HasKeptSoFar, IsKeptTalk};
 ghost use Rattle.lfs_live.specs.Faults.{IsLateFault, IsTalkFault};
 ghost use Rattle.lfs_live.specs.Hearing.{heard_of};
 ghost use Rattle.lfs_live.specs.declared.hearing.Dot.TheVariants.{Quit};
 ghost use Rattle.lfs_live.specs.declared.hearing.Heard.TheVariants as heard;
 
 use crate::line::read_line;
-use crate::telling::{Speaker, answer, tell_cut};
+use crate::telling::{Speaker, answer, tell_cut, tell_report};
+use crate::tended::Tended;
 use crate::watch::Watch;
 use lfs_audit::fault::RunFault;
-use lfs_audit::run::print_report;
 use lfs_io::output::{flush, write_text};
+use lfs_model::journal::Entry;
+use lfs_sinks::sink::JournalSink;
 use lfs_types::cleaned::CleanedStore;
+use lfs_types::store::FileStore;
 use lfs_view::shows::ShowsLog;
-use lfs_volume::volume::Volume;
 use std::alloc::Global;
 use std::io::{Read, Write};
 
 /// Reads lines up to the end of the input, or to one that quits; does what each says on a volume, and writes what is told
-/// of it, before it reads the next; and then writes the report. One who watches is shown each line that was answered.
+/// of it, before it reads the next; and then writes the report. One who watches is shown each line that was answered. The
+/// journal's entries are given to a sink, and handed out where there is no room for what a line may ask for; why the sink
+/// takes no more is told at once. The clauses speak of a volume of whose journal the sink had nothing, as `Tended::new` gives.
 ///
 /// # Errors
 ///
 /// `Read` where a read fails: what is told of each line that was read by then is written. `Memory` and `Write`.
-pub fn talk<F: CleanedStore + ShowsLog + Drop, V: Watch<F>, R: Read, W: Write>(
+pub fn talk<
+    F: CleanedStore + ShowsLog + Drop,
+    J: JournalSink + Drop,
+    V: Watch<F> + Drop,
+    R: Read,
+    W: Write,
+    D: Write,
+>(
     alloc: Global,
     reader: &mut R,
     writer: &mut W,
-    volume: &mut Volume<F>,
-    watch: &mut V,
+    teller: &mut D,
+    tended: &mut Tended<F, J, V>,
 ) -> Result<(), RunFault>
-    ensures written { OnOk result (IsTalk
+    ensures written { OnOk result (HasBegun tended.old → IsKeptTalk
         (talker_of (cleaner_of F.state F.is_settled F.cleaner)
-        F.map_text F.segment_text)
-        volume.old volume.new (R.remaining reader.old) (R.remaining reader.new)
+        F.map_text F.segment_text) (sink_of J.contents J.next)
+        tended.old tended.new (R.remaining reader.old) (R.remaining reader.new)
         (W.contents writer.old) (W.contents writer.new)) }
-    ensures so_far { IfErr result (λ fault. fault ≡ Read → HasHeardSoFar
+    ensures so_far { IfErr result (λ fault. fault ≡ Read → HasBegun tended.old → HasKeptSoFar
         (talker_of (cleaner_of F.state F.is_settled F.cleaner)
-        F.map_text F.segment_text)
-        volume.old volume.new (R.remaining reader.old) (R.remaining reader.new)
+        F.map_text F.segment_text) (sink_of J.contents J.next)
+        tended.old tended.new (R.remaining reader.old) (R.remaining reader.new)
         (W.contents writer.old) (W.contents writer.new)) }
+    ensures silent { OnOk result (tended.new.is_open ≡ tended.old.is_open → teller.new ≡ teller.old) }
     ensures fault { IfErr result IsTalkFault }
 {
-    hear_all(alloc, reader, writer, volume, watch)?;
-    let mut text = Vec::new(alloc);
-    print_report(volume, &mut text, writer)
+    let heard = hear_all(alloc, reader, writer, teller, tended);
+    tended.end(teller);
+    heard?;
+    report(alloc, writer, tended)
+}
+
+/// Writes the report over all entries.
+fn report<F: FileStore + Drop, J: JournalSink + Drop, V: Drop, W: Write>(
+    alloc: Global,
+    writer: &mut W,
+    tended: &Tended<F, J, V>,
+) -> Result<(), RunFault>
+    ensures reported { OnOk result ((handed : List Entry) → tended.now.told ≡ counts_of handed
+        → Appends (W.contents writer.old) (W.contents writer.new)
+        (report_text (handed ++ tended.now.volume.journal))) }
+    ensures legal { let v = tended.now.volume in
+        let shape = (F.state v.store).shape in
+        Since (F.state v.since) v.since_level
+        (λ from. IsLegal shape.numbers shape.segments v.journal from) }
+    ensures fault { IfErr result IsLateFault }
+{
+    let text = tell_report(alloc, &tended.told, tended.volume.counts())?;
+    say(writer, text.as_slice())
 }
 
 /// Reads lines up to the end of the input, or to one that quits, and answers each before it reads the next.
-fn hear_all<F: CleanedStore + ShowsLog + Drop, V: Watch<F>, R: Read, W: Write>(
+fn hear_all<
+    F: CleanedStore + ShowsLog + Drop,
+    J: JournalSink + Drop,
+    V: Watch<F> + Drop,
+    R: Read,
+    W: Write,
+    D: Write,
+>(
     alloc: Global,
     reader: &mut R,
     writer: &mut W,
-    volume: &mut Volume<F>,
-    watch: &mut V,
+    teller: &mut D,
+    tended: &mut Tended<F, J, V>,
 ) -> Result<(), RunFault>
-    ensures heard { OnOk result (HasHeardAll
+    ensures heard { OnOk result (HasBegun tended.old → HeardAll
         (talker_of (cleaner_of F.state F.is_settled F.cleaner)
-        F.map_text F.segment_text)
-        volume.old volume.new (R.remaining reader.old) (R.remaining reader.new)
+        F.map_text F.segment_text) (sink_of J.contents J.next)
+        tended.old tended.new (R.remaining reader.old) (R.remaining reader.new)
         (W.contents writer.old) (W.contents writer.new)) }
-    ensures so_far { IfErr result (λ fault. fault ≡ Read → HasHeardSoFar
+    ensures so_far { IfErr result (λ fault. fault ≡ Read → HasBegun tended.old → HeardSoFar
         (talker_of (cleaner_of F.state F.is_settled F.cleaner)
-        F.map_text F.segment_text)
-        volume.old volume.new (R.remaining reader.old) (R.remaining reader.new)
+        F.map_text F.segment_text) (sink_of J.contents J.next)
+        tended.old tended.new (R.remaining reader.old) (R.remaining reader.new)
         (W.contents writer.old) (W.contents writer.new)) }
+    ensures opened { OnOk result (tended.new.is_open ≡ true → tended.old.is_open ≡ true) }
+    ensures silent { OnOk result (tended.new.is_open ≡ tended.old.is_open → teller.new ≡ teller.old) }
     ensures fault { IfErr result IsTalkFault }
 {
     let mut speaker = Speaker::first();
     for _ in 0..u64::MAX {
-        if !hear_next(alloc, reader, writer, volume, watch, &mut speaker)? {
+        if !hear_next(alloc, reader, writer, teller, tended, &mut speaker)? {
             return Ok(());
         }
     }
@@ -84,23 +130,33 @@ fn hear_all<F: CleanedStore + ShowsLog + Drop, V: Watch<F>, R: Read, W: Write>(
 }
 
 /// Reads a line and answers it. Whether more is to be read.
-fn hear_next<F: CleanedStore + ShowsLog + Drop, V: Watch<F>, R: Read, W: Write>(
+fn hear_next<
+    F: CleanedStore + ShowsLog + Drop,
+    J: JournalSink + Drop,
+    V: Watch<F> + Drop,
+    R: Read,
+    W: Write,
+    D: Write,
+>(
     alloc: Global,
     reader: &mut R,
     writer: &mut W,
-    volume: &mut Volume<F>,
-    watch: &mut V,
+    teller: &mut D,
+    tended: &mut Tended<F, J, V>,
     speaker: &mut Speaker,
 ) -> Result<bool, RunFault>
     ensures next { IfOk result (λ goes_on. goes_on ≡ true → HearsNext
         (talker_of (cleaner_of F.state F.is_settled F.cleaner)
-        F.map_text F.segment_text)
-        volume.old volume.new speaker.old speaker.new (R.remaining reader.old) (R.remaining reader.new)
+        F.map_text F.segment_text) (sink_of J.contents J.next)
+        tended.old tended.new speaker.old speaker.new (R.remaining reader.old) (R.remaining reader.new)
         (W.contents writer.old) (W.contents writer.new)) }
-    ensures last { IfOk result (λ goes_on. goes_on ≡ false → (volume.new ≡ volume.old) × HearsLast
-        (R.remaining reader.old) (R.remaining reader.new) (W.contents writer.old) (W.contents writer.new)) }
-    ensures failed { IfErr result (λ fault. fault ≡ Read → (volume.new ≡ volume.old) × FailsHere
-        (R.remaining reader.old) (R.remaining reader.new) (W.contents writer.old) (W.contents writer.new)) }
+    ensures last { IfOk result (λ goes_on. goes_on ≡ false → (tended.new ≡ tended.old) × HearsLast
+        (R.remaining reader.old) (R.remaining reader.new)
+        (W.contents writer.old) (W.contents writer.new)) }
+    ensures failed { IfErr result (λ fault. fault ≡ Read → (tended.new ≡ tended.old) × FailsHere
+        (R.remaining reader.old) (R.remaining reader.new)
+        (W.contents writer.old) (W.contents writer.new)) }
+    ensures silent { OnOk result (tended.new.is_open ≡ tended.old.is_open → teller.new ≡ teller.old) }
     ensures fault { IfErr result IsTalkFault }
 {
     let piece = read_line(alloc, reader)?;
@@ -108,8 +164,8 @@ fn hear_next<F: CleanedStore + ShowsLog + Drop, V: Watch<F>, R: Read, W: Write>(
         return hear_line(
             alloc,
             writer,
-            volume,
-            watch,
+            teller,
+            tended,
             speaker,
             piece.bytes.as_slice(),
         );
@@ -120,27 +176,37 @@ fn hear_next<F: CleanedStore + ShowsLog + Drop, V: Watch<F>, R: Read, W: Write>(
 }
 
 /// Does what a line says, which is given without its line feed, and writes what is told of it. Whether more is to be read.
-fn hear_line<F: CleanedStore + ShowsLog + Drop, V: Watch<F>, W: Write>(
+fn hear_line<
+    F: CleanedStore + ShowsLog + Drop,
+    J: JournalSink + Drop,
+    V: Watch<F> + Drop,
+    W: Write,
+    D: Write,
+>(
     alloc: Global,
     writer: &mut W,
-    volume: &mut Volume<F>,
-    watch: &mut V,
+    teller: &mut D,
+    tended: &mut Tended<F, J, V>,
     speaker: &mut Speaker,
     line: &[u8],
 ) -> Result<bool, RunFault>
     ensures told { IfOk result (λ goes_on. goes_on ≡ true → IsTold
         (talker_of (cleaner_of F.state F.is_settled F.cleaner)
-        F.map_text F.segment_text)
-        volume.old volume.new speaker.old speaker.new (heard_of line.now)
+        F.map_text F.segment_text) (sink_of J.contents J.next)
+        tended.old tended.new speaker.old speaker.new (heard_of line.now)
         (W.contents writer.old) (W.contents writer.new)) }
-    ensures quits { IfOk result (λ goes_on. goes_on ≡ false → (volume.new ≡ volume.old)
+    ensures quits { IfOk result (λ goes_on. goes_on ≡ false → (tended.new ≡ tended.old)
         × (heard_of line.now ≡ heard.Dot Quit) × Keeps (W.contents writer.old) (W.contents writer.new)) }
+    ensures silent { OnOk result (tended.new.is_open ≡ tended.old.is_open → teller.new ≡ teller.old) }
     ensures fault { IfErr result IsLateFault }
 {
-    match answer(alloc, volume, speaker, line)? {
+    match answer(alloc, &mut tended.volume, &tended.told, speaker, line)? {
         Some(text) => {
             say(writer, text.as_slice())?;
-            watch.watch(alloc, line, text.as_slice(), volume.store())?;
+            tended
+                .watch
+                .watch(alloc, line, text.as_slice(), tended.volume.store())?;
+            tended.move_on(teller);
             Ok(true)
         }
         None => Ok(false),

@@ -1,6 +1,8 @@
 //! What a line does, and the text that is told of it.
 
-ghost use Rattle.std.specs.Prelude.{◌≡◌, [], Some, IfOk, MatchOption};
+ghost use Rattle.std.specs.Prelude.{◌≡◌, ◌++◌, [], List, Some, IfOk, MatchOption};
+ghost use Rattle.lfs_model.specs.Counts.{counts_of};
+ghost use Rattle.lfs_print.specs.ReportText.{report_text};
 ghost use Rattle.lfs_volume.specs.Cleanings.{cleaner_of};
 ghost use Rattle.lfs_volume.specs.Journals.{AtPresent};
 ghost use Rattle.lfs_audit.specs.Runs.{TellsLine};
@@ -17,8 +19,10 @@ use crate::hearing::{Dot, Heard, LINE_MAX, hear};
 use crate::help::push_help;
 use crate::journal::tell_journal;
 use lfs_audit::passing::run_step;
-use lfs_print::report::report_counts;
+use lfs_model::counts::Counts;
+use lfs_model::journal::Entry;
 use lfs_script::plan::{Act, Line, Step};
+use lfs_sinks::totals::{Totals, push_report};
 use lfs_types::cleaned::CleanedStore;
 use lfs_types::cred::Cred;
 use lfs_types::request::Request;
@@ -52,7 +56,7 @@ impl Speaker {
 }
 
 /// Does what a line says, and gives the text that is told of it, or none for a line that quits. A line is given without
-/// its line feed.
+/// its line feed; so are the totals of the entries that were handed out.
 ///
 /// # Errors
 ///
@@ -60,24 +64,25 @@ impl Speaker {
 pub fn answer<F: CleanedStore + ShowsLog + Drop>(
     alloc: Global,
     volume: &mut Volume<F>,
+    told: &Totals,
     speaker: &mut Speaker,
     line: &[u8],
 ) -> Result<Option<Vec<u8>>, AllocError>
-    ensures { IfOk result (λ told. MatchOption told
+    ensures { IfOk result (λ given. MatchOption given
         ((heard_of line.now ≡ heard.Dot Quit) × (volume.new ≡ volume.old))
-        (λ text. Hears
+        (λ text. (handed : List Entry) → told.now ≡ counts_of handed → Hears
         (talker_of (cleaner_of F.state F.is_settled F.cleaner)
         F.map_text F.segment_text)
-        volume.old speaker.old (heard_of line.now) text.items volume.new speaker.new)) }
+        handed volume.old speaker.old (heard_of line.now) text.items volume.new speaker.new)) }
 {
     match hear(alloc, line)? {
         Heard::Line(said) => Ok(Some(obey(alloc, volume, speaker, said)?)),
         Heard::Why(request) => {
-            let told = tell_why(alloc, volume, &speaker.cred, &request);
+            let why = tell_why(alloc, volume, &speaker.cred, &request);
             drop(request);
-            Ok(Some(told?))
+            Ok(Some(why?))
         }
-        Heard::Dot(dot) => tell_dot(alloc, volume, dot),
+        Heard::Dot(dot) => tell_dot(alloc, volume, told, dot),
         Heard::Fault(fault) => Ok(Some(tell_fault(alloc, fault)?)),
     }
 }
@@ -139,20 +144,36 @@ fn tell_why<F: FileStore + Drop>(
 fn tell_dot<F: FileStore + ShowsLog + Drop>(
     alloc: Global,
     volume: &Volume<F>,
+    told: &Totals,
     dot: Dot,
 ) -> Result<Option<Vec<u8>>, AllocError>
-    ensures { IfOk result (λ told. MatchOption told
+    ensures { IfOk result (λ given. MatchOption given
         (dot ≡ Quit)
-        (λ text. dot_text F.map_text F.segment_text dot volume.now ≡ Some text.items)) }
+        (λ text. (handed : List Entry) → told.now ≡ counts_of handed
+        → dot_text F.map_text F.segment_text dot handed volume.now ≡ Some text.items)) }
 {
     match dot {
         Dot::Journal(count) => Ok(Some(tell_journal(alloc, volume.journal(), count)?)),
         Dot::Map => Ok(Some(tell_map(alloc, volume.store())?)),
         Dot::Segment(number) => Ok(Some(tell_segment(alloc, volume.store(), number)?)),
-        Dot::Report => Ok(Some(report_counts(alloc, volume.counts())?)),
+        Dot::Report => Ok(Some(tell_report(alloc, told, volume.counts())?)),
         Dot::Help => Ok(Some(tell_help(alloc)?)),
         Dot::Quit => Ok(None),
     }
+}
+
+/// The report over all entries, of which the first were handed out.
+pub(crate) fn tell_report(
+    alloc: Global,
+    told: &Totals,
+    counts: &Counts,
+) -> Result<Vec<u8>, AllocError>
+    ensures { IfOk result (λ text. (handed kept : List Entry) → told.now ≡ counts_of handed
+        → counts.now ≡ counts_of kept → text.items ≡ report_text (handed ++ kept)) }
+{
+    let mut text = Vec::new(alloc);
+    push_report(&mut text, told, counts)?;
+    Ok(text)
 }
 
 /// The text of `.map`.

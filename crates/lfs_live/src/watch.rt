@@ -19,7 +19,7 @@ pub trait Watch<F> {
 }
 
 /// Nobody, who watches nothing.
-#[derive(Clone, Copy, Debug)]
+#[derive(Clone, Copy, Debug, Drop)]
 pub struct Nobody;
 
 impl<F> Watch<F> for Nobody {

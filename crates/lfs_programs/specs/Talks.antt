@@ -1,28 +1,45 @@
 -- How `lfs_shell` ends.
-use Rattle.std.specs.Prelude.{◌≡◌, ◌≢◌, ◌≤◌, ℕ, List, Option, Result, IfErr, IfOk, IfSome, IsSome}
+use Rattle.std.specs.Prelude.{◌≡◌, ◌≤◌, ℕ, Bool, false, true, List, Option, Result, Ok, Err, IfErr, IfOk, IfSome}
+use Rattle.std.specs.Prelude.{IsSome, is_some}
 use Rattle.std.specs.Io.KnownBytes.{Appends}
 use Rattle.clap.specs.Values.{kind_of}
 use Rattle.clap.specs.declared.error.Error.{Error}
-use Rattle.lfs_types.specs.declared.store.Params.{Params}
 use Rattle.lfs_film.specs.Films.{Reel, page_text}
+use Rattle.lfs_types.specs.declared.store.Params.{Params}
 use Rattle.lfs_programs.specs.Ranges.{IsInRange}
 use Rattle.lfs_programs.specs.declared.options.ShellOptions.{ShellOptions}
+use Rattle.lfs_audit.specs.declared.fault.RunFault.{RunFault}
 use Rattle.lfs_audit.specs.declared.fault.RunFault.TheVariants.{Read}
-use Rattle.lfs_live.specs.Scripts.{HasHeardOfLog, IsLogFault, IsLogTalk}
+use Rattle.lfs_live.specs.Scripts.{HasHeardOfLog, IsKeptLogTalk, IsLogFault, IsLogTalk}
 use Rattle.lfs_programs.specs.Ends.{EndsUnasked}
 use Rattle.lfs_programs.specs.declared.fault.ShellFault.{ShellFault}
-use Rattle.lfs_programs.specs.declared.fault.ShellFault.TheVariants.{Film, Talk}
+use Rattle.lfs_programs.specs.declared.filming.Heard.{Heard}
+use Rattle.lfs_programs.specs.declared.fault.ShellFault.TheVariants.{Film, Journal, Talk}
 
--- the bytes of a reader were talked about up to the end of the talk
-abbrev pub HasTalked : Params → Option (List ℕ) → Option (List ℕ) → Option (List ℕ) → Type 0
-HasTalked params known start out =
-    (left : Option (List ℕ)) × IsLogTalk params.segments params.inodes params.frames params.journal known left start out
+-- A file's bytes, where they are known, grew by the lines of all entries of a talk, numbered from 1 on, where it took
+-- them to the end.
+pub record HasFiled {F : Type 0} (contents : F → Option (List ℕ)) (params : Params) (is_kept : Bool)
+    (known left start out : Option (List ℕ)) : Type 0 where
+  pub before : F
+  pub after : F
+  pub talk : IsKeptLogTalk params.segments params.inodes params.frames params.journal true is_kept 1
+      (contents before) (contents after) known left start out
+
+-- The bytes of a reader were talked about up to the end of the talk: with all entries in memory, or with a file of the
+-- journal, where one is asked for.
+pub record HasTalked {F : Type 0} (contents : F → Option (List ℕ)) (options : ShellOptions) (is_kept : Bool)
+    (known start out : Option (List ℕ)) : Type 0 where
+  pub left : Option (List ℕ)
+  pub alone : is_some options.journal_out ≡ false → let params = options.params in
+      IsLogTalk params.segments params.inodes params.frames params.journal false known left start out
+  pub filed : is_some options.journal_out ≡ true → HasFiled contents options.params is_kept known left start out
 
 -- the same up to a read that failed
-abbrev pub HasTalkedSoFar : Params → Option (List ℕ) → Option (List ℕ) → Option (List ℕ) → Type 0
-HasTalkedSoFar params known start out =
-    (left : Option (List ℕ)) × HasHeardOfLog params.segments params.inodes params.frames params.journal known left start
-    out
+abbrev pub HasTalkedSoFar : ShellOptions → Option (List ℕ) → Option (List ℕ) → Option (List ℕ) → Type 0
+HasTalkedSoFar options known start out =
+    let params = options.params in
+    (left : Option (List ℕ)) × HasHeardOfLog params.segments params.inodes params.frames params.journal
+    (is_some options.journal_out) known left start out
 
 -- a file, whose bytes these are where they are known, got the page of a film
 pub record HasPage {F : Type 0} (contents : F → Option (List ℕ)) (reel : Reel) : Type 0 where
@@ -34,27 +51,46 @@ pub record HasPage {F : Type 0} (contents : F → Option (List ℕ)) (reel : Ree
 abbrev pub IsFilmed : {F : Type 0} → (F → Option (List ℕ)) → Type 0
 IsFilmed contents = (reel : Reel) × HasPage contents reel
 
--- a talk may end in this fault, which is a film's only where one is asked for
+-- a talk may end in this fault, which is a film's or a journal's only where one is asked for
 abbrev pub IsShellFault : ShellOptions → ShellFault → Type 0
 IsShellFault options (Talk fault) = IsLogFault options.params.segments options.params.inodes options.params.frames fault
 IsShellFault options Film = IsSome options.film
+IsShellFault options Journal = IsSome options.journal_out
+
+-- A talk's outcome, with what it has besides: the talk's fault; or its film's, which is written where it is done; or that
+-- the file of its journal has not each entry.
+abbrev pub Finishes : {F : Type 0} → (F → Option (List ℕ)) → ShellOptions → Result Heard RunFault
+    → Result (Unit {0}) ShellFault → Type 0
+Finishes contents options (Err fault) outcome = outcome ≡ Err (Talk fault)
+Finishes contents options (Ok heard) (Ok done) =
+    (heard.is_kept ≡ true) × IfSome options.film (λ _. IsFilmed contents)
+Finishes contents options (Ok heard) (Err (Talk fault)) = ⊥
+Finishes contents options (Ok heard) (Err Film) = IsSome options.film
+Finishes contents options (Ok heard) (Err Journal) = heard.is_kept ≡ false
 
 -- A talk ended in a fault, which has its cause. Where a read failed, each line that was read by then is answered; where
--- a film was not written, all is.
-pub record HasBrokenOff (options : ShellOptions) (known start out : Option (List ℕ)) : Type 0 where
+-- a film was not written, or the file of the journal took no more, all is.
+pub record HasBrokenOff {F : Type 0} (contents : F → Option (List ℕ)) (options : ShellOptions)
+    (known start out : Option (List ℕ)) : Type 0 where
   pub fault : ShellFault
   pub cause : IsShellFault options fault
-  pub so_far : fault ≡ Talk Read → HasTalkedSoFar options.params known start out
-  pub answered : fault ≡ Film → HasTalked options.params known start out
+  pub so_far : fault ≡ Talk Read → HasTalkedSoFar options known start out
+  pub answered : fault ≡ Film → (is_kept : Bool) × HasTalked contents options is_kept known start out
+  pub unkept : fault ≡ Journal → HasTalked contents options false known start out
 
--- A program that was asked for a talk ends with this status: 0 where it has its end, a film that is asked for is
--- written to a file, and nothing is told; else 1.
-pub record EndsTalk {D F : Type 0} (contents : F → Option (List ℕ)) (options : ShellOptions)
-    (known start out : Option (List ℕ)) (status : ℕ) (err_before err_after : D) : Type 0 where
-  pub either : status ≤ 1
-  pub done : status ≡ 0 → HasTalked options.params known start out × (err_after ≡ err_before)
+-- A program that was asked for a talk ends with this status: 0 where it has its end, a file of the journal that is
+-- asked for
+-- has each entry, a film that is asked for is written to a file, and nothing is told; 2 where the file of the journal
+-- could
+-- not be made, and then nothing is read; else 1.
+pub record EndsTalk {R W D F : Type 0} (contents : F → Option (List ℕ)) (options : ShellOptions)
+    (known start out : Option (List ℕ)) (status : ℕ) (in_before in_after : R) (out_before out_after : W)
+    (err_before err_after : D) : Type 0 where
+  pub either : status ≤ 2
+  pub done : status ≡ 0 → HasTalked contents options true known start out × (err_after ≡ err_before)
   pub filmed : status ≡ 0 → IfSome options.film (λ _. IsFilmed contents)
-  pub failed : status ≢ 0 → HasBrokenOff options known start out
+  pub failed : status ≡ 1 → HasBrokenOff contents options known start out
+  pub unmade : status ≡ 2 → IsSome options.journal_out × (in_after ≡ in_before) × (out_after ≡ out_before)
 
 -- `lfs_shell` ends with this status by what it was asked for: options whose numbers are in their ranges, as a talk
 -- ends, or else nothing is read
@@ -62,6 +98,7 @@ pub record IsShellEnd {R W D F : Type 0} (contents : F → Option (List ℕ)) (k
     (status : ℕ) (in_before in_after : R) (out_before out_after : W) (err_before err_after : D) : Type 0 where
   pub asked : Result ShellOptions Error
   pub ranges : IfOk asked (λ options. IsInRange 1000000 options.params)
-  pub talk : IfOk asked (λ options. EndsTalk contents options known start out status err_before err_after)
+  pub talk : IfOk asked (λ options. EndsTalk contents options known start out status in_before in_after out_before
+      out_after err_before err_after)
   pub not_run : IfErr asked (λ error. (in_after ≡ in_before)
       × EndsUnasked (kind_of error) status out_before out_after err_before err_after)

@@ -12,4 +12,18 @@ pub enum ShellFault {
     /// All was answered, and the film could not be written to its file.
     #[error("film not written")]
     Film,
+    /// All was answered, and the file of the journal took no more entries, which was told by then.
+    #[error("journal not written")]
+    Journal,
+}
+
+/// Why `lfs_shell` doesn't begin: the file of the journal was not made.
+#[derive(Clone, Copy, PartialEq, Eq, Debug, Error)]
+pub enum OpenFault {
+    /// There is a file of this path, which is left as it is.
+    #[error("journal file exists")]
+    Exists,
+    /// No file of this path could be made.
+    #[error("journal file not made")]
+    Unmade,
 }

@@ -1,6 +1,6 @@
 //! What the arguments of `lfsd` and of `lfs_shell` ask for.
 
-ghost use Rattle.std.specs.Prelude.{◌≤◌, IfOk};
+ghost use Rattle.std.specs.Prelude.{◌≤◌, IfOk, IsSome};
 ghost use Rattle.lfs_programs.specs.Ranges.{IsBetween, IsInRange};
 
 use clap::builder::ValueParser;
@@ -76,6 +76,12 @@ const SHELL_JOURNAL: NumberOption = NumberOption {
 /// The option of `lfs_shell` that takes the file of a film.
 const FILM: &str = "film";
 
+/// The option of `lfs_shell` that takes the file of the journal.
+const JOURNAL_OUT: &str = "journal-out";
+
+/// The least window of a journal that goes to a file: it has room for what a line may ask for.
+const LEAST_WINDOW: u32 = 128;
+
 /// The parameters of `lfsd` where no argument says otherwise.
 pub const DEFAULTS: Params = Params {
     segments: SEGMENTS.default,
@@ -138,6 +144,8 @@ pub struct ShellOptions<'a> {
     pub params: Params,
     /// The file that the film of the log is written to, where one is asked for.
     pub film: Option<&'a str>,
+    /// The file that the journal's entries are written to, where one is asked for.
+    pub journal_out: Option<&'a str>,
 }
 
 /// The options that the words of `lfs_shell` ask for; the first word is the program's name.
@@ -149,18 +157,30 @@ pub fn shell_options_of<'a, S: AsStr>(
     alloc: Global,
     words: &'a [S],
 ) -> Result<ShellOptions<'a>, Error>
-    ensures { IfOk result (λ options. IsInRange 1000000 options.params) }
+    ensures ranges { IfOk result (λ options. IsInRange 1000000 options.params) }
+    ensures window { IfOk result (λ options. IsSome options.journal_out → 128 ≤ options.params.journal) }
 {
     let mut command = shell_command(alloc)?;
     let matches = command.try_get_matches_from_mut(words)?;
     match params_in(&matches, &SHELL_JOURNAL) {
         Ok(params) => {
             let film = matches.get_str(FILM);
-            Ok(ShellOptions { params, film })
+            let journal_out = matches.get_str(JOURNAL_OUT);
+            if journal_out.is_some() && params.journal < LEAST_WINDOW {
+                return Err(wrong_value(&mut command, SMALL_WINDOW));
+            }
+            Ok(ShellOptions {
+                params,
+                film,
+                journal_out,
+            })
         }
         Err(refusal) => Err(wrong_value(&mut command, refusal)),
     }
 }
+
+/// What is told of a window that is too small.
+const SMALL_WINDOW: &str = "--journal-out takes a --journal of at least 128";
 
 /// The fault of arguments of `lfsd` that are no text.
 ///
@@ -263,7 +283,19 @@ fn shell_command<'a>(alloc: Global) -> Result<Command<'a>, AllocError> {
         .arg(INODES.arg(alloc))?
         .arg(FRAMES.arg(alloc))?
         .arg(SHELL_JOURNAL.arg(alloc))?
+        .arg(journal_out(alloc))?
         .arg(film(alloc))
+}
+
+/// The option for the journal's file.
+fn journal_out<'a>(alloc: Global) -> Arg<'a> {
+    Arg::new(alloc, JOURNAL_OUT)
+        .long(JOURNAL_OUT)
+        .value_name("FILE")
+        .action(ArgAction::Set)
+        .help(
+            "Writes each entry of the journal to FILE, which may not exist; --journal is then how many are kept in memory",
+        )
 }
 
 /// The option for a film.

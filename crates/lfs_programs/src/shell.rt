@@ -1,27 +1,26 @@
 //! `lfs_shell`: a line is read from standard input and answered on standard output before the next is read.
 
-ghost use Rattle.std.specs.Prelude.{◌≡◌, IfErr, IfOk, IfSome, OnOk};
+ghost use Rattle.std.specs.Prelude.{◌≡◌, false, true, IfErr, IfOk, IsSome, MatchResult, is_some};
 ghost use Rattle.clap.specs.Values.{kind_of};
 ghost use Rattle.lfs_programs.specs.Ranges.{IsInRange};
 ghost use Rattle.lfs_audit.specs.declared.fault.RunFault.TheVariants.{Read as Failed};
+ghost use Rattle.lfs_live.specs.Scripts.{IsLogFault};
 ghost use Rattle.lfs_programs.specs.Ends.{EndsUnasked};
-ghost use Rattle.lfs_programs.specs.Talks.{EndsTalk, HasTalked, HasTalkedSoFar, IsFilmed, IsShellEnd, IsShellFault};
+ghost use Rattle.lfs_programs.specs.Talks.{EndsTalk, HasTalked, HasTalkedSoFar, IsShellEnd};
 
-use crate::fault::ShellFault;
-use crate::filming::talk;
+use crate::fault::{OpenFault, ShellFault};
+use crate::filming::{Heard, NAME, finish, hear};
 use crate::options::{ShellOptions, shell_not_utf8, shell_options_of};
 use crate::refusing::refuse;
 use crate::words::{NoWords, words};
 use clap::Error;
 use lfs_audit::fault::RunFault;
-use lfs_audit::tell::end;
+use lfs_audit::tell::{end, tell};
 use std::alloc::{AllocError, Global};
 use std::env::Env;
-use std::io::{BufReader, Read, Write};
+use std::fs::OpenOptions;
+use std::io::{BufReader, ErrorKind, Read, Write};
 use std::rt::Files;
-
-/// The program's name.
-const NAME: &str = "lfs_shell";
 
 /// Does what the arguments of an environment ask `lfs_shell` for, and gives the status with which it ends: 0 for a talk
 /// that has its end, with its film written where one is asked for, and for help; 1 for a fault, told in a line on
@@ -79,38 +78,82 @@ where
     D: Write,
     ensures talk { IfOk asked.entry (λ options. EndsTalk F.File.contents options
         (R.remaining stdin.old) (W.contents stdout.old) (W.contents stdout.new)
-        result stderr.old stderr.new) }
+        result stdin.old stdin.new stdout.old stdout.new stderr.old stderr.new) }
     ensures not_run { IfErr asked.entry (λ error. (stdin.new ≡ stdin.old)
         × EndsUnasked (kind_of error) result stdout.old stdout.new stderr.old stderr.new) }
 {
     match asked {
-        Ok(options) => {
-            let outcome = run(files, alloc, &options, stdin, stdout);
-            end(stderr, NAME, outcome)
-        }
+        Ok(options) => match open_journal(files, options.journal_out) {
+            Ok(journal) => {
+                let heard = run(alloc, stdin, stdout, stderr, journal, &options);
+                let outcome = finish(files, &options, heard);
+                end_talk(stderr, outcome)
+            }
+            Err(fault) => {
+                let _ = tell(stderr, NAME, &fault);
+                2
+            }
+        },
         Err(error) => refuse(stdout, stderr, NAME, &error),
     }
 }
 
-/// Reads lines, in large pieces, and answers each; writes the film that is asked for.
-fn run<F: Files, R: Read, W: Write>(
-    files: &F,
+/// Makes the file of the journal, where one is asked for.
+///
+/// # Errors
+///
+/// It is there already, or could not be made.
+fn open_journal<F: Files>(files: &F, path: Option<&str>) -> Result<Option<F::File>, OpenFault>
+    ensures opened { IfOk result (λ journal. is_some journal ≡ is_some path.entry) }
+    ensures asked { IfErr result (λ _. IsSome path.entry) }
+{
+    let Some(path) = path else {
+        return Ok(None);
+    };
+    let mut how = OpenOptions::new();
+    how.write(true).create_new(true);
+    match how.open(files, path) {
+        Ok(file) => Ok(Some(file)),
+        Err(error) if error.kind() == ErrorKind::AlreadyExists => Err(OpenFault::Exists),
+        Err(_) => Err(OpenFault::Unmade),
+    }
+}
+
+/// The status of a talk, whose fault is told, but for one of the journal's file, which was told by then.
+fn end_talk<D: Write>(stderr: &mut D, outcome: Result<(), ShellFault>) -> u8
+    ensures status { MatchResult outcome (λ _. result ≡ 0) (λ _. result ≡ 1) }
+    ensures silent { IfOk outcome (λ _. stderr.new ≡ stderr.old) }
+{
+    match outcome {
+        Err(ShellFault::Journal) => 1,
+        outcome => end(stderr, NAME, outcome),
+    }
+}
+
+/// Reads lines, in large pieces, and answers each, with the journal's file that is asked for.
+///
+/// # Errors
+///
+/// The talk's fault; `Memory` where there is none for the pieces.
+fn run<F: Write + Drop, R: Read, W: Write, D: Write>(
     alloc: Global,
-    options: &ShellOptions<'_>,
     stdin: &mut R,
     stdout: &mut W,
-) -> Result<(), ShellFault>
-    ensures talked { OnOk result (HasTalked options.now.params
+    stderr: &mut D,
+    journal: Option<F>,
+    options: &ShellOptions<'_>,
+) -> Result<Heard, RunFault>
+    requires { is_some journal ≡ is_some options.now.journal_out }
+    ensures talked { IfOk result (λ heard. HasTalked F.contents options.now heard.is_kept
         (R.remaining stdin.old) (W.contents stdout.old) (W.contents stdout.new)) }
-    ensures filmed { OnOk result (IfSome options.now.film (λ _. IsFilmed F.File.contents)) }
-    ensures so_far { IfErr result (λ fault. fault ≡ ShellFault.Talk Failed → HasTalkedSoFar options.now.params
+    ensures silent { IfOk result (λ heard. heard.is_kept ≡ true → stderr.new ≡ stderr.old) }
+    ensures kept { IfOk result (λ heard. heard.is_kept ≡ false → IsSome options.now.journal_out) }
+    ensures so_far { IfErr result (λ fault. fault ≡ Failed → HasTalkedSoFar options.now
         (R.remaining stdin.old) (W.contents stdout.old) (W.contents stdout.new)) }
-    ensures answered { IfErr result (λ fault. fault ≡ ShellFault.Film → HasTalked options.now.params
-        (R.remaining stdin.old) (W.contents stdout.old) (W.contents stdout.new)) }
-    ensures fault { IfErr result (IsShellFault options.now) }
+    ensures fault { let p = options.now.params in IfErr result (IsLogFault p.segments p.inodes p.frames) }
 {
     match BufReader::new(alloc, stdin) {
-        Ok(mut reader) => talk(files, alloc, &mut reader, stdout, options),
-        Err(_) => Err(ShellFault::Talk(RunFault::Memory)),
+        Ok(mut reader) => hear(alloc, &mut reader, stdout, stderr, journal, options),
+        Err(_) => Err(RunFault::Memory),
     }
 }

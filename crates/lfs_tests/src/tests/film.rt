@@ -30,11 +30,12 @@ impl Watch<LogStore> for Filming {
 
 /// The page of the film of a talk.
 fn page_of(rt: &impl Abort, alloc: Global, mut talk: &[u8]) -> Vec<u8> {
-    let mut filming = Filming {
+    let filming = Filming {
         film: Film::new(alloc),
     };
     let mut told = Vec::new(alloc);
-    run_watched(alloc, &mut talk, &mut told, &mut filming, SIX_SEGMENTS).expect(rt, "a talk");
+    let filming = run_watched(alloc, &mut talk, &mut told, filming, SIX_SEGMENTS);
+    let filming = filming.expect(rt, "a talk");
     let mut page = Vec::new(alloc);
     filming.film.write_page(&mut page).expect(rt, "a page");
     page

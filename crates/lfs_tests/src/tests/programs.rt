@@ -2,6 +2,7 @@
 
 mod files;
 mod film;
+mod journal;
 mod server;
 mod shell;
 mod streams;

@@ -1,43 +1,82 @@
+use Rattle.std.proofs.Common.{ap, refl, sym, ◌∙◌}
 use Rattle.std.proofs.lemmas.Result.{err_from_is_err_and}
 use Rattle.lfs_volume.specs.Cleanings.{cleaner_of}
+use Rattle.lfs_live.specs.Held.{sink_of}
 use Rattle.lfs_live.specs.Talkers.{talker_of}
-use Rattle.lfs_live.proofs.TalkLemmas.{heard_enough, heard_failed, heard_last, heard_next}
+use Rattle.lfs_live.proofs.KeepingLemmas.{same_open}
+use Rattle.lfs_live.proofs.TalkLemmas.{heard_enough, heard_failed, heard_last, heard_next, heard_none}
 use Rattle.lfs_live.proofs.talk.hear_all.Goals as goal
+
+pub loop-init : goal.loop-init
+loop-init g c =
+    let s = g.F.CleanedStore in
+    let r = talker_of (cleaner_of g.F.FileStore.state g.F.FileStore.is_settled s.cleaner) g.F.ShowsLog.map_text
+    g.F.ShowsLog.segment_text in
+    record {
+      heard = λ begins. heard_none r (sink_of g.J.JournalSink.contents g.J.JournalSink.next) c.args.tended.now _ _ _
+          c.first-speaker.ensures begins.0 begins.1;
+      opened = λ is. is;
+      silent = λ _. refl;
+    }
 
 pub returns-in_err-hear_next-clause-so_far : goal.returns-in_err-hear_next-clause-so_far
 returns-in_err-hear_next-clause-so_far g c =
     let s = g.F.CleanedStore in
     let r = talker_of (cleaner_of g.F.FileStore.state g.F.FileStore.is_settled s.cleaner) g.F.ShowsLog.map_text
     g.F.ShowsLog.segment_text in
+    let sink = sink_of g.J.JournalSink.contents g.J.JournalSink.next in
     let exit = err_from_is_err_and c.from_residual.result c.from_residual.ensures.1 in
     rw (exit.1, exit.2)
-    (λ is. let failed = c.in_err-hear_next.ensures.failed is in
-    heard_failed r c.args.volume.now c.loop.volume c.hear_next.new.volume c.loop.speaker _
+    (λ is begins. let failed = c.in_err-hear_next.ensures.failed is in
+    heard_failed r sink c.args.tended.now c.loop.tended c.hear_next.new.tended c.loop.speaker _
     (g.R.Read.remaining c.loop.reader) _ _ (g.W.Write.contents c.loop.writer) _
-    c.loop.invariant failed.0 failed.1)
+    (c.loop.invariant.heard begins) failed.0 failed.1)
 
 pub returns-then-not-branch-clause-heard : goal.returns-then-not-branch-clause-heard
 returns-then-not-branch-clause-heard g c =
     let s = g.F.CleanedStore in
     let r = talker_of (cleaner_of g.F.FileStore.state g.F.FileStore.is_settled s.cleaner) g.F.ShowsLog.map_text
     g.F.ShowsLog.segment_text in
+    let sink = sink_of g.J.JournalSink.contents g.J.JournalSink.next in
     let last = c.in_ok-hear_next.ensures.last c.if-not-branch.true in
-    heard_last r c.args.volume.now c.loop.volume c.hear_next.new.volume c.loop.speaker _
+    λ begins. heard_last r sink c.args.tended.now c.loop.tended c.hear_next.new.tended c.loop.speaker _
     (g.R.Read.remaining c.loop.reader) _ _ (g.W.Write.contents c.loop.writer) _
-    c.loop.invariant last.0 last.1
+    (c.loop.invariant.heard begins) last.0 last.1
+
+pub returns-then-not-branch-clause-silent : goal.returns-then-not-branch-clause-silent
+returns-then-not-branch-clause-silent g c = λ same.
+    let last = c.in_ok-hear_next.ensures.last c.if-not-branch.true in
+    let still = ap (λ h. h.is_open) last.0 in
+    c.in_ok-hear_next.ensures.silent still ∙ c.loop.invariant.silent (sym still ∙ same)
+
+pub returns-then-not-branch-clause-opened : goal.returns-then-not-branch-clause-opened
+returns-then-not-branch-clause-opened g c = λ is.
+    let last = c.in_ok-hear_next.ensures.last c.if-not-branch.true in
+    c.loop.invariant.opened (sym (ap (λ h. h.is_open) last.0) ∙ is)
 
 pub loop-preserved : goal.loop-preserved
 loop-preserved g c =
     let s = g.F.CleanedStore in
     let r = talker_of (cleaner_of g.F.FileStore.state g.F.FileStore.is_settled s.cleaner) g.F.ShowsLog.map_text
     g.F.ShowsLog.segment_text in
-    heard_next r c.args.volume.now c.loop.volume c.hear_next.new.volume c.loop.speaker c.hear_next.new.speaker _
-    (g.R.Read.remaining c.loop.reader) _ _ (g.W.Write.contents c.loop.writer) _
-    c.loop.invariant (c.in_ok-hear_next.ensures.next c.if-not-branch.false)
+    let sink = sink_of g.J.JournalSink.contents g.J.JournalSink.next in
+    let next = c.in_ok-hear_next.ensures.next c.if-not-branch.false in
+    record {
+      heard = λ begins. heard_next r sink c.args.tended.now c.loop.tended c.hear_next.new.tended c.loop.speaker
+          c.hear_next.new.speaker _ (g.R.Read.remaining c.loop.reader) _ _ (g.W.Write.contents c.loop.writer) _
+          (c.loop.invariant.heard begins) next;
+      opened = λ is. c.loop.invariant.opened (next.heard.moves.opened is);
+      silent = λ same.
+          let taking = same_open c.args.tended.now.is_open c.loop.tended.is_open c.hear_next.new.tended.is_open
+          c.loop.invariant.opened next.heard.moves.opened same in
+          c.in_ok-hear_next.ensures.silent taking.1 ∙ c.loop.invariant.silent taking.0;
+    }
 
 pub returns-clause-so_far : goal.returns-clause-so_far
 returns-clause-so_far g c =
     let s = g.F.CleanedStore in
     let r = talker_of (cleaner_of g.F.FileStore.state g.F.FileStore.is_settled s.cleaner) g.F.ShowsLog.map_text
     g.F.ShowsLog.segment_text in
-    λ is. heard_enough r c.args.volume.now c.loop.volume c.loop.speaker _ _ _ _ c.loop.invariant
+    let sink = sink_of g.J.JournalSink.contents g.J.JournalSink.next in
+    λ is begins. heard_enough r sink c.args.tended.now c.loop.tended c.loop.speaker _ _ _ _
+    (c.loop.invariant.heard begins)

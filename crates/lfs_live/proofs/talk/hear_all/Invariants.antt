@@ -1,4 +1,6 @@
+use Rattle.std.proofs.Common.{◌≡◌, true}
 use Rattle.lfs_volume.specs.Cleanings.{cleaner_of}
+use Rattle.lfs_live.specs.Held.{HasBegun, sink_of}
 use Rattle.lfs_live.specs.Talkers.{talker_of}
 use Rattle.lfs_live.proofs.talk.hear_all.Given as goal
 use Rattle.lfs_live.proofs.TalkLemmas.{HasHeard}
@@ -6,7 +8,12 @@ use Rattle.lfs_live.proofs.TalkLemmas.{HasHeard}
 abbrev pub invariant-loop : goal.invariant-loop
 invariant-loop g l =
     let s = g.F.CleanedStore in
-    HasHeard (talker_of (cleaner_of g.F.FileStore.state g.F.FileStore.is_settled s.cleaner) g.F.ShowsLog.map_text
-    g.F.ShowsLog.segment_text)
-    l.fn.volume l.volume l.speaker (g.R.Read.remaining l.fn.reader) (g.R.Read.remaining l.reader)
-    (g.W.Write.contents l.fn.writer) (g.W.Write.contents l.writer)
+    let r = talker_of (cleaner_of g.F.FileStore.state g.F.FileStore.is_settled s.cleaner) g.F.ShowsLog.map_text
+    g.F.ShowsLog.segment_text in
+    record {
+      heard : HasBegun l.fn.tended → HasHeard r (sink_of g.J.JournalSink.contents g.J.JournalSink.next)
+          l.fn.tended l.tended l.speaker (g.R.Read.remaining l.fn.reader) (g.R.Read.remaining l.reader)
+          (g.W.Write.contents l.fn.writer) (g.W.Write.contents l.writer);
+      opened : l.tended.is_open ≡ true → l.fn.tended.is_open ≡ true;
+      silent : l.tended.is_open ≡ l.fn.tended.is_open → l.teller ≡ l.fn.teller;
+    }

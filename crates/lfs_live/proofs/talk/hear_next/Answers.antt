@@ -5,7 +5,7 @@ use Rattle.lfs_live.proofs.talk.hear_next.Goals as goal
 pub returns-then-piece-clause-next : goal.returns-then-piece-clause-next
 returns-then-piece-clause-next g c =
     if_ok _ _ c.hear_line.result c.hear_line.ensures.told
-    (λ goes_on told whole. next_told _ _ _ _ _ _ _ _ _ c.in_ok-piece.piece.is_ended c.in_ok-piece.piece.bytes.items
+    (λ goes_on told whole. next_told _ _ _ _ _ _ _ _ _ _ c.in_ok-piece.piece.is_ended c.in_ok-piece.piece.bytes.items
     c.as_slice.result.now
     c.in_ok-piece.ensures.read c.if-piece.true c.as_slice.ensures.value (told whole))
 

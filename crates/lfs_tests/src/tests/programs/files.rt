@@ -1,4 +1,4 @@
-//! Files in memory, of which one can be made.
+//! Files in memory, of which one of two can be made.
 
 use std::alloc::{Allocator, Global};
 use std::cell::{Cell, RefCell};
@@ -7,8 +7,11 @@ use std::io;
 use std::io::{ErrorKind, Read, Seek, SeekFrom, Write};
 use std::rt::Files;
 
-/// The path of the only file that can be made.
-const PATH: &str = "film.html";
+/// The paths of the files that can be made, of which a program makes one.
+const PATHS: [&str; 2] = ["film.html", "journal.out"];
+
+/// The path of a file that is there.
+const THERE: &str = "there.out";
 
 /// How often the file was made, and what was written to it.
 #[derive(Drop)]
@@ -113,7 +116,10 @@ impl<'a> Files for Shelf<'a> {
     type Dir = Shelf<'a>;
 
     fn open_file(&self, _how: &OpenOptions, path: &str) -> io::Result<Shelf<'a>> {
-        if path != PATH {
+        if path == THERE {
+            return Err(io::Error::from(ErrorKind::AlreadyExists));
+        }
+        if path != PATHS[0] && path != PATHS[1] {
             return Err(io::Error::from(ErrorKind::NotFound));
         }
         self.disk.made.set(self.disk.made.get().saturating_add(1));

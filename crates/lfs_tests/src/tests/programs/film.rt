@@ -11,14 +11,14 @@ use std::io::{ErrorKind, Read};
 use std::process::Abort;
 
 /// What is told of the talk.
-const TOLD: &str = "0 ok\n0 stat 4 file 0 0 0644 00000000 0\n0 ok\n0 ok\n0 ok\n\
+pub(super) const TOLD: &str = "0 ok\n0 stat 4 file 0 0 0644 00000000 0\n0 ok\n0 ok\n0 ok\n\
     entries 5\nserved 5\ndenied 0\nrefused 0\ncleaner 0\n";
 
 /// Words that ask for a film in the file that can be made.
 const FILMED: &[&[u8]] = &[b"lfs_shell", b"--segments=6", b"--film", b"film.html"];
 
 /// Asserts that the program with these words over the files of a disk ends with this status, and writes this.
-fn expect_end<R: Read>(
+pub(super) fn expect_end<R: Read>(
     rt: &impl Abort,
     alloc: Global,
     disk: (&Disk, bool),

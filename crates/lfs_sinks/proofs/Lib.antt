@@ -1,0 +1,3 @@
+pub mod NumberedLemmas
+mod SinkLemmas
+pub mod SumLemmas

@@ -1,0 +1,73 @@
+//! `lfs_shell --journal-out`: each entry's line is written to a file, which may not be there before.
+
+use super::files::Disk;
+use super::film::{TOLD, expect_end};
+use crate::tests::expect_eq;
+use crate::tests::film::TALK;
+
+/// Words that ask for the journal in the file that can be made, with the least window.
+const KEPT: &[&[u8]] = &[
+    b"lfs_shell",
+    b"--segments=6",
+    b"--journal=128",
+    b"--journal-out",
+    b"journal.out",
+];
+
+/// The lines of the talk's entries.
+const LINES: &str = "#1 0 as 0 0 | create /a 0644 | ok\n\
+    #2 0 as 0 0 | stat /a | stat 4 file 0 0 0644 00000000 0\n\
+    #3 0 as 0 0 | sync | ok\n\
+    #4 0 as 0 0 | sync | ok\n\
+    #5 0 as 0 0 | write /a end 78 | ok\n";
+
+#[test]
+fn journal_is_written_to_its_file(rt: HostRuntime) {
+    let alloc = rt.alloc();
+    let disk = Disk::new(alloc);
+    let mut talk = TALK;
+    expect_end(&rt, alloc, (&disk, false), KEPT, &mut talk, (0, TOLD, ""));
+    expect_eq(&rt, disk.made(), 1);
+    expect_eq(&rt, disk.into_page().as_slice(), LINES.as_bytes());
+}
+
+#[test]
+fn journal_that_finds_no_room_is_told_once(rt: HostRuntime) {
+    let alloc = rt.alloc();
+    let disk = Disk::new(alloc);
+    let mut talk = TALK;
+    let wanted = (1, TOLD, "lfs_shell: journal not written: write failed\n");
+    expect_end(&rt, alloc, (&disk, true), KEPT, &mut talk, wanted);
+}
+
+#[test]
+fn journal_file_that_is_there_is_left(rt: HostRuntime) {
+    let alloc = rt.alloc();
+    let disk = Disk::new(alloc);
+    let mut talk = TALK;
+    let words: &[&[u8]] = &[b"lfs_shell", b"--journal-out=there.out"];
+    let wanted = (2, "", "lfs_shell: journal file exists\n");
+    expect_end(&rt, alloc, (&disk, false), words, &mut talk, wanted);
+    expect_eq(&rt, disk.made(), 0);
+    expect_eq(&rt, talk, TALK);
+}
+
+/// Syncs, one more than the 22 behind which the least window has no room for what a line may ask for, and the journal.
+const SYNCS: &[u8] = b"sync\nsync\nsync\nsync\nsync\nsync\nsync\nsync\nsync\nsync\nsync\nsync\n\
+    sync\nsync\nsync\nsync\nsync\nsync\nsync\nsync\nsync\nsync\nsync\n.journal\n";
+
+/// What is told of them: the last alone is kept, and the report counts all.
+const SYNCED: &str = "0 ok\n0 ok\n0 ok\n0 ok\n0 ok\n0 ok\n0 ok\n0 ok\n0 ok\n0 ok\n0 ok\n0 ok\n\
+    0 ok\n0 ok\n0 ok\n0 ok\n0 ok\n0 ok\n0 ok\n0 ok\n0 ok\n0 ok\n0 ok\n0 as 0 0 | sync | ok\n\
+    entries 23\nserved 23\ndenied 0\nrefused 0\ncleaner 0\n";
+
+#[test]
+fn journal_goes_on_behind_its_window(rt: HostRuntime) {
+    let alloc = rt.alloc();
+    let disk = Disk::new(alloc);
+    let mut talk = SYNCS;
+    expect_end(&rt, alloc, (&disk, false), KEPT, &mut talk, (0, SYNCED, ""));
+    let journal = disk.into_page();
+    assert!(rt; journal.starts_with(b"#1 0 as 0 0 | sync | ok\n#2 "));
+    assert!(rt; journal.ends_with(b"\n#22 0 as 0 0 | sync | ok\n#23 0 as 0 0 | sync | ok\n"));
+}
