@@ -56,7 +56,7 @@ pub fn run_kept<J: JournalSink + Drop, V: Watch<LogStore> + Drop, R: Read, W: Wr
 {
     let volume = fresh_volume(alloc, setup.params)?;
     let mut tended = Tended::new(alloc, volume, setup.witnesses);
-    match tended.watch.watch(alloc, &[], &[], tended.volume.store()) {
+    match tended.show(alloc, &[], &[]) {
         Ok(()) => {}
         Err(AllocError) => return Err(RunFault::Memory),
     }

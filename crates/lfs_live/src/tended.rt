@@ -6,6 +6,7 @@ ghost use Rattle.lfs_model.specs.Counts.{counts_of};
 ghost use Rattle.lfs_live.specs.Held.{HasRoom, IsHandedOut, Moves, Takes, drained, sink_of};
 ghost use Rattle.lfs_sinks.specs.Sums.{counts_sum};
 
+use crate::watch::Watch;
 use crate::witnesses::Witnesses;
 use lfs_io::tell::tell;
 use lfs_model::journal::{Entry, Event};
@@ -202,6 +203,15 @@ impl<F: FileStore + Drop, J: JournalSink + Drop, V: Drop> Tended<F, J, V> {
         self.told = told;
         self.given = 0;
         Ok(())
+    }
+}
+
+impl<F: FileStore + Drop, J: JournalSink + Drop, V: Watch<F> + Drop> Tended<F, J, V> {
+    /// Shows the one who watches the store, behind a line of which this was told.
+    pub(crate) fn show(&mut self, alloc: Global, line: &[u8], told: &[u8]) -> Result<(), AllocError>
+        ensures { self.new ≡ self.old }
+    {
+        self.watch.watch(alloc, line, told, self.volume.store())
     }
 }
 

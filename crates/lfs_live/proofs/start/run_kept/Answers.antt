@@ -17,7 +17,7 @@ returns-in_err-talk-clause-so_far g c =
     rw (exit.1, exit.2)
     (λ is. begun_heard sink p.segments p.inodes p.frames p.journal c.in_ok-volume.volume before.sink
     before.is_open _ c.talk.new.tended _ _ _ _
-    c.new-tended.ensures fresh (c.in_err-talk.ensures.so_far is))
+    (c.show.ensures ∙ c.new-tended.ensures) fresh (c.in_err-talk.ensures.so_far is))
 
 pub returns-in_err-talk-clause-fault : goal.returns-in_err-talk-clause-fault
 returns-in_err-talk-clause-fault g c =
@@ -39,9 +39,9 @@ returns-clause-written g c =
     after.result.is_open _ _ _ _ _ _ after.ensures.sink after.ensures.is_open
     (begun_talk sink p.segments p.inodes p.frames p.journal c.in_ok-volume.volume before.sink
     before.is_open _ c.talk.new.tended _ _ _ _
-    c.new-tended.ensures fresh c.in_ok-talk.ensures.written)
+    (c.show.ensures ∙ c.new-tended.ensures) fresh c.in_ok-talk.ensures.written)
 
 pub returns-clause-silent : goal.returns-clause-silent
 returns-clause-silent g c = λ same.
     c.in_ok-talk.ensures.silent (sym c.into_witnesses.ensures.is_open ∙ same
-    ∙ sym (ap (λ h. h.is_open) c.new-tended.ensures))
+    ∙ sym (ap (λ h. h.is_open) (c.show.ensures ∙ c.new-tended.ensures)))
