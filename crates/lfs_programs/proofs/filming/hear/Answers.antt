@@ -12,7 +12,7 @@ returns-in-Ok-run_kept-clause-talked c = λ c'. let p = c'.args.options.now.para
     after = c'.in-Ok-run_kept.after.sink.writer;
     talk = subst
         (λ (number : ℕ). IsKeptLogTalk p.segments p.inodes p.frames p.journal true c'.in-Ok-run_kept.after.is_open
-            number
+        number
         (c.F.Write.contents c'.new.result.writer) (c.F.Write.contents c'.in-Ok-run_kept.after.sink.writer)
         (c.R.Read.remaining c'.args.reader.now) (c.R.Read.remaining c'.run_kept.new.reader)
         (c.W.Write.contents c'.args.writer.now) (c.W.Write.contents c'.run_kept.new.writer))
