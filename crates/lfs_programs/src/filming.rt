@@ -151,8 +151,9 @@ fn is_written<F: Files>(files: &F, path: &str, film: Option<Film>) -> bool
 fn write_film<F: Files>(files: &F, path: &str, film: &Film) -> Result<(), WriteFault>
     ensures { OnOk result (HasPage F.File.contents film.now) }
 {
-    match File::create(files, path) {
-        Ok(mut file) => film.write_page(&mut file),
-        Err(_) => Err(WriteFault),
-    }
+    let Ok(mut file) = File::create(files, path) else {
+        return Err(WriteFault);
+    };
+    film.write_page(&mut file)?;
+    Ok(())
 }
