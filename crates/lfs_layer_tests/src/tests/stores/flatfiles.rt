@@ -173,34 +173,6 @@ fn shows_zeros_where_a_file_was_cut(rt: HostRuntime) {
 }
 
 #[test]
-fn holds_a_file_of_8460288_bytes(rt: HostRuntime) {
-    let mut store = fresh(&rt, rt.alloc());
-    let made = attrs_of(&rt, 0o600);
-    let longest = [
-        Change::Make {
-            ino: 4,
-            attrs: made,
-        },
-        Change::SetLength {
-            ino: 4,
-            len: 8_460_287,
-        },
-        Change::Put {
-            ino: 4,
-            off: 8_460_287,
-            bytes: b"z",
-        },
-    ];
-    store.apply(&longest, Reserve::Users).expect(&rt, "memory");
-    let shown = attrs_of(&rt, 0o600);
-    let size = 8_460_288;
-    expect_eq(&rt, store.attrs(4), Some(Attrs { size, ..shown }));
-    let mut bytes = [9; 3];
-    expect_read(&rt, &mut store, 8_460_286, &mut bytes, 2);
-    expect_eq(&rt, bytes, [0, b'z', 9]);
-}
-
-#[test]
 fn gives_out_a_removed_number(rt: HostRuntime) {
     let mut store = fresh(&rt, rt.alloc());
     let made = attrs_of(&rt, 0o600);
