@@ -2,7 +2,8 @@
 """Makes the calls of scripts on a Linux file system in memory, and says where Linux answers otherwise.
 
   replay-on-linux.py [SCRIPT.lfs ..]          compares with the answers beside each script; without words all stored scripts
-  replay-on-linux.py --lines SCRIPT.lfs       prints a journal of what Linux answers, as `lfs_audit_trail` reads one
+  replay-on-linux.py --lines SCRIPT.lfs       prints a journal of what Linux answers, as `lfs_audit_trail --errors` reads
+                                              one: without Stats, and with no answers beside the script all its calls
   replay-on-linux.py --random N SEED LFSD     makes N scripts of random calls by four users, asks a built `lfsd` and compares
 
 As root: a tmpfs is mounted in a folder of its own, and each call is made by a process with the caller's user and groups.
@@ -16,6 +17,7 @@ docs/RULES.md doesn't tell of, with status 1.
 """
 import errno
 import fcntl
+import itertools
 import os
 import pickle
 import random
@@ -275,23 +277,26 @@ def users_lines(script):
 
 def replay(script, counts, prints, is_told=lambda *_: False):
     """Replays one script; `is_told` says which differences aren't printed."""
-    found = script.with_suffix(".out").read_text().splitlines()
+    known = script.with_suffix(".out")
+    found = known.read_text().splitlines() if known.exists() or not prints else []
     answers = [line.split(" ")[1:] for line in found if line[:1].isdigit() and line.split(" ")[1] != "cleaner"]
     with tempfile.TemporaryDirectory() as folder:
         subprocess.run(["mount", "-t", "tmpfs", "-o", "mode=0755", "replay", folder], check=True)
         try:
             tree = Linux(folder)
-            for (number, line, words, caller), answer in zip(users_lines(script), answers):
+            for (number, line, words, caller), answer in zip(users_lines(script), answers or itertools.repeat(None)):
                 verb = words[0]
-                if verb in ("level", "sync") or answer[0] == "refused":
+                if verb in ("level", "sync") or answer and answer[0] == "refused":
                     counts["left out"] += 1
                     continue
-                told, here = tree.call(caller, words, answer[0]), comparable(verb, answer)
+                told = tree.call(caller, words, answer and answer[0])
+                here = comparable(verb, answer) if answer else told
                 if told is None:
                     counts["left out"] += 1
                     continue
                 if verb not in ("stat", "read", "list"):
                     told = told[0], None if told[0] else told[1]
+                    here = here if answer else told
                 if prints and verb != "stat":
                     print(line_of(caller, line, verb, told))
                 kind = "agree" if told == here else "told" if is_told(words, here, told) else "differ"

@@ -1,7 +1,7 @@
 -- An audit that reads on.
-use Rattle.std.proofs.Common.{◌≡◌, ℕ, ◌+◌, List, [], ◌∷◌, ◌++◌, length, Option, sym, ap, subst, ◌∙◌, arith}
+use Rattle.std.proofs.Common.{◌≡◌, ℕ, ◌+◌, List, [], ◌∷◌, ◌++◌, length, Option, None, Some, sym, ap, subst, ◌∙◌, arith}
 use Rattle.std.proofs.Common.{append_assoc, length-append}
-use Rattle.std.specs.Prelude.{Ok, Err}
+use Rattle.std.specs.Prelude.{Ok, Err, Result}
 use Rattle.std.specs.Io.KnownBytes.{Consumes}
 use Rattle.std.specs.List.{All}
 use Rattle.std.proofs.KnownBytes.{Consumes-nil, Consumes-trans}
@@ -10,37 +10,44 @@ use Rattle.std.proofs.lemmas.List.{append-nil}
 use Rattle.std.proofs.lemmas.List.Elements.{All-nil, All-push}
 use Rattle.lfs_types.specs.Tree.{opening_world}
 use Rattle.lfs_model.specs.declared.journal.Entry.{Entry}
-use Rattle.lfs_model.specs.Steps.{IsLegal, after_event, world_after}
-use Rattle.lfs_model.proofs.RunLemmas.{IsLegal-append, world_after-append}
+use Rattle.lfs_model.specs.Steps.{after_event, world_after}
+use Rattle.lfs_model.proofs.RunLemmas.{world_after-append}
 use Rattle.lfs_words.specs.Lines.{HasNoLineFeed}
+use Rattle.lfs_journal_lines.specs.Numbering.{unnumbered}
 use Rattle.lfs_journal_lines.specs.Reading.{entry_told}
-use Rattle.lfs_trace.specs.Checking.{IsChecked, IsSameStanding, Standing, StandsAt, numbers_of}
+use Rattle.lfs_journal_lines.specs.declared.fault.LineFault.{LineFault}
+use Rattle.lfs_trace.specs.Checking.{IsSameStanding, Standing, StandsAt, numbers_of}
+use Rattle.lfs_trace.specs.Errors.{IsCheckedAs, IsLegalAs}
+use Rattle.lfs_trace.proofs.ErrorLemmas.{legal_as-append}
 use Rattle.lfs_trace.specs.declared.fault.EntryFault.{EntryFault}
-use Rattle.lfs_trace.specs.declared.fault.EntryFault.TheVariants.{Illegal}
 use Rattle.lfs_auditing.specs.Audits.{AreTold, HasRead, HasReadOn, StopsAtLine, StopsBehind, behind}
-use Rattle.lfs_auditing.specs.Audits.{lines_text}
+use Rattle.lfs_auditing.specs.Audits.{lines_text, told_as, told_of, told_there}
 use Rattle.lfs_auditing.specs.Users.{AreCounted}
 use Rattle.lfs_auditing.specs.declared.audit.Audit.{Audit}
 use Rattle.lfs_auditing.specs.declared.audit.Stop.{Stop}
 use Rattle.lfs_auditing.specs.declared.audit.Stop.TheVariants as stops
+use Rattle.lfs_auditing.specs.declared.fault.Unread.{Unread}
 use Rattle.lfs_auditing.specs.declared.fault.Unread.TheVariants as whys
 
 -- ---- an entry more
 
 module _ (old new : Audit) (mid : Standing) (es : List Entry) (e : Entry) (read : HasRead old es) where
-  pub read_more : IsChecked old.checker mid e.cred e.event (Ok tt) → IsSameStanding mid new.checker → new.entries
-      ≡ old.entries + 1
+  pub read_more : IsCheckedAs old.denials old.checker mid e.cred e.event (Ok tt) → IsSameStanding mid new.checker
+      → new.denials ≡ old.denials → new.entries ≡ old.entries + 1
       → AreCounted new.users.counts (es ++ e ∷ []) → HasRead new (es ++ e ∷ [])
-  read_more checked same count users =
+  read_more checked same denials count users =
       let n = numbers_of old.checker in
       let w = behind old es in
       let numbers : numbers_of new.checker ≡ n = same.numbers ∙ checked.numbers in
       let segments = same.segments ∙ checked.segments in
+      let all = es ++ e ∷ [] in
       record {
-        legal = subst (λ m. IsLegal m new.checker.segments (es ++ e ∷ []) opening_world) (sym numbers)
-            (subst (λ s. IsLegal n s (es ++ e ∷ []) opening_world) (sym segments)
-            (IsLegal-append n old.checker.segments es e opening_world read.legal (checked.legal w read.stands)));
-        stands = subst (λ m. StandsAt new.checker (world_after m (es ++ e ∷ []) opening_world)) (sym numbers)
+        legal = subst (λ d. IsLegalAs d (numbers_of new.checker) new.checker.segments all opening_world) (sym denials)
+            (subst (λ m. IsLegalAs old.denials m new.checker.segments all opening_world) (sym numbers)
+            (subst (λ s. IsLegalAs old.denials n s all opening_world) (sym segments)
+            (legal_as-append old.denials n old.checker.segments es e opening_world read.legal
+            (checked.legal w read.stands))));
+        stands = subst (λ m. StandsAt new.checker (world_after m all opening_world)) (sym numbers)
             (subst (StandsAt new.checker) (sym (world_after-append n es (e ∷ []) opening_world))
             (same.worlds (after_event n w e.cred e.event) (checked.leads w read.stands)));
         counted = let one = read.counted in let grown : length (es ++ e ∷ []) ≡ length es
@@ -49,13 +56,15 @@ module _ (old new : Audit) (mid : Standing) (es : List Entry) (e : Entry) (read 
       }
 
   -- an entry that is illegal leaves an audit where it is
-  pub read_same : (fault : EntryFault) → IsChecked old.checker new.checker e.cred e.event (Err fault) → new.entries
-      ≡ old.entries
-      → new.users ≡ old.users → HasRead new es
-  read_same fault checked count users =
+  pub read_same : (fault : EntryFault)
+      → IsCheckedAs old.denials old.checker new.checker e.cred e.event (Err fault) → new.denials ≡ old.denials
+      → new.entries ≡ old.entries → new.users ≡ old.users → HasRead new es
+  read_same fault checked denials count users =
       let w = behind old es in record {
-        legal = subst (λ m. IsLegal m new.checker.segments es opening_world) (sym checked.numbers)
-            (subst (λ s. IsLegal (numbers_of old.checker) s es opening_world) (sym checked.segments) read.legal);
+        legal = subst (λ d. IsLegalAs d (numbers_of new.checker) new.checker.segments es opening_world) (sym denials)
+            (subst (λ m. IsLegalAs old.denials m new.checker.segments es opening_world) (sym checked.numbers)
+            (subst (λ s. IsLegalAs old.denials (numbers_of old.checker) s es opening_world) (sym checked.segments)
+            read.legal));
         stands = subst (λ m. StandsAt new.checker (world_after m es opening_world)) (sym checked.numbers)
             (checked.stays w read.stands);
         counted = count ∙ read.counted;
@@ -64,18 +73,22 @@ module _ (old new : Audit) (mid : Standing) (es : List Entry) (e : Entry) (read 
 
 -- ---- lines
 
-told_more : (lines : List (List ℕ)) (more : List Entry) (line : List ℕ) (e : Entry) → AreTold lines more
-    → entry_told line ≡ Ok e → AreTold (lines ++ line ∷ []) (more ++ e ∷ [])
-told_more [] [] line e told is = (is, tt)
-told_more [] (x ∷ more) line e told is = absurd told
-told_more (l ∷ lines) [] line e told is = absurd told
-told_more (l ∷ lines) (x ∷ more) line e told is = (told.0, told_more lines more line e told.1 is)
+told_more : (number : ℕ) (lines : List (List ℕ)) (more : List Entry) (line : List ℕ) (e : Entry)
+    → AreTold number lines more → told_as (number + length more) line ≡ Ok e
+    → AreTold number (lines ++ line ∷ []) (more ++ e ∷ [])
+told_more number [] [] line e told is = let none : number + 0 ≡ number = omega arith in
+    (subst (λ n. told_as n line ≡ Ok e) none is, tt)
+told_more number [] (x ∷ more) line e told is = absurd told
+told_more number (l ∷ lines) [] line e told is = absurd told
+told_more number (l ∷ lines) (x ∷ more) line e told is =
+    let next : number + length (x ∷ more) ≡ (number + 1) + length more = omega arith in
+    (told.0, told_more (number + 1) lines more line e told.1 (subst (λ n. told_as n line ≡ Ok e) next is))
 
 -- what an audit that had read some entries has read of a reader so far
 pub record SoFar (known left : Option (List ℕ)) (es : List Entry) (a : Audit) : Type 0 where
   pub lines : List (List ℕ)
   pub more : List Entry
-  pub told : AreTold lines more
+  pub told : AreTold (length es + 1) lines more
   pub whole : All HasNoLineFeed lines
   pub taken : Consumes known left (lines_text lines)
   pub read : HasRead a (es ++ more)
@@ -92,18 +105,51 @@ none_so_far known es a read = record {
 
 pub one_more : (known left rest : Option (List ℕ)) (es : List Entry) (old new : Audit) (line : List ℕ) (e : Entry)
     → (so : SoFar known left es old)
-    → HasNoLineFeed line → Consumes left rest (line ++ 10 ∷ []) → entry_told line ≡ Ok e
-    → HasRead new ((es ++ so.more) ++ e ∷ []) → SoFar known rest es new
+    → HasNoLineFeed line → Consumes left rest (line ++ 10 ∷ [])
+    → told_as (length (es ++ so.more) + 1) line ≡ Ok e → HasRead new ((es ++ so.more) ++ e ∷ [])
+    → SoFar known rest es new
 one_more known left rest es old new line e so feedless takes is read = record {
   lines = so.lines ++ line ∷ [];
   more = so.more ++ e ∷ [];
-  told = told_more so.lines so.more line e so.told is;
+  told = let count : length (es ++ so.more) + 1 ≡ (length es + 1) + length so.more =
+      let sum = length-append es so.more in omega (arith, sum) in
+      told_more (length es + 1) so.lines so.more line e so.told (subst (λ n. told_as n line ≡ Ok e) count is);
   whole = All-push HasNoLineFeed so.lines line so.whole feedless;
   taken = subst (Consumes known rest) (sym (flat_map-append (λ (l : List ℕ). l ++ 10 ∷ []) so.lines (line ∷ [])
       ∙ ap (λ t. lines_text so.lines ++ t) (append-nil (line ++ 10 ∷ []))))
       (Consumes-trans known left rest (lines_text so.lines) (line ++ 10 ∷ []) so.taken takes);
   read = subst (HasRead new) (append_assoc es so.more (e ∷ [])) read;
 }
+
+-- what a line tells as the next entry's
+pub told_next : (a : Audit) (es : List Entry) (line : List ℕ) (number : ℕ) (told : Result Entry Unread) → HasRead a es
+    → number ≡ a.entries + 1 → told_as number line ≡ told → told_as (length es + 1) line ≡ told
+told_next a es line number told read is e =
+    subst (λ n. told_as n line ≡ told) (is ∙ ap (λ (n : ℕ). n + 1) read.counted) e
+
+-- a whole line isn't cut, nor too long
+not_cut : (read : Result Entry LineFault) → ¬ (told_there read ≡ Err whys.Cut)
+not_cut (Ok entry) e = absurd (cc)
+not_cut (Err fault) e = absurd (cc)
+
+not_long : (read : Result Entry LineFault) → ¬ (told_there read ≡ Err whys.TooLong)
+not_long (Ok entry) e = absurd (cc)
+not_long (Err fault) e = absurd (cc)
+
+never_cut : (text : Option (List ℕ)) → ¬ (told_of text ≡ Err whys.Cut)
+never_cut None e = absurd (cc)
+never_cut (Some text) e = not_cut (entry_told text) e
+
+never_long : (text : Option (List ℕ)) → ¬ (told_of text ≡ Err whys.TooLong)
+never_long None e = absurd (cc)
+never_long (Some text) e = not_long (entry_told text) e
+
+pub stops_told : (a : Audit) (es : List Entry) (line : List ℕ) (why : Unread)
+    → told_as (length es + 1) line ≡ Err why → StopsAtLine a es line (stops.Unread why)
+stops_told a es line whys.Cut e = absurd (never_cut (unnumbered (length es + 1) line) e)
+stops_told a es line whys.TooLong e = absurd (never_long (unnumbered (length es + 1) line) e)
+stops_told a es line whys.Gap e = e
+stops_told a es line (whys.Line fault) e = e
 
 -- behind a line that tells no legal entry
 pub stops_at : (left rest : Option (List ℕ)) (a : Audit) (es : List Entry) (line : List ℕ) (stop : Stop)
@@ -113,6 +159,7 @@ stops_at left rest a es line stops.End feedless takes at = absurd at
 stops_at left rest a es line (stops.Illegal e) feedless takes at = (line, feedless, takes, at)
 stops_at left rest a es line (stops.Unread whys.Cut) feedless takes at = absurd at
 stops_at left rest a es line (stops.Unread whys.TooLong) feedless takes at = absurd at
+stops_at left rest a es line (stops.Unread whys.Gap) feedless takes at = (line, feedless, takes, at)
 stops_at left rest a es line (stops.Unread (whys.Line fault)) feedless takes at = (line, feedless, takes, at)
 
 pub stopped : (known left rest : Option (List ℕ)) (es : List Entry) (old new : Audit) (stop : Stop)

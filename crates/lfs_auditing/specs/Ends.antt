@@ -24,8 +24,9 @@ pub record EndsAudit {D : Type 0} (options : Options) (known : Option (List ℕ)
     (err_before err_after : D) : Type 0 where
   pub either : status ≤ 1
   pub quiet : status ≡ 0 → err_after ≡ err_before
-  pub audited : status ≡ 0 → options.journal ≡ None → IsAudited known options.inodes options.segments 0
-  pub of_some : status ≡ 0 → (bytes : Option (List ℕ)) × IsAudited bytes options.inodes options.segments 0
+  pub audited : status ≡ 0 → options.journal ≡ None → IsAudited known options.denials options.inodes options.segments 0
+  pub of_some : status ≡ 0 → (bytes : Option (List ℕ))
+      × IsAudited bytes options.denials options.inodes options.segments 0
 
 -- `lfs_audit_trail` ends with this status by what it was asked for: options whose numbers are in their ranges, as an
 -- audit ends, or else nothing is read

@@ -1,19 +1,21 @@
 //! An audit: a journal's lines, each checked behind those before it.
 
-ghost use Rattle.std.specs.Prelude.{◌≡◌, ◌≢◌, ◌+◌, Ok, Some, length, List, [], ◌∷◌, ◌++◌, IfOk, MatchOption, OnOk};
-ghost use Rattle.lfs_journal_lines.specs.Reading.{entry_told};
+ghost use Rattle.std.specs.Prelude.{◌≡◌, ◌≢◌, ◌+◌, Ok, length, List, [], ◌∷◌, ◌++◌, IfOk, MatchOption, OnOk};
 ghost use Rattle.lfs_trace.specs.Checking.{IsSameStanding, numbers_of};
-ghost use Rattle.lfs_auditing.specs.Audits.{HasRead, HasReadOn, IsIllegalBehind, IsOfSame, NotesOnly, StopsAtLine};
+ghost use Rattle.lfs_auditing.specs.Audits.{HasRead, HasReadOn, IsIllegalBehind, IsOfSame, NotesOnly, StopsAtLine, told_as};
 ghost use Rattle.lfs_auditing.specs.Users.{AreCounted};
 
 use crate::fault::{AuditFault, Unread};
 use crate::last::LastOnes;
 use crate::lines::{Piece, read_line};
+use crate::telling::next_of;
 use crate::users::Users;
 use lfs_journal_lines::fault::LineFault;
+use lfs_journal_lines::numbering::unnumbered;
 use lfs_journal_lines::reading::read_entry;
 use lfs_model::journal::{Entry, Event};
 use lfs_trace::checker::Checker;
+use lfs_trace::errors::Denials;
 use lfs_trace::fault::EntryFault;
 use lfs_types::answer::{Answer, Served};
 use lfs_types::cred::Cred;
@@ -41,6 +43,7 @@ pub enum Stop {
 pub struct Audit {
     pub(crate) alloc: Global,
     pub(crate) checker: Checker,
+    pub(crate) denials: Denials,
     pub(crate) numbers: u32,
     pub(crate) entries: u32,
     pub(crate) users: Users,
@@ -49,11 +52,17 @@ pub struct Audit {
 }
 
 impl Audit {
-    /// An audit of the journal of a volume with so many inode numbers and segments.
-    pub fn new(alloc: Global, numbers: u32, segments: u32) -> Result<Audit, FormatFault>
+    /// An audit of the journal of a volume with so many inode numbers and segments, which compares so much of denials.
+    pub fn new(
+        alloc: Global,
+        numbers: u32,
+        segments: u32,
+        denials: Denials,
+    ) -> Result<Audit, FormatFault>
         ensures fresh { IfOk result (λ audit. HasRead audit []) }
         ensures numbers { IfOk result (λ audit. numbers_of audit.checker ≡ numbers) }
         ensures segments { IfOk result (λ audit. audit.checker.segments ≡ segments) }
+        ensures denials { IfOk result (λ audit. audit.denials ≡ denials) }
     {
         let checker = Checker::new(alloc, numbers, segments)?;
         let changed = LastOnes::none(alloc, numbers)?;
@@ -61,6 +70,7 @@ impl Audit {
         Ok(Audit {
             alloc,
             checker,
+            denials,
             numbers,
             entries: 0,
             users: Users::none(alloc),
@@ -95,19 +105,20 @@ impl Audit {
         Err(AuditFault::Read)
     }
 
-    /// Checks the entry that a line tells; where there is something against it, the audit stops there.
+    /// Checks the entry that a line tells, behind its number where one stands before it; where there is something against
+    /// it, the audit stops there.
     fn line(&mut self, line: &[u8]) -> Result<Option<Stop>, AuditFault>
         requires { (entries : List Entry) × HasRead self.old entries }
         ensures read { IfOk result (λ stop. (entries : List Entry) → HasRead self.old entries
             → MatchOption stop
-            ((entry : Entry) × (entry_told line.now ≡ Ok entry)
+            ((entry : Entry) × (told_as (length entries + 1) line.now ≡ Ok entry)
             × HasRead self.new (entries ++ entry ∷ []))
             (λ stop. StopsAtLine self.new entries line.now stop × HasRead self.new entries)) }
         ensures same { IsOfSame self.old self.new }
     {
-        match read_entry(self.alloc, line) {
+        match told_as(self.alloc, line, next_of(self.entries))? {
             Ok(entry) => self.entry(entry),
-            Err(fault) => unread(fault),
+            Err(why) => Ok(Some(Stop::Unread(why))),
         }
     }
 
@@ -121,7 +132,7 @@ impl Audit {
             × HasRead self.new entries)) }
         ensures same { IsOfSame self.old self.new }
     {
-        match self.checker.entry(&entry) {
+        match self.checker.entry_as(self.denials, &entry) {
             Ok(()) => {
                 self.note(&entry)?;
                 Ok(None)
@@ -139,6 +150,7 @@ impl Audit {
             → AreCounted self.new.users.counts (entries ++ entry.now ∷ [])) }
         ensures counted { OnOk result (self.new.entries ≡ self.old.entries + 1) }
         ensures checker { IsSameStanding self.old.checker self.new.checker }
+        ensures denials { self.new.denials ≡ self.old.denials }
     {
         let Some(count) = self.entries.checked_add(1) else {
             return Err(AuditFault::TooMany);
@@ -208,13 +220,27 @@ impl Audit {
     }
 }
 
-/// Why a line with a fault stops an audit, but for want of memory.
-fn unread(fault: LineFault) -> Result<Option<Stop>, AuditFault>
-    ensures { IfOk result (λ stop. (stop ≡ Some (Stop.Unread (Unread.Line fault))) × (fault.kind ≢ FaultKind.Memory)) }
+/// What a line tells as that of the entry of a number, which may stand before it: the entry, or why none. An error where
+/// memory runs out.
+fn told_as(alloc: Global, line: &[u8], number: u64) -> Result<Result<Entry, Unread>, AuditFault>
+    ensures { IfOk result (λ told. told_as number line.now ≡ told) }
+{
+    let Some(text) = unnumbered(line, number) else {
+        return Ok(Err(Unread::Gap));
+    };
+    match read_entry(alloc, text) {
+        Ok(entry) => Ok(Ok(entry)),
+        Err(fault) => Ok(Err(unread(fault)?)),
+    }
+}
+
+/// Why a line with a fault tells no entry, but for want of memory.
+fn unread(fault: LineFault) -> Result<Unread, AuditFault>
+    ensures { IfOk result (λ why. (why ≡ Unread.Line fault) × (fault.kind ≢ FaultKind.Memory)) }
 {
     match fault.kind {
         FaultKind::Memory => Err(AuditFault::Memory),
-        _ => Ok(Some(Stop::Unread(Unread::Line(fault)))),
+        _ => Ok(Unread::Line(fault)),
     }
 }
 

@@ -61,6 +61,9 @@ pub enum Unread {
     /// It has more than 4,194,304 bytes.
     #[error("line: TooLong")]
     TooLong,
+    /// The number before it isn't the next: a line before it is lacking, or stands there twice.
+    #[error("line: Gap")]
+    Gap,
     /// It has this fault.
     #[error("{0}")]
     Line(LineFault),

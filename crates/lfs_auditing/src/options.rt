@@ -6,6 +6,7 @@ ghost use Rattle.lfs_auditing.specs.Ranges.{IsBetween, IsInRange};
 use clap::builder::ValueParser;
 use clap::error::ErrorKind;
 use clap::{Arg, ArgAction, ArgMatches, Command, Error};
+use lfs_trace::errors::Denials;
 use lfs_types::path::{BadPath, Path};
 use std::alloc::{AllocError, Global};
 use std::convert::AsStr;
@@ -51,6 +52,9 @@ const JOURNAL: &str = "journal";
 /// The option that takes a path.
 const WHO: &str = "who";
 
+/// The flag that has error names alone compared.
+const ERRORS: &str = "errors";
+
 /// What is told of a text that is no path.
 const WHO_REFUSAL: &str = "--who takes a path of the volume, which begins with a slash";
 
@@ -72,6 +76,8 @@ pub struct Options<'a> {
     pub journal: Option<&'a str>,
     /// The path of which is told who could act by it at the end, where one is asked of.
     pub who: Option<Path>,
+    /// What is compared of denials.
+    pub denials: Denials,
 }
 
 /// The options that words ask for; the first word is the program's name.
@@ -100,6 +106,7 @@ pub fn options_of<'a, S: AsStr>(alloc: Global, words: &'a [S]) -> Result<Options
         segments,
         journal,
         who,
+        denials: denials_in(&matches),
     })
 }
 
@@ -108,6 +115,15 @@ fn path_in(alloc: Global, matches: &ArgMatches<'_>) -> Result<Option<Path>, BadP
     match matches.get_str(WHO) {
         Some(text) => Ok(Some(Path::parse(alloc, text)?)),
         None => Ok(None),
+    }
+}
+
+/// What the matches ask to compare of denials.
+fn denials_in(matches: &ArgMatches<'_>) -> Denials {
+    if matches.get_flag(ERRORS) {
+        Denials::ByError
+    } else {
+        Denials::Whole
     }
 }
 
@@ -175,6 +191,7 @@ fn command<'a>(alloc: Global) -> Result<Command<'a>, AllocError> {
         .arg(INODES.arg(alloc))?
         .arg(SEGMENTS.arg(alloc))?
         .arg(who(alloc))?
+        .arg(errors(alloc))?
         .arg(journal(alloc))
 }
 
@@ -185,6 +202,16 @@ fn who<'a>(alloc: Global) -> Arg<'a> {
         .value_name("PATH")
         .action(ArgAction::Set)
         .help("Tells who could make which call by this path at the end, over all users and groups")
+}
+
+/// The flag for a journal of another system.
+fn errors<'a>(alloc: Global) -> Arg<'a> {
+    Arg::new(alloc, ERRORS)
+        .long(ERRORS)
+        .action(ArgAction::SetTrue)
+        .help(
+            "Compares of a denial its error name alone, as other systems tell no rule and no place",
+        )
 }
 
 /// The word for the file of the journal.

@@ -147,9 +147,9 @@ fn run<F: Files, R: Read, W: Write>(
     stdout: &mut W,
 ) -> Result<u8, AuditFault>
     ensures audited { IfOk result (λ status. (bytes : Option (List ℕ))
-        × IsAudited bytes options.now.inodes options.now.segments status) }
+        × IsAudited bytes options.now.denials options.now.inodes options.now.segments status) }
     ensures read { IfOk result (λ status. options.now.journal ≡ None
-        → IsAudited (R.remaining stdin.old) options.now.inodes options.now.segments status) }
+        → IsAudited (R.remaining stdin.old) options.now.denials options.now.inodes options.now.segments status) }
 {
     match options.journal {
         Some(path) => match File::open(files, path) {
@@ -168,7 +168,7 @@ pub fn audit<R: Read, W: Write>(
     writer: &mut W,
 ) -> Result<u8, AuditFault>
     ensures { IfOk result (IsAudited (R.remaining reader.old)
-        options.now.inodes options.now.segments) }
+        options.now.denials options.now.inodes options.now.segments) }
 {
     match BufReader::new(alloc, reader) {
         Ok(mut reader) => audit_lines(alloc, options, &mut reader, writer),
@@ -184,7 +184,7 @@ fn audit_lines<R: Read, W: Write>(
     writer: &mut W,
 ) -> Result<u8, AuditFault>
     ensures { IfOk result (IsAudited (R.remaining reader.old)
-        options.now.inodes options.now.segments) }
+        options.now.denials options.now.inodes options.now.segments) }
 {
     let mut audit = fresh_audit(alloc, options)?;
     let stop = audit.read_journal(reader)?;
@@ -197,13 +197,14 @@ fn audit_lines<R: Read, W: Write>(
     Ok(status)
 }
 
-/// An audit of the journal of a volume of these numbers.
+/// An audit of the journal of a volume of these numbers, which compares what is asked for.
 fn fresh_audit(alloc: Global, options: &Options<'_>) -> Result<Audit, AuditFault>
     ensures fresh { IfOk result (λ audit. HasRead audit []) }
     ensures numbers { IfOk result (λ audit. numbers_of audit.checker ≡ options.now.inodes) }
     ensures segments { IfOk result (λ audit. audit.checker.segments ≡ options.now.segments) }
+    ensures denials { IfOk result (λ audit. audit.denials ≡ options.now.denials) }
 {
-    match Audit::new(alloc, options.inodes, options.segments) {
+    match Audit::new(alloc, options.inodes, options.segments, options.denials) {
         Ok(audit) => Ok(audit),
         Err(FormatFault::TooFew | FormatFault::TooMany | FormatFault::Memory) => {
             Err(AuditFault::Memory)

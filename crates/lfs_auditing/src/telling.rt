@@ -85,7 +85,7 @@ impl Audit {
 }
 
 /// The number of the entry behind so many.
-fn next_of(entries: u32) -> u64
+pub(crate) fn next_of(entries: u32) -> u64
     ensures { result ≡ entries + 1 }
 {
     u64::from(entries) + 1

@@ -1,3 +1,4 @@
 mod CheckLemmas
 mod Uncrowded
 mod StandingLemmas
+pub mod ErrorLemmas

@@ -9,5 +9,6 @@ returns g c = record {
   read = c.in_ok-stop.ensures.read [] c.in_ok-audit.ensures.fresh;
   numbers_are = c.in_ok-stop.ensures.same.numbers ∙ c.in_ok-audit.ensures.numbers;
   segments_are = c.in_ok-stop.ensures.same.segments ∙ c.in_ok-audit.ensures.segments;
+  denials_are = c.in_ok-stop.ensures.same.denials ∙ c.in_ok-audit.ensures.denials;
   status_is = c.status_of-status.ensures;
 }

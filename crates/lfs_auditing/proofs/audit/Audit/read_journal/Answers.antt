@@ -1,16 +1,15 @@
-use Rattle.std.proofs.Common.{◌≡◌, ◌++◌, refl, subst, ◌∙◌}
+use Rattle.std.proofs.Common.{◌≡◌, ◌+◌, ◌++◌, length, refl, subst, ◌∙◌}
 use Rattle.std.specs.Prelude.{Ok}
-use Rattle.lfs_journal_lines.specs.Reading.{entry_told}
-use Rattle.lfs_auditing.specs.Audits.{StopsAtLine}
+use Rattle.lfs_auditing.specs.Audits.{StopsAtLine, told_as}
 use Rattle.lfs_auditing.specs.declared.audit.Stop.TheVariants.{End, Unread}
-use Rattle.lfs_auditing.specs.declared.fault.Unread.TheVariants.{Cut}
+use Rattle.lfs_auditing.specs.declared.fault.Unread.TheVariants.{Cut, TooLong}
 use Rattle.lfs_auditing.proofs.AuditLemmas.{none_so_far, one_more, stopped, stops_at}
 use Rattle.lfs_auditing.proofs.audit.Audit.read_journal.Goals as goal
 
 pub loop-init : goal.loop-init
 loop-init g c = record {
   so_far = λ es read. none_so_far (g.R.Read.remaining c.args.reader.now) es c.args.self.now read;
-  same = record { numbers = refl; segments = refl };
+  same = record { numbers = refl; segments = refl; denials = refl };
 }
 
 pub returns-in-Some-clause-read : goal.returns-in-Some-clause-read
@@ -41,6 +40,14 @@ returns-in-Cut-clause-read g c es read =
     (g.R.Read.remaining c.read_line.new.reader)
     es c.loop.self c.loop.self (Unread Cut) so so.read (c.read_line.new.line.items, piece.0, piece.1, piece.2)
 
+pub returns-in-TooLong-clause-read : goal.returns-in-TooLong-clause-read
+returns-in-TooLong-clause-read g c es read =
+    let so = c.loop.invariant.so_far es read in
+    let piece = rw c.in-TooLong.is at c.in_ok-read_line.ensures in
+    stopped (g.R.Read.remaining c.args.reader.now) (g.R.Read.remaining c.loop.reader)
+    (g.R.Read.remaining c.read_line.new.reader)
+    es c.loop.self c.loop.self (Unread TooLong) so so.read (c.read_line.new.line.items, piece.0, piece.1)
+
 pub loop-preserved : goal.loop-preserved
 loop-preserved g c = record {
   so_far = λ es read.
@@ -50,9 +57,10 @@ loop-preserved g c = record {
       one_more (g.R.Read.remaining c.args.reader.now) (g.R.Read.remaining c.loop.reader)
       (g.R.Read.remaining c.read_line.new.reader)
       es c.loop.self c.line.new.self c.read_line.new.line.items more.0 so piece.0 piece.1
-      (subst (λ l. entry_told l ≡ Ok more.0) c.deref.ensures.value more.1) more.2;
+      (subst (λ l. told_as (length (es ++ so.more) + 1) l ≡ Ok more.0) c.deref.ensures.value more.1) more.2;
   same = record {
     numbers = c.line.ensures.same.numbers ∙ c.loop.invariant.same.numbers;
     segments = c.line.ensures.same.segments ∙ c.loop.invariant.same.segments;
+    denials = c.line.ensures.same.denials ∙ c.loop.invariant.same.denials;
   };
 }
