@@ -67,6 +67,17 @@ beginning_journal from s level limit begins = record {
   space = tt;
 }
 
+-- a journal that takes no more entries
+pub closed_journal : (from : World) (s : StoreState) (level : Level) (es : List Entry) (limit few : ℕ)
+    → IsJournal from s level es limit → few ≡ length es → IsJournal from s level es few
+closed_journal from s level es limit few j is = record {
+  legal = j.legal;
+  shown = j.shown;
+  at_level = j.at_level;
+  within = omega (arith, is);
+  space = j.space;
+}
+
 -- where a journal leads to, the next one may begin
 pub journal_begins : (from : World) (s : StoreState) (level : Level) (es : List Entry) (limit : ℕ)
     → IsJournal from s level es limit → Begins s level (world_after s.shape.numbers es from)

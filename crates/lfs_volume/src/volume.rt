@@ -278,6 +278,14 @@ impl<F: FileStore + Drop> Volume<F> {
         std::mem::replace(&mut self.journal, room)
     }
 
+    /// Takes no more entries: the journal may have as many as it has, so that each call is refused `JournalFull` from here on
+    /// and changes nothing.
+    pub fn close_journal(&mut self)
+        ensures { self.new ≡ record self.old { limit = length self.old.journal } }
+    {
+        self.limit = self.journal.len() as u32;
+    }
+
     /// What was called and answered, in order, since the journal began.
     pub fn journal(&self) -> &[Entry]
         ensures entries { result.now ≡ self.now.journal }
