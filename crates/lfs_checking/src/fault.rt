@@ -73,3 +73,38 @@ impl From<WriteFault> for CheckFault {
         CheckFault::Write
     }
 }
+
+/// Why a volume is not loaded from a file, or not kept in one.
+#[derive(Clone, Copy, PartialEq, Eq, Debug, Error)]
+pub enum KeepFault {
+    /// The file can't be read.
+    #[error("{0}")]
+    Read(CheckFault),
+    /// What the file has is the image of no volume.
+    #[error("image: {0}")]
+    Image(VolumeFault),
+    /// The image is not saved.
+    #[error("image not saved")]
+    Save,
+    /// A growth was refused.
+    #[error("no memory")]
+    Memory,
+}
+
+impl From<CheckFault> for KeepFault {
+    fn from(fault: CheckFault) -> KeepFault {
+        KeepFault::Read(fault)
+    }
+}
+
+impl From<VolumeFault> for KeepFault {
+    fn from(fault: VolumeFault) -> KeepFault {
+        KeepFault::Image(fault)
+    }
+}
+
+impl From<AllocError> for KeepFault {
+    fn from(_error: AllocError) -> KeepFault {
+        KeepFault::Memory
+    }
+}

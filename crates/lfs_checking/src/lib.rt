@@ -3,6 +3,7 @@
 #![tactic(auto)]
 
 pub mod fault;
+pub mod keeping;
 pub mod options;
 pub mod program;
 pub mod reading;

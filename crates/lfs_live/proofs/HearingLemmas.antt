@@ -1,6 +1,6 @@
 -- What a line says.
 use Rattle.std.proofs.Common.{◌≡◌, ℕ, ◌<◌, ◌≤◌, true, false, List, [], ◌∷◌, length, map, get_or, Result, Ok, Err, refl}
-use Rattle.std.proofs.Common.{ap, subst, ◌∙◌, arith}
+use Rattle.std.proofs.Common.{Bor, ap, subst, ◌∙◌, arith}
 use Rattle.std.specs.Prelude.{◌-◌, codes, drop, nat_eq, take}
 use Rattle.std.proofs.Common.{length-drop}
 use Rattle.std.proofs.lemmas.List.{take_all}
@@ -11,6 +11,7 @@ use Rattle.lfs_words.specs.Faults.{ReadsAs}
 use Rattle.lfs_words.specs.Lines.{is_printable}
 use Rattle.lfs_words.specs.Wording.{words_of}
 use Rattle.lfs_words.specs.declared.fault.FaultKind.{FaultKind}
+use Rattle.lfs_words.specs.declared.fault.FaultKind.TheVariants.{Words}
 use Rattle.lfs_live.specs.Hearing.{call_heard, dot_heard, dot_of, dot_said, dot_with, dotted_heard, heard_of, why_heard}
 use Rattle.lfs_live.specs.Hearing.{is_dotted, lone_dot}
 use Rattle.lfs_live.specs.declared.fault.LineFault.TheVariants.{TooLong}
@@ -73,3 +74,10 @@ heard_why line why = rw why refl
 pub heard_lone : (line : List ℕ) → starts_with nat_eq line (codes ".why ") ≡ false → dot_heard (dot_said line)
     ≡ dotted_heard line
 heard_lone line other = rw other refl
+
+-- three words and more are no word of the server's own
+pub dot_many : (words : List (Bor (List ℕ))) → 3 ≤ length words → Err Words ≡ dot_of (map (λ x. x.now) words)
+dot_many [] many = absurd (omega (arith, many))
+dot_many (a ∷ []) many = absurd (omega (arith, many))
+dot_many (a ∷ b ∷ []) many = absurd (omega (arith, many))
+dot_many (a ∷ b ∷ c ∷ more) many = refl

@@ -21,10 +21,19 @@ seven_added old a b c d e f g first second third fourth fifth sixth all p q r s 
     joined old (five ++ f) g sixth all (joined old five f fifth sixth
     (five_added old a b c d e first second third fourth fifth p q r s t) u) v
 
-pub eight_added : (old a b c d e f g h first second third fourth fifth sixth seventh all : List ℕ) → first ≡ old ++ a
+eight_added : (old a b c d e f g h first second third fourth fifth sixth seventh all : List ℕ) → first ≡ old ++ a
     → second ≡ first ++ b → third ≡ second ++ c
     → fourth ≡ third ++ d → fifth ≡ fourth ++ e → sixth ≡ fifth ++ f → seventh ≡ sixth ++ g → all ≡ seventh ++ h
     → all ≡ old ++ (((((((a ++ b) ++ c) ++ d) ++ e) ++ f) ++ g) ++ h)
 eight_added old a b c d e f g h first second third fourth fifth sixth seventh all p q r s t u v w =
     joined old ((((((a ++ b) ++ c) ++ d) ++ e) ++ f) ++ g) h seventh all
     (seven_added old a b c d e f g first second third fourth fifth sixth seventh p q r s t u v) w
+
+pub nine_added : (old a b c d e f g h i first second third fourth fifth sixth seventh eighth all : List ℕ) → first ≡ old
+    ++ a
+    → second ≡ first ++ b → third ≡ second ++ c
+    → fourth ≡ third ++ d → fifth ≡ fourth ++ e → sixth ≡ fifth ++ f → seventh ≡ sixth ++ g → eighth ≡ seventh ++ h
+    → all ≡ eighth ++ i → all ≡ old ++ ((((((((a ++ b) ++ c) ++ d) ++ e) ++ f) ++ g) ++ h) ++ i)
+nine_added old a b c d e f g h i first second third fourth fifth sixth seventh eighth all p q r s t u v w x =
+    joined old (((((((a ++ b) ++ c) ++ d) ++ e) ++ f) ++ g) ++ h) i eighth all
+    (eight_added old a b c d e f g h first second third fourth fifth sixth seventh eighth p q r s t u v w) x

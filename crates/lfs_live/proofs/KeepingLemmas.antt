@@ -1,10 +1,10 @@
 -- What was handed out, and what the sink has, line by line.
 use Rattle.std.proofs.Common.{◌≡◌, ℕ, ◌+◌, ◌≤◌, ◌⊎◌, Bool, true, false, OnOk, Result, Ok, Err, List, [], ◌∷◌, ◌++◌}
-use Rattle.std.proofs.Common.{length, take, drop, Option, inl, inr, refl, sym, ap, subst, ◌∙◌, arith, append_assoc}
+use Rattle.std.proofs.Common.{length, drop, Option, inl, inr, refl, sym, ap, subst, ◌∙◌, arith, append_assoc}
 use Rattle.std.proofs.Common.{append-nil, length-append}
 use Rattle.std.specs.Io.KnownBytes.{Appends}
 use Rattle.std.proofs.KnownBytes.{Appends-nil, Appends-trans}
-use Rattle.std.proofs.lemmas.List.{take-append-drop, take_all, take-append-le}
+use Rattle.lfs_types.specs.Caller.{Caller}
 use Rattle.lfs_types.specs.StoreStates.{StoreState}
 use Rattle.lfs_types.specs.Tree.{World}
 use Rattle.lfs_types.specs.declared.level.Level.{Level}
@@ -13,18 +13,22 @@ use Rattle.lfs_model.specs.Steps.{IsLegal, after_event, world_after}
 use Rattle.lfs_model.proofs.RunLemmas.{world_after-append}
 use Rattle.lfs_model.specs.declared.counts.Counts.{Counts}
 use Rattle.lfs_model.specs.declared.journal.Entry.{Entry}
+use Rattle.lfs_volume.specs.Cleanings.{Cleaner}
 use Rattle.lfs_volume.specs.Journals.{Begins, Since}
 use Rattle.lfs_volume.specs.Seen.{Seen}
-use Rattle.lfs_live.specs.Held.{Course, HasKept, HasRoom, Held, IsHandedOut, Moves, MovesOn, Sink, Takes, course_of}
-use Rattle.lfs_live.specs.Held.{drained}
+use Rattle.lfs_live.specs.Held.{Course, HasKept, HasRoom, Held, IsHanded, IsHandedOut, IsShut, Moves, MovesOn, Sink}
+use Rattle.lfs_live.specs.Held.{Takes, closed, course_of, drained}
+use Rattle.lfs_live.specs.Steps.{HasTidied}
+use Rattle.lfs_audit.specs.Runs.{TellsLine}
 use Rattle.lfs_live.specs.Hearing.{heard_of}
 use Rattle.lfs_sinks.specs.Numbered.{numbered_text}
 use Rattle.lfs_sinks.specs.Sums.{counts_sum}
 use Rattle.lfs_live.specs.Talkers.{Talker}
-use Rattle.lfs_live.specs.Talking.{Hears}
+use Rattle.lfs_live.specs.Talking.{Hears, Tidies, is_due}
 use Rattle.lfs_live.specs.declared.hearing.Heard.{Heard}
 use Rattle.lfs_live.specs.declared.hearing.Heard.TheVariants as heard
 use Rattle.lfs_live.specs.declared.telling.Speaker.{Speaker}
+use Rattle.lfs_script.specs.declared.plan.Act.{Act}
 use Rattle.lfs_script.specs.declared.plan.Line.TheVariants as says
 use Rattle.lfs_sinks.proofs.NumberedLemmas.{numbered-joined}
 use Rattle.lfs_sinks.proofs.SumLemmas.{counts_joined}
@@ -73,6 +77,12 @@ follows_same {F} state old new same =
     subst (λ (v : Seen F). Follows state old v) (sym same)
     (record { more = []; entered = sym (append-nil old.journal); since = refl; since_level = refl; shape = refl })
 
+run_follows : {F : Type 0} (r : Cleaner F) (old new : Seen F) (session : ℕ) (caller : Caller) (act : Act)
+    (told : List ℕ) → TellsLine r old new session caller act [] told → Follows r.state old new
+run_follows r old new session caller act told tells =
+    let ran = tells.ran in
+    record { more = _; entered = ran.entered; since = ran.since; since_level = ran.since_level; shape = ran.shape }
+
 pub line_follows : {F : Type 0} (r : Talker F) (handed : List Entry) (old new : Seen F) (speaker
     then : Speaker) (said : Heard) (told : List ℕ)
     → Hears r handed old speaker said told new then → Follows r.cleaner.state old new
@@ -82,8 +92,7 @@ line_follows r handed old new speaker then (heard.Line (says.Session session)) t
 line_follows r handed old new speaker then (heard.Line (says.Caller cred)) told h =
     follows_same r.cleaner.state old new h.0
 line_follows r handed old new speaker then (heard.Line (says.Act act)) told h =
-    let ran = h.0.ran in
-    record { more = _; entered = ran.entered; since = ran.since; since_level = ran.since_level; shape = ran.shape }
+    run_follows r.cleaner old new speaker.session speaker.cred act told h.0
 line_follows r handed old new speaker then (heard.Why request) told h =
     let looks = h.0 in
     record {
@@ -96,94 +105,134 @@ line_follows r handed old new speaker then (heard.Why request) told h =
 line_follows r handed old new speaker then (heard.Dot dot) told h = follows_same r.cleaner.state old new h.0
 line_follows r handed old new speaker then (heard.Fault fault) told h = follows_same r.cleaner.state old new h.0
 
+true-false : false ≡ true → ⊥
+true-false e = absurd (cc)
+
+pub never_both : (b : Bool) → b ≡ true → b ≡ false → ⊥
+never_both b holds fails = absurd (cc)
+
 -- ---- what was kept
 
 -- nothing was handed out by then
 pub kept_none : {F J : Type 0} (state : F → StoreState) (sink : Sink J) (old : Held F J) → old.told ≡ counts_of []
-    → old.given ≡ 0 → HasKept state sink old old []
-kept_none {F} {J} state sink old told given = record {
+    → old.volume.journal ≡ [] → HasKept state sink old old []
+kept_none {F} {J} state sink old told empty = record {
   counted = told;
-  given = λ opened_so. subst (λ (n : ℕ). Takes sink old.sink old.sink (take n old.volume.journal)) (sym given)
+  caught = λ taking. subst (λ (l : List Entry). Takes sink old.sink old.sink l) (sym empty)
       (takes_none sink old.sink);
-  opened = λ opened_so. opened_so;
-  within = omega (arith, given);
+  opened = λ taking. taking;
   legal = λ from begins. (tt, begins);
   shape = refl;
 }
 
--- a line was done
-pub kept_line : {F J : Type 0} (state : F → StoreState) (sink : Sink J) (old now : Held F J) (handed : List Entry)
-    (volume : Seen F)
-    → HasKept state sink old now handed → Follows state now.volume volume
-    → HasKept state sink old (record now { volume = volume }) handed
-kept_line {F} {J} state sink old now handed volume kept follows =
-    let same : take now.given volume.journal ≡ take now.given now.volume.journal =
-    ap (take now.given) follows.entered ∙ take-append-le now.given now.volume.journal follows.more kept.within in
-    record {
-      counted = kept.counted;
-      given = λ opened_so. subst (λ (l : List Entry). Takes sink old.sink now.sink (handed ++ l)) (sym same)
-          (kept.given opened_so);
-      opened = kept.opened;
-      within = omega (arith, kept.within, ap length follows.entered, length-append now.volume.journal follows.more);
-      legal = λ from begins.
-          let before = kept.legal from begins in (
-            before.0,
-            subst (λ (s : F). Begins (state s) volume.since_level
-                (world_after (state old.volume.store).shape.numbers handed from)) (sym follows.since)
-                (subst (λ (l : Level). Begins (state now.volume.since) l
-                (world_after (state old.volume.store).shape.numbers handed from))
-                (sym follows.since_level) before.1),
-          );
-      shape = follows.shape ∙ kept.shape;
-    }
+-- ---- how a talk goes on
 
--- what was told, with what was handed out since
-told_more : {F J : Type 0} (old new : Held F J) (handed more : List Entry) → old.told ≡ counts_of handed
-    → ((new.volume ≡ old.volume) × (more ≡ []) × (new.told ≡ old.told))
-    ⊎ ((old.is_open ≡ true) × (new.volume ≡ drained old.volume) × (more ≡ old.volume.journal)
-    × (new.told ≡ counts_sum old.told (counts_of old.volume.journal)))
-    → new.told ≡ counts_of (handed ++ more)
-told_more old new handed more told (inl stays) = stays.2 ∙ told
-    ∙ ap counts_of (sym (ap (λ (l : List Entry). handed ++ l) stays.1 ∙ append-nil handed))
-told_more old new handed more told (inr moved) =
-    moved.3 ∙ ap (λ (c : Counts). counts_sum c (counts_of old.volume.journal)) told
-    ∙ counts_joined handed old.volume.journal
-    ∙ ap (λ (l : List Entry). counts_of (handed ++ l)) (sym moved.2)
+left_opened : {F : Type 0} (now after : Course F) → (after ≡ now) ⊎ (IsHanded now after ⊎ IsShut now after)
+    → after.is_open ≡ true → now.is_open ≡ true
+left_opened {F} now after (inl stays) taking = sym (ap (λ (c : Course F). c.is_open) stays) ∙ taking
+left_opened now after (inr (inl out)) taking = out.opened
+left_opened now after (inr (inr shut)) taking = shut.opened
 
--- what the sink had and took
-given_whole : (handed before taken more after : List Entry) → before ++ taken ≡ more ++ after → (handed ++ more)
-    ++ after ≡ (handed ++ before) ++ taken
-given_whole handed before taken more after same =
-    append_assoc handed more after ∙ ap (λ (l : List Entry). handed ++ l) (sym same)
-    ∙ sym (append_assoc handed before taken)
+-- a sink that takes more took entries before
+pub on_opened : {F : Type 0} (now after : Course F) → MovesOn now after → after.is_open ≡ true → now.is_open ≡ true
+on_opened {F} now after moves taking = left_opened now after moves.left taking
 
--- entries were handed out, or not
-pub kept_moved : {F J : Type 0} (state : F → StoreState) (sink : Sink J) (old now new : Held F J)
+-- the store is what it was
+left_store : {F : Type 0} (now after : Course F) → (after ≡ now) ⊎ (IsHanded now after ⊎ IsShut now after)
+    → after.volume.store ≡ now.volume.store
+left_store {F} now after (inl stays) = ap (λ (c : Course F). c.volume.store) stays
+left_store {F} now after (inr (inl out)) = ap (λ (c : Course F). c.volume.store) out.is
+left_store {F} now after (inr (inr shut)) = ap (λ (c : Course F). c.volume.store) shut.is
+
+-- where a sink takes more, no entry is gone
+left_whole : {F : Type 0} (now after : Course F) → (after ≡ now) ⊎ (IsHanded now after ⊎ IsShut now after)
+    → after.is_open ≡ true → after.handed ++ after.volume.journal ≡ now.handed ++ now.volume.journal
+left_whole {F} now after (inl stays) taking = ap (λ (c : Course F). c.handed ++ c.volume.journal) stays
+left_whole {F} now after (inr (inl out)) taking =
+    ap (λ (c : Course F). c.handed ++ c.volume.journal) out.is ∙ append-nil (now.handed ++ now.volume.journal)
+left_whole {F} now after (inr (inr shut)) taking =
+    absurd (true-false (sym (ap (λ (c : Course F). c.is_open) shut.is) ∙ taking))
+
+-- a talk with what was handed out before
+abbrev since_handed : {F : Type 0} → List Entry → Course F → Course F
+since_handed handed c = record c { handed = handed ++ c.handed }
+
+left_behind : {F : Type 0} (handed : List Entry) (now after : Course F)
+    → (after ≡ now) ⊎ (IsHanded now after ⊎ IsShut now after)
+    → let now = since_handed handed now in let after = since_handed handed after in
+    (after ≡ now) ⊎ (IsHanded now after ⊎ IsShut now after)
+left_behind handed now after (inl stays) = inl (ap (since_handed handed) stays)
+left_behind {F} handed now after (inr (inl out)) = inr (inl (record {
+  opened = out.opened;
+  is = ap (since_handed handed) out.is
+      ∙ ap (λ (l : List Entry). record now { volume = drained now.volume; handed = l })
+      (sym (append_assoc handed now.handed now.volume.journal));
+}))
+left_behind handed now after (inr (inr shut)) =
+    inr (inr (record { opened = shut.opened; is = ap (since_handed handed) shut.is }))
+
+-- the same of how a volume that is talked to moved on, with what was handed out before
+pub moves_on : {F J : Type 0} (state : F → StoreState) (sink : Sink J) (before : ℕ) (now new : Held F J)
+    (handed more : List Entry) → Moves state sink before now new more
+    → MovesOn (course_of now handed) (course_of new (handed ++ more))
+moves_on {F} {J} state sink before now new handed more moves =
+    subst (λ (l : List Entry). MovesOn (course_of now l) (course_of new (handed ++ more))) (append-nil handed)
+    (record {
+      left = left_behind handed (course_of now []) (course_of new more) moves.moves.left;
+      room = moves.moves.room;
+    })
+
+-- ---- a line
+
+-- what is behind the first entries
+drop_entered : (before more : List Entry) → drop (length before) (before ++ more) ≡ more
+drop_entered [] more = refl
+drop_entered (e ∷ before) more = drop_entered before more
+
+-- all entries behind a line, those that were there before and those that it made
+all_entered : (handed more kept before entered middle : List Entry) → more ++ kept ≡ middle → middle ≡ before ++ entered
+    → (handed ++ more) ++ kept ≡ (handed ++ before) ++ entered
+all_entered handed more kept before entered middle whole grown =
+    append_assoc handed more kept ∙ ap (λ (l : List Entry). handed ++ l) (whole ∙ grown)
+    ∙ sym (append_assoc handed before entered)
+
+-- a line, or a pass, was done
+pub kept_moved : {F J : Type 0} (state : F → StoreState) (sink : Sink J) (old now new : Held F J) (middle : Seen F)
     (handed more : List Entry)
-    → HasKept state sink old now handed → Moves state sink now new more → HasKept state sink old new (handed ++ more)
-kept_moved {F} {J} state sink old now new handed more kept moves = record {
-  counted = told_more now new handed more kept.counted moves.moved;
-  given = λ opened_so.
-      let were = moves.opened opened_so in
-      let gave = moves.given opened_so in
-      takes_more sink old.sink now.sink new.sink (handed ++ take now.given now.volume.journal) gave.0 _
-      (given_whole handed (take now.given now.volume.journal) gave.0 more (take new.given new.volume.journal) gave.1)
-      (kept.given were) gave.2;
-  opened = λ opened_so. kept.opened (moves.opened opened_so);
-  within = moves.within kept.within;
-  legal = λ from begins.
-      let shape = (state old.volume.store).shape in
-      let before = kept.legal from begins in
-      let then = subst (λ s. IsLegal s.numbers s.segments more (world_after shape.numbers handed from)
-      × Begins (state new.volume.since) new.volume.since_level
-      (world_after s.numbers more (world_after shape.numbers handed from))) kept.shape
-      (moves.legal (world_after shape.numbers handed from) before.1) in (
-        legal_joined shape.numbers shape.segments handed more from before.0 then.0,
-        subst (λ (w : World). Begins (state new.volume.since) new.volume.since_level w)
-            (sym (world_after-append shape.numbers handed more from)) then.1,
-      );
-  shape = moves.shape ∙ kept.shape;
-}
+    → HasKept state sink old now handed → Follows state now.volume middle
+    → Moves state sink (length now.volume.journal) (record now { volume = middle }) new more
+    → HasKept state sink old new (handed ++ more)
+kept_moved {F} {J} state sink old now new middle handed more kept follows moves =
+    let done : Held F J = record now { volume = middle } in
+    let left = moves.moves.left in
+    record {
+      counted = moves.counted handed kept.counted;
+      caught = λ taking.
+          let journal = now.volume.journal in
+          let lacked : drop (length journal) middle.journal ≡ follows.more =
+          ap (drop (length journal)) follows.entered ∙ drop_entered journal follows.more in
+          takes_more sink old.sink now.sink new.sink (handed ++ journal) follows.more _
+          (all_entered handed more new.volume.journal journal follows.more middle.journal
+          (left_whole (course_of done []) (course_of new more) left taking) follows.entered)
+          (kept.caught (left_opened (course_of done []) (course_of new more) left taking))
+          (subst (λ (l : List Entry). Takes sink now.sink new.sink l) lacked (moves.caught taking));
+      opened = λ taking. kept.opened (left_opened (course_of done []) (course_of new more) left taking);
+      legal = λ from begins.
+          let shape = (state old.volume.store).shape in
+          let before = kept.legal from begins in
+          let here = world_after shape.numbers handed from in
+          let starts = subst (λ (s : F). Begins (state s) middle.since_level here) (sym follows.since)
+          (subst (λ (l : Level). Begins (state now.volume.since) l here) (sym follows.since_level) before.1) in
+          let then = subst (λ s. IsLegal s.numbers s.segments more here
+          × Begins (state new.volume.since) new.volume.since_level (world_after s.numbers more here))
+          (follows.shape ∙ kept.shape) (moves.legal here starts) in (
+            legal_joined shape.numbers shape.segments handed more from before.0 then.0,
+            subst (λ (w : World). Begins (state new.volume.since) new.volume.since_level w)
+                (sym (world_after-append shape.numbers handed more from)) then.1,
+          );
+      shape = ap (λ (s : F). (state s).shape) (left_store (course_of done []) (course_of new more) left)
+          ∙ follows.shape ∙ kept.shape;
+    }
 
 -- all entries are legal from where the journal began
 pub all_legal : {F J : Type 0} (state : F → StoreState) (sink : Sink J) (old now : Held F J) (handed : List Entry)
@@ -203,119 +252,115 @@ all_legal state sink old now handed kept legal = λ from begins.
 
 -- ---- what a volume that is tended does
 
--- nothing
-pub moves_none : {F J : Type 0} (state : F → StoreState) (sink : Sink J) (old : Held F J) → Moves state sink old old []
-moves_none state sink old = record {
-  moved = inl (refl, refl, refl);
-  opened = λ opened_so. opened_so;
-  within = λ within. within;
-  shape = refl;
-  given = λ opened_so. ([], append-nil (take old.given old.volume.journal), takes_none sink old.sink);
+-- nothing, where the sink takes no more
+pub moves_none : {F J : Type 0} (state : F → StoreState) (sink : Sink J) (before : ℕ) (old : Held F J)
+    → old.is_open ≡ false → Moves state sink before old old []
+moves_none state sink before old shut = record {
+  moves = record { left = inl refl; room = λ taking. absurd (true-false (sym shut ∙ taking)) };
+  counted = λ handed told. told ∙ ap counts_of (sym (append-nil handed));
+  caught = λ taking. absurd (true-false (sym shut ∙ taking));
   legal = λ from begins. (tt, begins);
 }
 
 -- the sink got what it lacked
-pub moves_given : {F J : Type 0} (state : F → StoreState) (sink : Sink J) (old new : Held F J) → new
-    ≡ record old { sink = new.sink; given = length old.volume.journal }
-    → Takes sink old.sink new.sink (drop old.given old.volume.journal) → Moves state sink old new []
-moves_given {F} {J} state sink old new is takes =
-    let journal = old.volume.journal in
-    subst (λ (h : Held F J). Moves state sink old h []) (sym is)
+pub moves_given : {F J : Type 0} (state : F → StoreState) (sink : Sink J) (before : ℕ) (old new : Held F J) → new
+    ≡ record old { sink = new.sink }
+    → Takes sink old.sink new.sink (drop before old.volume.journal) → HasRoom new.volume
+    → Moves state sink before old new []
+moves_given {F} {J} state sink before old new is takes room =
+    subst (λ (h : Held F J). Moves state sink before old h []) (sym is)
     (record {
-      moved = inl (refl, refl, refl);
-      opened = λ opened_so. opened_so;
-      within = λ within. omega arith;
-      shape = refl;
-      given = λ opened_so. (
-        drop old.given journal,
-        take-append-drop old.given journal
-            ∙ sym (take_all (length journal) journal (omega arith)),
-        takes,
-      );
+      moves = record { left = inl refl; room = λ taking. subst (λ (h : Held F J). HasRoom h.volume) is room };
+      counted = λ handed told. told ∙ ap counts_of (sym (append-nil handed));
+      caught = λ taking. takes;
       legal = λ from begins. (tt, begins);
     })
 
 -- the sink takes no more
-pub moves_closed : {F J : Type 0} (state : F → StoreState) (sink : Sink J) (old new : Held F J) → new
-    ≡ record old { sink = new.sink; is_open = false } → Moves state sink old new []
-moves_closed {F} {J} state sink old new is =
-    subst (λ (h : Held F J). Moves state sink old h []) (sym is)
+pub moves_closed : {F J : Type 0} (state : F → StoreState) (sink : Sink J) (before : ℕ) (old new : Held F J)
+    → old.is_open ≡ true → new ≡ record old { volume = closed old.volume; sink = new.sink; is_open = false }
+    → Moves state sink before old new []
+moves_closed {F} {J} state sink before old new taking is =
+    subst (λ (h : Held F J). Moves state sink before old h []) (sym is)
     (record {
-      moved = inl (refl, refl, refl);
-      opened = λ opened_so. absurd (cc);
-      within = λ within. within;
-      shape = refl;
-      given = λ opened_so. absurd (cc);
+      moves = record {
+        left = inr (inr (record { opened = taking; is = refl }));
+        room = λ more. absurd (true-false more);
+      };
+      counted = λ handed told. told ∙ ap counts_of (sym (append-nil handed));
+      caught = λ more. absurd (true-false more);
       legal = λ from begins. (tt, begins);
     })
 
+-- the same, part by part
+pub closed_view : {F J : Type 0} (old middle new : Held F J) → middle ≡ record old { sink = middle.sink }
+    → new ≡ record middle { volume = closed middle.volume; is_open = false }
+    → new ≡ record old { volume = closed old.volume; sink = new.sink; is_open = false }
+closed_view {F} {J} old middle new same is =
+    is
+    ∙ ap (λ (h : Held F J). record h { volume = closed h.volume; sink = middle.sink; is_open = false }) same
+    ∙ ap (λ (j : J). record old { volume = closed old.volume; sink = j; is_open = false })
+    (sym (ap (λ (h : Held F J). h.sink) is))
+
+-- a drained journal has room
+drained_room : {F : Type 0} (v : Seen F) → HasRoom (drained v)
+drained_room v = λ least. omega (arith, least)
+
+-- what a volume is whose entries were handed out
+abbrev pub handed_out : {F J : Type 0} → Held F J → J → Held F J
+handed_out old sink = record {
+  volume = drained old.volume;
+  sink = sink;
+  told = counts_sum old.told (counts_of old.volume.journal);
+  is_open = old.is_open;
+  cleans = old.cleans;
+}
+
 -- the entries were handed out
-pub moves_out : {F J : Type 0} (state : F → StoreState) (sink : Sink J) (old new : Held F J) → old.is_open ≡ true → new
-    ≡ record {
-      volume = drained old.volume;
-      sink = new.sink;
-      told = counts_sum old.told (counts_of old.volume.journal);
-      given = 0;
-      is_open = old.is_open;
-    } → Takes sink old.sink new.sink (drop old.given old.volume.journal) → IsHandedOut state old.volume new.volume
-    → Moves state sink old new old.volume.journal
-moves_out {F} {J} state sink old new opened_so is takes legal =
+pub moves_out : {F J : Type 0} (state : F → StoreState) (sink : Sink J) (before : ℕ) (old new : Held F J)
+    → old.is_open ≡ true → new ≡ handed_out old new.sink
+    → Takes sink old.sink new.sink (drop before old.volume.journal) → IsHandedOut state old.volume new.volume
+    → Moves state sink before old new old.volume.journal
+moves_out {F} {J} state sink before old new taking is takes legal =
     let journal = old.volume.journal in
     record {
-      moved = inr (opened_so, ap (λ (h : Held F J). h.volume) is, refl, ap (λ (h : Held F J). h.told) is);
-      opened = λ now. opened_so;
-      within = λ within. omega (arith, ap (λ (h : Held F J). h.given) is);
-      shape = ap (λ (h : Held F J). (state h.volume.store).shape) is;
-      given = λ now. (
-        drop old.given journal,
-        take-append-drop old.given journal ∙ sym (append-nil journal)
-            ∙ ap (λ (h : Held F J). journal ++ take h.given h.volume.journal) (sym is),
-        takes,
-      );
+      moves = record {
+        left = inr (inl (record {
+          opened = taking;
+          is = ap (λ (h : Held F J). course_of h journal) is;
+        }));
+        room = λ more. subst (λ (h : Held F J). HasRoom h.volume) (sym is) (drained_room old.volume);
+      };
+      counted = λ handed told. ap (λ (h : Held F J). h.told) is
+          ∙ ap (λ (c : Counts). counts_sum c (counts_of journal)) told ∙ counts_joined handed journal;
+      caught = λ more. takes;
       legal = legal;
     }
 
-true-false : false ≡ true → ⊥
-true-false e = absurd (cc)
-
 -- the same of a result
-pub moves_if_out : {A E F J : Type 0} (state : F → StoreState) (sink : Sink J) (old new : Held F J)
-    (result : Result A E) → old.is_open ≡ true
-    → OnOk result (Takes sink old.sink new.sink (drop old.given old.volume.journal))
-    → OnOk result (new ≡ record {
-      volume = drained old.volume;
-      sink = new.sink;
-      told = counts_sum old.told (counts_of old.volume.journal);
-      given = 0;
-      is_open = old.is_open;
-    }) → OnOk result (IsHandedOut state old.volume new.volume)
-    → OnOk result ((more : List Entry) × Moves state sink old new more)
-moves_if_out state sink old new (Ok a) opened_so takes is legal =
-    (old.volume.journal, moves_out state sink old new opened_so is takes legal)
-moves_if_out state sink old new (Err e) opened_so takes is legal = tt
-
-pub moves_if_given : {A E F J : Type 0} (state : F → StoreState) (sink : Sink J) (old new : Held F J)
-    (result : Result A E)
-    → OnOk result (Takes sink old.sink new.sink (drop old.given old.volume.journal))
-    → OnOk result (new ≡ record old { sink = new.sink; given = length old.volume.journal })
-    → OnOk result ((more : List Entry) × Moves state sink old new more)
-moves_if_given state sink old new (Ok a) takes is = ([], moves_given state sink old new is takes)
-moves_if_given state sink old new (Err e) takes is = tt
+pub moves_if_out : {A E F J : Type 0} (state : F → StoreState) (sink : Sink J) (before : ℕ) (old middle new : Held F J)
+    (result : Result A E) → old.is_open ≡ true → middle ≡ record old { sink = middle.sink }
+    → Takes sink old.sink middle.sink (drop before old.volume.journal)
+    → OnOk result (new ≡ handed_out middle middle.sink) → OnOk result (IsHandedOut state middle.volume new.volume)
+    → OnOk result ((more : List Entry) × Moves state sink before old new more)
+moves_if_out {A} {E} {F} {J} state sink before old middle new (Ok a) taking same takes is legal =
+    let sunk : new.sink ≡ middle.sink = ap (λ (h : Held F J). h.sink) is in
+    let whole : new ≡ handed_out old new.sink =
+    is ∙ ap (λ (h : Held F J). handed_out h middle.sink) same ∙ ap (handed_out old) (sym sunk) in (
+      old.volume.journal,
+      moves_out state sink before old new taking whole
+          (subst (λ (j : J). Takes sink old.sink j (drop before old.volume.journal)) (sym sunk) takes)
+          (subst (λ (h : Held F J). IsHandedOut state h.volume new.volume) same legal),
+    )
+moves_if_out state sink before old middle new (Err e) taking same takes is legal = tt
 
 -- a volume whose entries were handed out, part by part
-pub handed_view : {F J : Type 0} (old : Held F J) (before volume : Seen F) (sink : J) (told : Counts) (is_open : Bool)
-    → volume ≡ drained before → before ≡ old.volume
-    → is_open ≡ old.is_open → told ≡ counts_sum old.told (counts_of old.volume.journal)
-    → ◌≡◌ {A = Held F J} (record { volume = volume; sink = sink; told = told; given = 0; is_open = is_open })
-    (record {
-      volume = drained old.volume;
-      sink = sink;
-      told = counts_sum old.told (counts_of old.volume.journal);
-      given = 0;
-      is_open = old.is_open;
-    })
-handed_view {F} {J} old before volume sink told is_open is same still counted =
-    rw (is, same, still, counted) refl
+pub handed_view : {F J : Type 0} (old inside : Held F J) (volume : Seen F) (told : Counts)
+    → inside ≡ old → volume ≡ drained inside.volume
+    → told ≡ counts_sum inside.told (counts_of inside.volume.journal)
+    → ◌≡◌ {A = Held F J} (record inside { volume = volume; told = told }) (handed_out old old.sink)
+handed_view {F} {J} old inside volume told same is counted =
+    rw (is, counted) (ap (λ (h : Held F J). handed_out h h.sink) same)
 
 -- which of three was open, where the last is only where the second was, and the second only where the first was
 pub same_open : (old middle new : Bool) → (middle ≡ true → old ≡ true) → (new ≡ true → middle ≡ true) → new ≡ old
@@ -329,30 +374,55 @@ same_open false true false first then same = absurd (true-false (first refl))
 same_open false false true first then same = absurd (cc)
 same_open false false false first then same = (refl, refl)
 
--- the volume and what was handed out
-moved-on : {F J : Type 0} (now new : Held F J) (handed more : List Entry) (volume : Seen F) (was_open : Bool)
-    → now.volume ≡ volume → now.is_open ≡ was_open
-    → ((new.volume ≡ now.volume) × (more ≡ []) × (new.told ≡ now.told))
-    ⊎ ((now.is_open ≡ true) × (new.volume ≡ drained now.volume) × (more ≡ now.volume.journal)
-    × (new.told ≡ counts_sum now.told (counts_of now.volume.journal)))
-    → ((new.volume ≡ volume) × (handed ++ more ≡ handed))
-    ⊎ ((was_open ≡ true) × (new.volume ≡ drained volume) × (handed ++ more ≡ handed ++ volume.journal))
-moved-on now new handed more volume was_open same opened_so (inl stays) =
-    inl (stays.0 ∙ same, ap (λ (l : List Entry). handed ++ l) stays.1 ∙ append-nil handed)
-moved-on {F} now new handed more volume was_open same opened_so (inr moved) = inr (
-  sym opened_so ∙ moved.0,
-  moved.1 ∙ ap drained same,
-  ap (λ (l : List Entry). handed ++ l) (moved.2 ∙ ap (λ (v : Seen F). v.journal) same),
-)
+-- ---- a pass that is made where one is due
 
--- the course moves on
-pub moves_on : {F J : Type 0} (state : F → StoreState) (sink : Sink J) (now new : Held F J) (handed more : List Entry)
-    (volume : Seen F) (was_open : Bool)
-    → now.volume ≡ volume → now.is_open ≡ was_open → Moves state sink now new more
-    → (new.is_open ≡ true → HasRoom new.volume)
-    → MovesOn was_open volume handed (course_of new (handed ++ more))
-moves_on {F} state sink now new handed more volume was_open same opened_so moves room = record {
-  moved = moved-on now new handed more volume was_open same opened_so moves.moved;
-  opened = λ is. sym opened_so ∙ moves.opened is;
-  room = room;
+tidied_so : {F J : Type 0} (r : Cleaner F) (sink : Sink J) (old now new : Held F J) (handed more : List Entry)
+    (due : Bool) → is_due r.state (course_of now []) ≡ due
+    → HasKept r.state sink old now handed → HasTidied r sink now new more
+    → HasKept r.state sink old new (handed ++ more)
+tidied_so r sink old now new handed more true is kept tidied =
+    let pass = tidied.passes is in
+    kept_moved r.state sink old now new pass.0 handed more kept (run_follows r now.volume pass.0 _ _ _ pass.1 pass.2)
+    pass.3
+tidied_so r sink old now new handed more false is kept tidied =
+    let stays = tidied.stays is in
+    rw (stays.0, stays.1, append-nil handed) kept
+
+-- what is handed out and what the sink has, behind it
+pub kept_tidied : {F J : Type 0} (r : Cleaner F) (sink : Sink J) (old now new : Held F J) (handed more : List Entry)
+    → HasKept r.state sink old now handed → HasTidied r sink now new more
+    → HasKept r.state sink old new (handed ++ more)
+kept_tidied r sink old now new handed more kept tidied =
+    tidied_so r sink old now new handed more (is_due r.state (course_of now [])) refl kept tidied
+
+-- the talk goes on
+pub tidies_on : {F J : Type 0} (r : Cleaner F) (sink : Sink J) (now new : Held F J) (handed more : List Entry)
+    → HasTidied r sink now new more → Tidies r (course_of now handed) (course_of new (handed ++ more))
+tidies_on {F} {J} r sink now new handed more tidied = record {
+  passes = λ due.
+      let pass = tidied.passes due in
+      record {
+        passed = pass.0;
+        untold = pass.1;
+        makes = pass.2;
+        moves = moves_on r.state sink (length now.volume.journal) (record now { volume = pass.0 }) new handed more pass.3;
+      };
+  stays = λ none.
+      let stays = tidied.stays none in
+      rw (stays.0, stays.1, append-nil handed) refl;
 }
+
+tidied_opened_so : {F J : Type 0} (r : Cleaner F) (sink : Sink J) (now new : Held F J) (more : List Entry)
+    (due : Bool) → is_due r.state (course_of now []) ≡ due
+    → HasTidied r sink now new more → new.is_open ≡ true → now.is_open ≡ true
+tidied_opened_so r sink now new more true is tidied taking =
+    let pass = tidied.passes is in
+    on_opened (course_of (record now { volume = pass.0 }) []) (course_of new more) pass.3.moves taking
+tidied_opened_so {F} {J} r sink now new more false is tidied taking =
+    sym (ap (λ (h : Held F J). h.is_open) (tidied.stays is).0) ∙ taking
+
+-- a sink that takes more took entries before
+pub tidied_opened : {F J : Type 0} (r : Cleaner F) (sink : Sink J) (now new : Held F J) (more : List Entry)
+    → HasTidied r sink now new more → new.is_open ≡ true → now.is_open ≡ true
+tidied_opened {F} {J} r sink now new more tidied taking =
+    tidied_opened_so r sink now new more (is_due r.state (course_of now [])) refl tidied taking

@@ -36,10 +36,10 @@ use Rattle.lfs_audit.specs.Runs.{AreAsked, Runs, lines_text}
 use Rattle.lfs_audit.specs.Scripts.{log_cleaner}
 use Rattle.lfs_audit.proofs.RunLemmas.{begun_answers, lines_of_runs, runs_joined, runs_none}
 use Rattle.lfs_live.specs.Hearing.{heard_of, is_dotted}
-use Rattle.lfs_live.specs.Held.{Course, MovesOn, drained}
+use Rattle.lfs_live.specs.Held.{Course, IsHanded, IsShut, MovesOn}
 use Rattle.lfs_live.specs.Scripts.{WritesAsScript, log_talker}
 use Rattle.lfs_live.specs.Talkers.{Talker}
-use Rattle.lfs_live.specs.Talking.{Does, Hears, HearsAll, IsLast, IsTalk, ended, first_speaker}
+use Rattle.lfs_live.specs.Talking.{Does, Hears, HearsAll, IsLast, IsTalk, Tidies, ended, first_speaker}
 use Rattle.lfs_live.specs.Telling.{ended_line}
 use Rattle.lfs_live.specs.declared.hearing.Dot.TheVariants.{Quit}
 use Rattle.lfs_live.specs.declared.hearing.Heard.{Heard}
@@ -226,35 +226,26 @@ record Goes {F : Type 0} (r : Cleaner F) (old new : Seen F) (draft : Drafted) (t
 true-is-false : (b : Bool) → b ≡ true → b ≡ false → ⊥
 true-is-false b holds fails = absurd (cc)
 
-unmoved-closed : (b : Bool) → (b ≡ true → ⊥) → b ≡ false
-unmoved-closed true never = absurd (never refl)
-unmoved-closed false never = refl
+unmoved-left : {F : Type 0} (now after : Course F) → now.is_open ≡ false
+    → (after ≡ now) ⊎ (IsHanded now after ⊎ IsShut now after) → after ≡ now
+unmoved-left now after closed (inl stays) = stays
+unmoved-left now after closed (inr (inl out)) = absurd (true-is-false now.is_open out.opened closed)
+unmoved-left now after closed (inr (inr shut)) = absurd (true-is-false now.is_open shut.opened closed)
 
-unmoved-volume : {F : Type 0} (was_open : Bool) (middle : Seen F) (handed : List Entry) (after : Course F) → was_open
-    ≡ false
-    → ((after.volume ≡ middle) × (after.handed ≡ handed))
-    ⊎ ((was_open ≡ true) × (after.volume ≡ drained middle) × (after.handed ≡ handed ++ middle.journal))
-    → (after.volume ≡ middle) × (after.handed ≡ handed)
-unmoved-volume was_open middle handed after closed (inl stays) = stays
-unmoved-volume was_open middle handed after closed (inr moved) = absurd (true-is-false was_open moved.0 closed)
-
--- a line moves nothing on of a talk without a sink
-unmoved : {F : Type 0} (was_open : Bool) (middle : Seen F) (handed : List Entry) (after : Course F) → was_open ≡ false
-    → MovesOn was_open middle handed after
-    → (after.volume ≡ middle) × (after.handed ≡ handed) × (after.is_open ≡ false)
-unmoved was_open middle handed after closed moves = (
-  (unmoved-volume was_open middle handed after closed moves.moved).0,
-  (unmoved-volume was_open middle handed after closed moves.moved).1,
-  unmoved-closed after.is_open (λ taking. true-is-false was_open (moves.opened taking) closed),
-)
+-- a line moves nothing on of a talk without a sink and without passes unasked
+unmoved : {F : Type 0} (r : Cleaner F) (now after tidied : Course F) → now.is_open ≡ false → now.cleans ≡ false
+    → MovesOn now after → Tidies r after tidied → tidied ≡ now
+unmoved {F} r now after tidied closed idle moves tidies =
+    let still = unmoved-left now after closed moves.left in
+    tidies.stays (rw (still, idle) refl) ∙ still
 
 script-heard : {F : Type 0} (t : Talker F) (old new : Course F) (speaker
     then : Speaker) (lines : List (List ℕ)) (told rest : List ℕ) (n : ℕ) (draft : Drafted) (plan : Planned)
-    → HearsAll t old speaker lines told new then → old.is_open ≡ false → draft.session ≡ speaker.session → draft.cred
-    ≡ speaker.cred
+    → HearsAll t old speaker lines told new then → old.is_open ≡ false → old.cleans ≡ false
+    → draft.session ≡ speaker.session → draft.cred ≡ speaker.cred
     → All IsShort (lines_of (ended lines ++ rest)) → plan_from n draft (lines_of (ended lines ++ rest)) ≡ Ok plan
     → Goes t.cleaner old.volume new.volume draft then told rest plan × (new.handed ≡ old.handed)
-script-heard {F} t old new speaker then [] told rest n draft plan hears closed session cred short ok = (
+script-heard {F} t old new speaker then [] told rest n draft plan hears closed idle session cred short ok = (
   record {
     number = n;
     after = draft;
@@ -266,36 +257,38 @@ script-heard {F} t old new speaker then [] told rest n draft plan hears closed s
   },
   ap (λ (c : Course F). c.handed) hears.0,
 )
-script-heard {F} t old new speaker then (line ∷ lines) told rest n draft plan hears closed session cred short ok =
+script-heard {F} t old new speaker then (line ∷ lines) told rest n draft plan hears closed idle session cred short ok =
     let text = ended (line ∷ lines) ++ rest in
     let behind = ended lines ++ rest in
-    let cut = first-of line lines rest hears.6 in
+    let cut = first-of line lines rest hears.7 in
     let shorts : All IsShort (line ∷ lines_of behind) = subst (All IsShort) (lines_first text line behind cut) short in
     let read = said-there n (line_said line) (λ (s : Line). plan_from (n + 1) (added draft s) (lines_of behind)) plan
     (sym (plan_step n draft text line behind cut) ∙ ok) in
     let says : heard_of line ≡ heard.Line read.0 =
     heard-said line read.0 (All-head IsShort line (lines_of behind) shorts) read.1 in
     let middle = hears.2 in
-    let after = hears.3 in
-    let next = hears.4 in
+    let after = hears.4 in
+    let next = hears.5 in
     let does : Does t.cleaner old.volume speaker read.0 hears.0 middle next =
-    subst (λ (h : Heard). Hears t old.handed old.volume speaker h hears.0 middle next) says hears.7 in
-    let still = unmoved old.is_open middle old.handed after closed hears.8 in
+    subst (λ (h : Heard). Hears t old.handed old.volume speaker h hears.0 middle next) says hears.8 in
+    let still = unmoved t.cleaner (record old { volume = middle }) hears.3 after closed idle hears.9 hears.10 in
     let followed = followed-line t.cleaner old.volume middle draft speaker next read.0 hears.0 session cred does in
     let more = script-heard t after new next
-    then lines hears.1 rest (n + 1) (added draft read.0) plan hears.9 still.2 followed.session followed.cred
+    then lines hears.1 rest (n + 1) (added draft read.0) plan hears.11
+    (ap (λ (c : Course F). c.is_open) still ∙ closed) (ap (λ (c : Course F). c.cleans) still ∙ idle)
+    followed.session followed.cred
     (All-tail IsShort line (lines_of behind) shorts) read.2 in
     let goes = subst (λ (v : Seen F). Goes t.cleaner v new.volume (added draft read.0)
-    then hears.1 rest plan) still.0 more.0 in (
+    then hears.1 rest plan) (ap (λ (c : Course F). c.volume) still) more.0 in (
       record {
         number = goes.number;
         after = goes.after;
         followed = followed-joined t.cleaner old.volume middle new.volume draft (added draft read.0) goes.after next
-            then hears.0 hears.1 told hears.5 followed goes.followed;
+            then hears.0 hears.1 told hears.6 followed goes.followed;
         short = goes.short;
         goes_on = goes.goes_on;
       },
-      more.1 ∙ still.1,
+      more.1 ∙ ap (λ (c : Course F). c.handed) still,
     )
 
 -- ---- the end of a script
@@ -344,18 +337,18 @@ told-whole told told_last lines report all none is same =
     ∙ ap (λ (l : List ℕ). l ++ report) is ∙ ap (λ (l : List ℕ). lines ++ l) same
 
 script-written : (old new : Course Parts) (script behind : List ℕ) (start out : Option (List ℕ)) (plan : Planned)
-    → old.volume.journal ≡ [] → old.handed ≡ [] → old.is_open ≡ false → plan_of script ≡ Ok plan
+    → old.volume.journal ≡ [] → old.handed ≡ [] → old.is_open ≡ false → old.cleans ≡ false → plan_of script ≡ Ok plan
     → All IsShort (lines_of script)
     → IsTalk log_talker old new (Some script) (Some behind) start out
     → (text : List ℕ) × IsOutput log_cleaner
     (Begins (state_of old.volume.since) old.volume.since_level) script old.volume.limit old.volume.store text
     × Appends start out text
-script-written old new script behind start out plan empty unhanded closed parsed short talk =
+script-written old new script behind start out plan empty unhanded closed idle parsed short talk =
     let all = talk.heard in
     let rest = all.last ++ behind in
     let whole : script ≡ ended all.lines ++ rest = all.taken ∙ append_assoc (ended all.lines) all.last behind in
     let went = script-heard log_talker old new first_speaker all.then all.lines all.told rest 1 first_draft plan
-    all.heard closed refl refl
+    all.heard closed idle refl refl
     (subst (λ (s : List ℕ). All IsShort (lines_of s)) whole short)
     (subst (λ (s : List ℕ). plan_from 1 first_draft (lines_of s) ≡ Ok plan) whole parsed) in
     let goes = went.0 in
@@ -396,6 +389,6 @@ script-written old new script behind start out plan empty unhanded closed parsed
 
 -- the lines of a script that is all that a reader has
 pub script_law : WritesAsScript
-script_law old new script None start out plan empty unhanded closed parsed short talk = absurd talk.heard.taken
-script_law old new script (Some behind) start out plan empty unhanded closed parsed short talk =
-    script-written old new script behind start out plan empty unhanded closed parsed short talk
+script_law old new script None start out plan empty unhanded closed idle parsed short talk = absurd talk.heard.taken
+script_law old new script (Some behind) start out plan empty unhanded closed idle parsed short talk =
+    script-written old new script behind start out plan empty unhanded closed idle parsed short talk

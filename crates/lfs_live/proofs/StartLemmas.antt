@@ -9,8 +9,8 @@ use Rattle.lfs_volume.specs.Seen.{Seen}
 use Rattle.lfs_audit.specs.declared.fault.RunFault.{RunFault}
 use Rattle.lfs_audit.specs.declared.fault.RunFault.TheVariants.{Read, TooLong, Script, Format, Memory, Write}
 use Rattle.lfs_live.specs.Faults.{IsTalkFault}
-use Rattle.lfs_live.specs.Held.{HasBegun, Held, Sink}
-use Rattle.lfs_live.specs.Scripts.{HasHeardOfLog, IsFresh, IsKeptLogTalk, IsLogFault, log_talker}
+use Rattle.lfs_live.specs.Held.{HasBegun, Held, Sink, course_of}
+use Rattle.lfs_live.specs.Scripts.{HasHeardOfLog, IsFresh, IsKeptLogTalk, IsLogFault, Manner, log_talker}
 use Rattle.lfs_live.specs.Talking.{HasKeptSoFar, IsKeptTalk}
 use Rattle.lfs_server.specs.Fresh.{IsFreshLog}
 
@@ -19,12 +19,13 @@ pub log_talk : {J : Type 0} (sink : Sink J) (segments inodes frames limit : ℕ)
     (known left start out : Option (List ℕ))
     → IsFresh segments inodes frames limit old.volume
     → IsKeptTalk log_talker sink old new known left start out
-    → IsKeptLogTalk segments inodes frames limit old.is_open new.is_open (sink.next old.sink)
+    → IsKeptLogTalk segments inodes frames limit (record { is_open = old.is_open; cleans = old.cleans }) new.is_open
+    (sink.next old.sink)
     (sink.contents old.sink) (sink.contents new.sink) known left start out
 log_talk {J} sink segments inodes frames limit old new known left start out fresh talk = record {
   talk = record {
     old = old.volume;
-    new = record { volume = new.volume; handed = talk.handed; is_open = talk.was_open };
+    new = course_of new talk.handed;
     fresh = fresh;
     talk = talk.talk;
   };
@@ -49,49 +50,55 @@ log_fault segments inodes frames (Err (Format fault)) cause = absurd cause
 log_fault segments inodes frames (Err Memory) cause = cause
 log_fault segments inodes frames (Err Write) cause = cause
 
--- a volume of whose journal a sink has nothing
-abbrev pub begun : {F J : Type 0} → Seen F → J → Bool → Held F J
-begun volume sink is_open = record { volume = volume; sink = sink; told = counts_of []; given = 0; is_open = is_open }
+-- a volume that is talked to from now on
+abbrev pub begun : {F J : Type 0} → Seen F → J → Manner → Held F J
+begun volume sink manner = record {
+  volume = volume;
+  sink = sink;
+  told = counts_of [];
+  is_open = manner.is_open;
+  cleans = manner.cleans;
+}
 
 -- a talk that begins so, with its end
 pub begun_talk : {J : Type 0} (sink : Sink J) (segments inodes frames limit : ℕ) (volume : Seen Parts) (j : J)
-    (is_open : Bool) (old new : Held Parts J) (known left start out : Option (List ℕ))
-    → old ≡ begun volume j is_open → IsFresh segments inodes frames limit volume
+    (manner : Manner) (old new : Held Parts J) (known left start out : Option (List ℕ))
+    → old ≡ begun volume j manner → IsFresh segments inodes frames limit volume
     → (HasBegun old → IsKeptTalk log_talker sink old new known left start out)
-    → IsKeptLogTalk segments inodes frames limit is_open new.is_open (sink.next j) (sink.contents j)
+    → IsKeptLogTalk segments inodes frames limit manner new.is_open (sink.next j) (sink.contents j)
     (sink.contents new.sink) known left start out
-begun_talk {J} sink segments inodes frames limit volume j is_open old new known left start out is fresh talk =
-    log_talk sink segments inodes frames limit (begun volume j is_open) new known left start out fresh
+begun_talk {J} sink segments inodes frames limit volume j manner old new known left start out is fresh talk =
+    log_talk sink segments inodes frames limit (begun volume j manner) new known left start out fresh
     (subst (λ (h : Held Parts J). HasBegun h → IsKeptTalk log_talker sink h new known left start out) is talk
-    (refl, refl))
+    (refl, fresh.empty))
 
 -- up to a read that failed
 pub begun_heard : {J : Type 0} (sink : Sink J) (segments inodes frames limit : ℕ) (volume : Seen Parts) (j : J)
-    (is_open : Bool) (old new : Held Parts J) (known left start out : Option (List ℕ))
-    → old ≡ begun volume j is_open → IsFresh segments inodes frames limit volume
+    (manner : Manner) (old new : Held Parts J) (known left start out : Option (List ℕ))
+    → old ≡ begun volume j manner → IsFresh segments inodes frames limit volume
     → (HasBegun old → HasKeptSoFar log_talker sink old new known left start out)
-    → HasHeardOfLog segments inodes frames limit is_open known left start out
-begun_heard {J} sink segments inodes frames limit volume j is_open old new known left start out is fresh heard =
+    → HasHeardOfLog segments inodes frames limit manner known left start out
+begun_heard {J} sink segments inodes frames limit volume j manner old new known left start out is fresh heard =
     let so_far = subst (λ (h : Held Parts J). HasBegun h → HasKeptSoFar log_talker sink h new known left start out) is
-    heard (refl, refl) in
+    heard (refl, fresh.empty) in
     record {
       old = volume;
-      new = record { volume = new.volume; handed = so_far.handed; is_open = so_far.was_open };
+      new = course_of new so_far.handed;
       fresh = fresh;
       so_far = so_far.so_far;
     }
 
 -- the sink and whether it takes more, as they are handed back
-pub kept_as : {J : Type 0} (sink : Sink J) (segments inodes frames limit : ℕ) (was_open : Bool) (new : Held Parts J)
+pub kept_as : {J : Type 0} (sink : Sink J) (segments inodes frames limit : ℕ) (manner : Manner) (new : Held Parts J)
     (last : J) (is_open : Bool) (number : ℕ) (first known left start out : Option (List ℕ))
     → last ≡ new.sink → is_open ≡ new.is_open
-    → IsKeptLogTalk segments inodes frames limit was_open new.is_open number first (sink.contents new.sink)
+    → IsKeptLogTalk segments inodes frames limit manner new.is_open number first (sink.contents new.sink)
     known left start out
-    → IsKeptLogTalk segments inodes frames limit was_open is_open number first (sink.contents last)
+    → IsKeptLogTalk segments inodes frames limit manner is_open number first (sink.contents last)
     known left start out
-kept_as {J} sink segments inodes frames limit was_open new last is_open number first known left start
+kept_as {J} sink segments inodes frames limit manner new last is_open number first known left start
     out same still talk =
-    subst (λ (b : Bool). IsKeptLogTalk segments inodes frames limit was_open b number first (sink.contents last)
+    subst (λ (b : Bool). IsKeptLogTalk segments inodes frames limit manner b number first (sink.contents last)
     known left start out) (sym still)
-    (subst (λ (j : J). IsKeptLogTalk segments inodes frames limit was_open new.is_open number first (sink.contents j)
+    (subst (λ (j : J). IsKeptLogTalk segments inodes frames limit manner new.is_open number first (sink.contents j)
     known left start out) (sym same) talk)

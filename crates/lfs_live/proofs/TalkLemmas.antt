@@ -1,10 +1,9 @@
 -- Lines are heard one after another.
-use Rattle.std.proofs.Common.{◌≡◌, ◌≢◌, ℕ, List, [], ◌∷◌, ◌++◌, drop, take, Bool, true, false, Result, Ok, Err, IfOk}
+use Rattle.std.proofs.Common.{◌≡◌, ◌≢◌, ℕ, List, [], ◌∷◌, ◌++◌, length, Bool, true, false, Result, Ok, Err, IfOk}
 use Rattle.std.proofs.Common.{Option, inl, inr, refl, sym, ap, subst, ◌∙◌, append_assoc, append-nil}
 use Rattle.std.specs.Io.KnownBytes.{Appends, Consumes, Keeps}
 use Rattle.std.proofs.KnownBytes.{Appends-kept, Appends-nil, Appends-trans, Consumes-nil, Consumes-trans}
 use Rattle.std.proofs.lemmas.Grind.{flat_map-append}
-use Rattle.std.proofs.lemmas.List.{take-append-drop}
 use Rattle.std.proofs.lemmas.List.Elements.{All-nil}
 use Rattle.lfs_types.specs.StoreStates.{StoreState}
 use Rattle.lfs_model.specs.Counts.{counts_of}
@@ -14,14 +13,14 @@ use Rattle.lfs_print.specs.ReportText.{report_text}
 use Rattle.lfs_volume.specs.Journals.{Since}
 use Rattle.lfs_volume.specs.Seen.{Seen}
 use Rattle.lfs_live.specs.Held.{Course, HasKept, Held, MovesOn, Sink, Takes, course_of}
-use Rattle.lfs_live.proofs.KeepingLemmas.{all_legal, kept_line, kept_moved, kept_none, line_follows, moves_on}
-use Rattle.lfs_live.proofs.KeepingLemmas.{takes_more}
+use Rattle.lfs_live.proofs.KeepingLemmas.{all_legal, kept_moved, kept_none, kept_tidied, line_follows, moves_on}
+use Rattle.lfs_live.proofs.KeepingLemmas.{on_opened, tidied_opened, tidies_on}
 use Rattle.lfs_words.specs.Lines.{HasNoLineFeed}
 use Rattle.lfs_live.specs.Hearing.{heard_of}
-use Rattle.lfs_live.specs.Steps.{FailsHere, HeardAll, HeardSoFar, HearsLast, HearsNext, IsTold}
+use Rattle.lfs_live.specs.Steps.{FailsHere, HeardAll, HeardSoFar, HearsLast, HearsNext, IsTended, IsTold}
 use Rattle.lfs_live.specs.Talkers.{Talker}
-use Rattle.lfs_live.specs.Talking.{HasHeardAll, HasHeardSoFar, HasKeptSoFar, Hears, HearsAll, IsKeptTalk, ended}
-use Rattle.lfs_live.specs.Talking.{first_speaker}
+use Rattle.lfs_live.specs.Talking.{HasHeardAll, HasHeardSoFar, HasKeptSoFar, Hears, HearsAll, IsKeptTalk, Tidies}
+use Rattle.lfs_live.specs.Talking.{ended, first_speaker}
 use Rattle.lfs_live.specs.Telling.{cut_text, ended_line}
 use Rattle.lfs_live.specs.Pieces.{IsPiece}
 use Rattle.lfs_live.specs.declared.hearing.Dot.TheVariants.{Quit}
@@ -45,49 +44,57 @@ pub record HasHeard {F J : Type 0} (r : Talker F) (sink : Sink J) (old new : Hel
 -- no line was heard
 pub heard_none : {F J : Type 0} (r : Talker F) (sink : Sink J) (v : Held F J) (speaker : Speaker)
     (known start : Option (List ℕ)) → speaker ≡ first_speaker
-    → v.told ≡ counts_of [] → v.given ≡ 0 → HasHeard r sink v v speaker known known start start
-heard_none r sink v speaker known start first told given = record {
+    → v.told ≡ counts_of [] → v.volume.journal ≡ [] → HasHeard r sink v v speaker known known start start
+heard_none r sink v speaker known start first told empty = record {
   handed = [];
   lines = [];
   told = [];
   heard = (refl, first, refl);
-  kept = kept_none r.cleaner.state sink v told given;
+  kept = kept_none r.cleaner.state sink v told empty;
   taken = Consumes-nil known;
   printed = Appends-nil start;
 }
 
 -- one more line
-hears-more : {F : Type 0} (r : Talker F) (old middle : Course F) (volume : Seen F) (new : Course F) (first speaker
+hears-more : {F : Type 0} (r : Talker F) (old middle : Course F) (volume : Seen F) (after new : Course F)
+    (first speaker
     then : Speaker) (lines : List (List ℕ)) (line told more : List ℕ)
     → HearsAll r old first lines told middle speaker → HasNoLineFeed line
     → Hears r middle.handed middle.volume speaker (heard_of line) more volume then
-    → MovesOn middle.is_open volume middle.handed new → HearsAll r old first (lines ++ line ∷ []) (told ++ more) new
-    then
-hears-more {F} r old middle volume new first speaker then [] line told more heard unended next moves = (
-  more,
-  [],
-  volume,
-  new,
-  then,
-  ap (λ (l : List ℕ). l ++ more) heard.2 ∙ sym (append-nil more),
-  unended,
-  subst (λ (c : Course F). Hears r c.handed c.volume first (heard_of line) more volume then) heard.0
-      (subst (λ (s : Speaker). Hears r middle.handed middle.volume s (heard_of line) more volume then) heard.1 next),
-  subst (λ (c : Course F). MovesOn c.is_open volume c.handed new) heard.0 moves,
-  (refl, refl, refl),
-)
-hears-more r old middle volume new first speaker then (l ∷ lines) line told more heard unended next moves = (
-  heard.0,
-  heard.1 ++ more,
-  heard.2,
-  heard.3,
-  heard.4,
-  ap (λ (l : List ℕ). l ++ more) heard.5 ∙ append_assoc heard.0 heard.1 more,
-  heard.6,
-  heard.7,
-  heard.8,
-  hears-more r heard.3 middle volume new heard.4 speaker then lines line heard.1 more heard.9 unended next moves,
-)
+    → MovesOn (record middle { volume = volume }) after → Tidies r.cleaner after new
+    → HearsAll r old first (lines ++ line ∷ []) (told ++ more) new then
+hears-more {F} r old middle volume after new first speaker
+    then [] line told more heard unended next moves tidies = (
+      more,
+      [],
+      volume,
+      after,
+      new,
+      then,
+      ap (λ (l : List ℕ). l ++ more) heard.2 ∙ sym (append-nil more),
+      unended,
+      subst (λ (c : Course F). Hears r c.handed c.volume first (heard_of line) more volume then) heard.0
+          (subst (λ (s : Speaker). Hears r middle.handed middle.volume s (heard_of line) more volume then) heard.1 next),
+      subst (λ (c : Course F). MovesOn (record c { volume = volume }) after) heard.0 moves,
+      tidies,
+      (refl, refl, refl),
+    )
+hears-more r old middle volume after new first speaker
+    then (l ∷ lines) line told more heard unended next moves tidies = (
+      heard.0,
+      heard.1 ++ more,
+      heard.2,
+      heard.3,
+      heard.4,
+      heard.5,
+      ap (λ (l : List ℕ). l ++ more) heard.6 ∙ append_assoc heard.0 heard.1 more,
+      heard.7,
+      heard.8,
+      heard.9,
+      heard.10,
+      hears-more r heard.4 middle volume after new heard.5 speaker
+          then lines line heard.1 more heard.11 unended next moves tidies,
+    )
 
 ended-more : (lines : List (List ℕ)) (line : List ℕ) → ended (lines ++ line ∷ []) ≡ ended lines ++ ended_line line
 ended-more lines line = flat_map-append ended_line lines (line ∷ [])
@@ -101,20 +108,24 @@ pub heard_next : {F J : Type 0} (r : Talker F) (sink : Sink J) (old middle new :
 heard_next {F} {J} r sink old middle new speaker then known left rest start out more heard next =
     let told = next.heard in
     let volume = told.middle in
+    let tended = told.tended in
     let done : Held F J = record middle { volume = volume } in
     let hears = told.heard heard.handed heard.kept.counted in
     let follows = line_follows r heard.handed middle.volume volume speaker then (heard_of next.line) told.told hears in
+    let handed = heard.handed ++ tended.first in
+    let kept = kept_moved r.cleaner.state sink old middle tended.between volume heard.handed tended.first heard.kept
+    follows tended.moves in
     record {
-      handed = heard.handed ++ told.more;
+      handed = handed ++ tended.then;
       lines = heard.lines ++ next.line ∷ [];
       told = heard.told ++ told.told;
       heard = hears-more r (course_of old []) (course_of middle heard.handed) volume
-          (course_of new (heard.handed ++ told.more)) first_speaker speaker
+          (course_of tended.between handed) (course_of new (handed ++ tended.then)) first_speaker speaker
           then heard.lines next.line heard.told told.told
-          heard.heard next.unended hears (moves_on r.cleaner.state sink done new heard.handed told.more volume
-          middle.is_open refl refl told.moves told.room);
-      kept = kept_moved r.cleaner.state sink old done new heard.handed told.more
-          (kept_line r.cleaner.state sink old middle heard.handed volume heard.kept follows) told.moves;
+          heard.heard next.unended hears (moves_on r.cleaner.state sink (length middle.volume.journal) done
+          tended.between heard.handed tended.first tended.moves)
+          (tidies_on r.cleaner sink tended.between new handed tended.then tended.tidies);
+      kept = kept_tidied r.cleaner sink old tended.between new handed tended.then kept tended.tidies;
       taken = subst (λ (l : List ℕ). Consumes known rest l) (sym (ended-more heard.lines next.line))
           (Consumes-trans known left rest (ended heard.lines) (ended_line next.line) heard.taken next.taken);
       printed = Appends-trans start out more heard.told told.told heard.printed told.printed;
@@ -184,71 +195,42 @@ heard_enough r sink old new speaker known left start out heard = record {
   kept = heard.kept;
 }
 
+-- a sink that takes more behind a line took entries before it
+pub tended_opened : {F J : Type 0} (r : Talker F) (sink : Sink J) (old : Held F J) (middle : Seen F) (new : Held F J)
+    → IsTended r.cleaner sink old middle new → new.is_open ≡ true → old.is_open ≡ true
+tended_opened r sink old middle new tended taking =
+    on_opened (course_of (record old { volume = middle }) []) (course_of tended.between tended.first)
+    tended.moves.moves (tidied_opened r.cleaner sink tended.between new tended.then tended.tidies taking)
+
 -- ---- the end
 
--- the sink has what it lacked
-pub kept_whole : {F J : Type 0} (state : F → StoreState) (sink : Sink J) (old now : Held F J) (new : Held F J)
-    (handed : List Entry) → HasKept state sink old now handed
-    → new.volume ≡ now.volume → (new.is_open ≡ true → now.is_open ≡ true)
-    → (new.is_open ≡ true → Takes sink now.sink new.sink (drop now.given now.volume.journal))
-    → new.is_open ≡ true → Takes sink old.sink new.sink (handed ++ new.volume.journal)
-kept_whole {F} {J} state sink old now new handed kept same opened takes = λ taking.
-    let journal = now.volume.journal in
-    let whole : handed ++ new.volume.journal ≡ (handed ++ take now.given journal) ++ drop now.given journal =
-    ap (λ (v : Seen F). handed ++ v.journal) same
-    ∙ ap (λ (l : List Entry). handed ++ l) (sym (take-append-drop now.given journal))
-    ∙ sym (append_assoc handed (take now.given journal) (drop now.given journal)) in
-    takes_more sink old.sink now.sink new.sink (handed ++ take now.given journal) (drop now.given journal) (handed
-    ++ new.volume.journal) whole
-    (kept.given (opened taking)) (takes taking)
-
 -- the report is written
-pub talk_ended : {F J : Type 0} (r : Talker F) (sink : Sink J) (old now new : Held F J)
+pub talk_ended : {F J : Type 0} (r : Talker F) (sink : Sink J) (old new : Held F J)
     (known left start before out : Option (List ℕ))
-    → HeardAll r sink old now known left start before → new.volume ≡ now.volume → new.told ≡ now.told
-    → (new.is_open ≡ true → now.is_open ≡ true)
-    → (new.is_open ≡ true → Takes sink now.sink new.sink (drop now.given now.volume.journal))
+    → HeardAll r sink old new known left start before
     → ((handed : List Entry) → new.told ≡ counts_of handed
     → Appends before out (report_text (handed ++ new.volume.journal)))
     → Since (r.cleaner.state new.volume.since) new.volume.since_level
     (λ from. IsLegal (r.cleaner.state new.volume.store).shape.numbers
     (r.cleaner.state new.volume.store).shape.segments new.volume.journal from)
     → IsKeptTalk r sink old new known left start out
-talk_ended {F} {J} r sink old now new known left start before out heard same told opened takes reported legal = record {
+talk_ended r sink old new known left start before out heard reported legal = record {
   handed = heard.handed;
-  was_open = now.is_open;
   talk = record {
     before = before;
-    heard = subst (λ (v : Seen F). HasHeardAll r (course_of old [])
-        (record { volume = v; handed = heard.handed; is_open = now.is_open }) known left start before)
-        (sym same) heard.heard;
-    legal = subst (λ (v : Seen F). Since (r.cleaner.state old.volume.since) old.volume.since_level
-        (λ from. IsLegal (r.cleaner.state old.volume.store).shape.numbers
-        (r.cleaner.state old.volume.store).shape.segments (heard.handed ++ v.journal) from)) (sym same)
-        (all_legal r.cleaner.state sink old now heard.handed heard.kept
-        (subst (λ (v : Seen F). Since (r.cleaner.state v.since) v.since_level
-        (λ from. IsLegal (r.cleaner.state v.store).shape.numbers
-        (r.cleaner.state v.store).shape.segments v.journal from)) same legal));
-    reported = reported heard.handed (told ∙ heard.kept.counted);
+    heard = heard.heard;
+    legal = all_legal r.cleaner.state sink old new heard.handed heard.kept legal;
+    reported = reported heard.handed heard.kept.counted;
   };
-  kept = kept_whole r.cleaner.state sink old now new heard.handed heard.kept same opened takes;
+  kept = heard.kept.caught;
 }
 
 -- the same up to a read that failed
-pub talk_failed : {F J : Type 0} (r : Talker F) (sink : Sink J) (old now new : Held F J)
+pub talk_failed : {F J : Type 0} (r : Talker F) (sink : Sink J) (old new : Held F J)
     (known left start out : Option (List ℕ))
-    → HeardSoFar r sink old now known left start out → new.volume ≡ now.volume
-    → (new.is_open ≡ true → now.is_open ≡ true)
-    → (new.is_open ≡ true → Takes sink now.sink new.sink (drop now.given now.volume.journal))
-    → HasKeptSoFar r sink old new known left start out
-talk_failed {F} {J} r sink old now new known left start out heard same opened takes = record {
-  handed = heard.handed;
-  was_open = now.is_open;
-  so_far = subst (λ (v : Seen F). HasHeardSoFar r (course_of old [])
-      (record { volume = v; handed = heard.handed; is_open = now.is_open }) known left start out)
-      (sym same) heard.heard;
-  kept = kept_whole r.cleaner.state sink old now new heard.handed heard.kept same opened takes;
-}
+    → HeardSoFar r sink old new known left start out → HasKeptSoFar r sink old new known left start out
+talk_failed r sink old new known left start out heard =
+    record { handed = heard.handed; so_far = heard.heard; kept = heard.kept.caught }
 
 -- ---- one line
 

@@ -16,7 +16,7 @@ use Rattle.lfs_words.specs.declared.fault.FaultKind.{FaultKind}
 use Rattle.lfs_words.specs.declared.fault.FaultKind.TheVariants.{Bytes, Words}
 use Rattle.lfs_live.specs.declared.fault.LineFault.TheVariants.{TooLong, Kind}
 use Rattle.lfs_live.specs.declared.hearing.Dot.{Dot as Word}
-use Rattle.lfs_live.specs.declared.hearing.Dot.TheVariants.{Journal, Map, Segment, Report, Help, Quit}
+use Rattle.lfs_live.specs.declared.hearing.Dot.TheVariants.{Journal, Map, Segment, Space, Report, Help, Quit}
 use Rattle.lfs_live.specs.declared.hearing.Heard.{Heard}
 use Rattle.lfs_live.specs.declared.hearing.Heard.TheVariants.{Line, Why, Dot, Fault}
 
@@ -25,13 +25,14 @@ abbrev pub dot_word : Word → List ℕ
 dot_word (Journal count) = codes ".journal"
 dot_word Map = codes ".map"
 dot_word (Segment number) = codes ".segment"
+dot_word Space = codes ".space"
 dot_word Report = codes ".report"
 dot_word Help = codes ".help"
 dot_word Quit = codes ".quit"
 
 -- every word of the server's own that may stand alone
 abbrev pub dots : List Word
-dots = Journal None ∷ Map ∷ Report ∷ Help ∷ Quit ∷ []
+dots = Journal None ∷ Map ∷ Space ∷ Report ∷ Help ∷ Quit ∷ []
 
 abbrev pub or_words : Option Word → Result Word FaultKind
 or_words None = Err Words

@@ -21,11 +21,12 @@ use Rattle.lfs_live.specs.Talkers.{Talker, talker_of}
 use Rattle.lfs_live.specs.Talking.{HasHeardSoFar, IsTalk}
 use Rattle.lfs_view.specs.MapText.{map_text}
 use Rattle.lfs_view.specs.SegmentText.{segment_text}
+use Rattle.lfs_view.specs.SpaceText.{space_text}
 use Rattle.lfs_server.specs.Fresh.{IsFormatFault, IsFreshLog}
 
 -- the log store, as it is talked to
 abbrev pub log_talker : Talker Parts
-log_talker = talker_of log_cleaner map_text segment_text
+log_talker = talker_of log_cleaner map_text segment_text space_text
 
 -- a fresh volume over a log of so many segments, inode numbers and frames, with room for so many entries, whose journal
 -- begins in the opening world
@@ -39,42 +40,50 @@ pub record IsFresh (segments inodes frames limit : ℕ) (volume : Seen Parts) : 
 abbrev pub IsJournalOf : ℕ → Option (List ℕ) → Option (List ℕ) → List Entry → Type 0
 IsJournalOf number first last entries = Appends first last (numbered_text number entries)
 
--- a talk over a fresh volume, with a sink that took entries at first or did not
-pub record IsLogTalk (segments inodes frames limit : ℕ) (was_open : Bool)
+-- how a talk goes: whether a sink takes the entries of its journal, and whether passes are made unasked
+pub record Manner : Type 0 where
+  pub is_open : Bool
+  pub cleans : Bool
+
+-- a talk that begins so with a volume
+abbrev pub begins_with : {F : Type 0} → Seen F → Manner → Course F
+begins_with volume manner =
+    record { volume = volume; handed = []; is_open = manner.is_open; cleans = manner.cleans }
+
+-- a talk over a fresh volume
+pub record IsLogTalk (segments inodes frames limit : ℕ) (manner : Manner)
     (known left start out : Option (List ℕ)) : Type 0 where
   pub old : Seen Parts
   pub new : Course Parts
   pub fresh : IsFresh segments inodes frames limit old
-  pub talk : IsTalk log_talker (record { volume = old; handed = []; is_open = was_open }) new known left start out
+  pub talk : IsTalk log_talker (begins_with old manner) new known left start out
 
 -- The same, and where the sink took entries to the end, its bytes became these by the lines of all entries, numbered
 -- from this number on.
-pub record IsKeptLogTalk (segments inodes frames limit : ℕ) (was_open is_open : Bool) (number : ℕ)
+pub record IsKeptLogTalk (segments inodes frames limit : ℕ) (manner : Manner) (is_open : Bool) (number : ℕ)
     (first last known left start out : Option (List ℕ)) : Type 0 where
-  pub talk : IsLogTalk segments inodes frames limit was_open known left start out
+  pub talk : IsLogTalk segments inodes frames limit manner known left start out
   pub kept : is_open ≡ true → IsJournalOf number first last (talk.new.handed ++ talk.new.volume.journal)
 
 -- the same up to a read that failed
-pub record HasHeardOfLog (segments inodes frames limit : ℕ) (was_open : Bool)
+pub record HasHeardOfLog (segments inodes frames limit : ℕ) (manner : Manner)
     (known left start out : Option (List ℕ)) : Type 0 where
   pub old : Seen Parts
   pub new : Course Parts
   pub fresh : IsFresh segments inodes frames limit old
-  pub so_far : HasHeardSoFar log_talker (record { volume = old; handed = []; is_open = was_open }) new known left start
-      out
+  pub so_far : HasHeardSoFar log_talker (begins_with old manner) new known left start out
 
 -- a talk over a fresh volume may end in this fault
 abbrev pub IsLogFault : ℕ → ℕ → ℕ → RunFault → Type 0
 IsLogFault segments inodes frames (Format fault) = IsFormatFault segments inodes frames fault
 IsLogFault segments inodes frames fault = IsTalkFault fault
 
--- What a talk without a sink writes whose lines are a script without a fault, in which no line has more than 65,536
--- bytes, a
--- run of that script writes, from wherever the journal began.
+-- What a talk without a sink writes, and without passes unasked, whose lines are a script without a fault, in which no
+-- line has more than 65,536 bytes, a run of that script writes, from wherever the journal began.
 abbrev pub WritesAsScript : Type 0
 WritesAsScript =
     (old new : Course Parts) (script : List ℕ) (left start out : Option (List ℕ)) (plan : Planned)
-    → old.volume.journal ≡ [] → old.handed ≡ [] → old.is_open ≡ false
+    → old.volume.journal ≡ [] → old.handed ≡ [] → old.is_open ≡ false → old.cleans ≡ false
     → plan_of script ≡ Ok plan → All (λ line. length line ≤ 65536) (lines_of script)
     → IsTalk log_talker old new (Some script) left start out
     → let v = old.volume in

@@ -1,29 +1,47 @@
 -- One line heard.
-use Rattle.std.specs.Prelude.{◌≡◌, ℕ, true, List, [], Option}
+use Rattle.std.specs.Prelude.{◌≡◌, ℕ, true, false, List, [], length, Option}
 use Rattle.std.specs.Io.KnownBytes.{Appends, Consumes, Keeps}
 use Rattle.lfs_model.specs.Counts.{counts_of}
 use Rattle.lfs_model.specs.declared.journal.Entry.{Entry}
 use Rattle.lfs_words.specs.Lines.{HasNoLineFeed}
+use Rattle.lfs_script.specs.declared.plan.Act.TheVariants.{Pass}
+use Rattle.lfs_volume.specs.Cleanings.{Cleaner}
 use Rattle.lfs_volume.specs.Seen.{Seen}
+use Rattle.lfs_audit.specs.Runs.{TellsLine}
 use Rattle.lfs_live.specs.Hearing.{heard_of}
-use Rattle.lfs_live.specs.Held.{HasKept, HasRoom, Held, Moves, Sink, course_of}
+use Rattle.lfs_live.specs.Held.{HasKept, Held, Moves, Sink, course_of}
 use Rattle.lfs_live.specs.Talkers.{Talker}
-use Rattle.lfs_live.specs.Talking.{HasHeardAll, HasHeardSoFar, Hears, IsLast}
+use Rattle.lfs_live.specs.Talking.{HasHeardAll, HasHeardSoFar, Hears, IsLast, first_speaker, is_due}
 use Rattle.lfs_live.specs.Telling.{ended_line}
 use Rattle.lfs_live.specs.declared.hearing.Heard.{Heard}
 use Rattle.lfs_live.specs.declared.telling.Speaker.{Speaker}
 
--- What a line says was done, and what is told of it is written; and then the sink got what it lacked, and entries were
--- handed out or not.
+-- The cleaner made a pass where one was due, and what it entered moved on.
+pub record HasTidied {F J : Type 0} (r : Cleaner F) (sink : Sink J) (old new : Held F J)
+    (more : List Entry) : Type 0 where
+  pub passes : is_due r.state (course_of old []) ≡ true → (passed : Seen F) × (untold : List ℕ)
+      × TellsLine r old.volume passed 255 first_speaker.cred Pass [] untold
+      × Moves r.state sink (length old.volume.journal) (record old { volume = passed }) new more
+  pub stays : is_due r.state (course_of old []) ≡ false → (new ≡ old) × (more ≡ [])
+
+-- A volume that is talked to moved on behind a line that left it so, and a pass of the cleaner was made where one was due.
+pub record IsTended {F J : Type 0} (r : Cleaner F) (sink : Sink J) (old : Held F J) (middle : Seen F)
+    (new : Held F J) : Type 0 where
+  pub between : Held F J
+  pub first : List Entry
+  pub then : List Entry
+  pub moves : Moves r.state sink (length old.volume.journal) (record old { volume = middle }) between first
+  pub tidies : HasTidied r sink between new then
+
+-- What a line says was done; then a sink that takes entries got the lines of those that it entered, and they were handed
+-- out or not; then what is told of the line was written; and then a pass was made where one was due.
 pub record IsTold {F J : Type 0} (r : Talker F) (sink : Sink J) (old new : Held F J) (speaker
     then : Speaker) (said : Heard) (start out : Option (List ℕ)) : Type 0 where
   pub middle : Seen F
   pub told : List ℕ
-  pub more : List Entry
   pub heard : (handed : List Entry) → old.told ≡ counts_of handed → Hears r handed old.volume speaker said told middle
       then
-  pub moves : Moves r.cleaner.state sink (record old { volume = middle }) new more
-  pub room : new.is_open ≡ true → HasRoom new.volume
+  pub tended : IsTended r.cleaner sink old middle new
   pub printed : Appends start out told
 
 -- the same of a line that was read with its line feed

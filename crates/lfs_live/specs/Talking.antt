@@ -1,5 +1,5 @@
 -- What lines do, one after another, and what is told of them.
-use Rattle.std.specs.Prelude.{◌≡◌, ℕ, ◌⊎◌, Bool, true, false, List, [], ◌∷◌, ◌++◌, Option, Some}
+use Rattle.std.specs.Prelude.{◌≡◌, ℕ, ◌⊎◌, ◌&&◌, not, nat_lt, Bool, true, false, List, [], ◌∷◌, ◌++◌, Option, Some}
 use Rattle.std.specs.Io.KnownBytes.{Appends, Consumes, IsAtEnd}
 use Rattle.std.specs.List.{flat_map}
 use Rattle.lfs_types.specs.StoreStates.{StoreState}
@@ -7,6 +7,7 @@ use Rattle.lfs_model.specs.Steps.{IsLegal}
 use Rattle.lfs_model.specs.declared.journal.Entry.{Entry}
 use Rattle.lfs_print.specs.ReportText.{report_text}
 use Rattle.lfs_script.specs.declared.plan.Line.{Line}
+use Rattle.lfs_script.specs.declared.plan.Act.TheVariants.{Pass}
 use Rattle.lfs_script.specs.declared.plan.Line.TheVariants.{Nothing, Session, Caller, Act}
 use Rattle.lfs_words.specs.Lines.{HasNoLineFeed}
 use Rattle.lfs_volume.specs.Cleanings.{Cleaner}
@@ -45,29 +46,45 @@ pub record LooksOn {F : Type 0} (before after : StoreState) (old new : Seen F) :
   pub since : new.since ≡ old.since
   pub since_level : new.since_level ≡ old.since_level
 
--- The same of each line, with the entries that were handed out by then: a call that is explained is not made, and a
--- word of
--- the server's own and a fault change nothing.
+-- The same of each line, with the entries that were handed out by then: a call that is explained is not made, and a word
+-- of the server's own and a fault change nothing.
 abbrev pub Hears : {F : Type 0} → Talker F → List Entry → Seen F → Speaker → Heard → List ℕ → Seen F → Speaker → Type 0
 Hears r handed old speaker (heard.Line line) told new then = Does r.cleaner old speaker line told new then
 Hears r handed old speaker (heard.Why request) told new then =
     LooksOn (r.cleaner.state old.store) (r.cleaner.state new.store) old new × (then ≡ speaker)
     × AtPresent r.cleaner.state old (λ w. told ≡ why_text w speaker.cred request)
 Hears r handed old speaker (heard.Dot dot) told new then =
-    (new ≡ old) × (then ≡ speaker) × (dot_text r.map_text r.segment_text dot handed old ≡ Some told)
+    (new ≡ old) × (then ≡ speaker) × (dot_text r dot handed old ≡ Some told)
 Hears r handed old speaker (heard.Fault fault) told new
     then = (new ≡ old) × (then ≡ speaker) × (told ≡ fault_line fault)
 
--- the same of lines, one after another, behind each of which entries may be handed out
+-- a pass of the cleaner is due: passes are made unasked, and at most three segments are clean
+abbrev pub is_due : {F : Type 0} → (F → StoreState) → Course F → Bool
+is_due state now = now.cleans && not (nat_lt 3 (state now.volume.store).clean)
+
+-- The cleaner made a pass, as session 255 and the superuser, of which nothing is told; and what it entered moved on.
+pub record HasPassed {F : Type 0} (r : Cleaner F) (now after : Course F) : Type 0 where
+  pub passed : Seen F
+  pub untold : List ℕ
+  pub makes : TellsLine r now.volume passed 255 first_speaker.cred Pass [] untold
+  pub moves : MovesOn (record now { volume = passed }) after
+
+-- behind a line a pass is made exactly where one is due
+pub record Tidies {F : Type 0} (r : Cleaner F) (now after : Course F) : Type 0 where
+  pub passes : is_due r.state now ≡ true → HasPassed r now after
+  pub stays : is_due r.state now ≡ false → after ≡ now
+
+-- the same of lines, one after another, behind each of which entries may be handed out, or the journal closed, and a
+-- pass made
 abbrev pub HearsAll : {F : Type 0} → Talker F → Course F → Speaker → List (List ℕ) → List ℕ → Course F → Speaker
     → Type 0
 HearsAll r old speaker [] told new then = (new ≡ old) × (then ≡ speaker) × (told ≡ [])
 HearsAll {F} r old speaker (line ∷ lines) told new then =
-    (first : List ℕ) × (rest : List ℕ) × (middle : Seen F) × (after : Course F) × (next : Speaker)
-    × (told ≡ first ++ rest) × HasNoLineFeed line
+    (first : List ℕ) × (rest : List ℕ) × (middle : Seen F) × (after : Course F) × (tidied : Course F)
+    × (next : Speaker) × (told ≡ first ++ rest) × HasNoLineFeed line
     × Hears r old.handed old.volume speaker (heard_of line) first middle next
-    × MovesOn old.is_open middle old.handed after
-    × HearsAll r after next lines rest new then
+    × MovesOn (record old { volume = middle }) after × Tidies r.cleaner after tidied
+    × HearsAll r tidied next lines rest new then
 
 -- lines, each with its line feed
 abbrev pub ended : List (List ℕ) → List ℕ
@@ -105,8 +122,7 @@ pub record HasHeardAll {F : Type 0} (r : Talker F) (old new : Course F)
   pub taken : Consumes known left (ended lines ++ last)
   pub printed : Appends start out (told ++ told_last)
 
--- the same, and then the report of all entries, those that were handed out and those that are kept, which are legal
--- from
+-- the same, and then the report of all entries, those that were handed out and those that are kept, which are legal from
 -- the tree where the journal began
 pub record IsTalk {F : Type 0} (r : Talker F) (old new : Course F)
     (known left start out : Option (List ℕ)) : Type 0 where
@@ -118,20 +134,16 @@ pub record IsTalk {F : Type 0} (r : Talker F) (old new : Course F)
   pub reported : Appends before out (report_text (new.handed ++ new.volume.journal))
 
 -- A talk with its sink: the entries that were handed out; and a sink that takes more has the lines of all entries, in
--- order,
--- each once.
+-- order, each once.
 pub record IsKeptTalk {F J : Type 0} (r : Talker F) (sink : Sink J) (old new : Held F J)
     (known left start out : Option (List ℕ)) : Type 0 where
   pub handed : List Entry
-  pub was_open : Bool
-  pub talk : IsTalk r (course_of old []) (record (course_of new handed) { is_open = was_open }) known left start out
+  pub talk : IsTalk r (course_of old []) (course_of new handed) known left start out
   pub kept : new.is_open ≡ true → Takes sink old.sink new.sink (handed ++ new.volume.journal)
 
 -- the same up to a read that failed
 pub record HasKeptSoFar {F J : Type 0} (r : Talker F) (sink : Sink J) (old new : Held F J)
     (known left start out : Option (List ℕ)) : Type 0 where
   pub handed : List Entry
-  pub was_open : Bool
-  pub so_far : HasHeardSoFar r (course_of old [])
-      (record (course_of new handed) { is_open = was_open }) known left start out
+  pub so_far : HasHeardSoFar r (course_of old []) (course_of new handed) known left start out
   pub kept : new.is_open ≡ true → Takes sink old.sink new.sink (handed ++ new.volume.journal)

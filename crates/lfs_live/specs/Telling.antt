@@ -1,5 +1,5 @@
 -- What is told of faults and of the words of the server's own.
-use Rattle.std.specs.Prelude.{ℕ, List, [], ◌∷◌, ◌++◌, codes, Option, None, Some, if◌then◌else◌}
+use Rattle.std.specs.Prelude.{ℕ, List, [], ◌∷◌, ◌++◌, codes, decimal, length, Option, None, Some, if◌then◌else◌}
 use Rattle.lfs_model.specs.declared.journal.Entry.{Entry}
 use Rattle.lfs_print.specs.ReportText.{report_text}
 use Rattle.lfs_words.specs.declared.fault.FaultKind.{FaultKind}
@@ -7,11 +7,13 @@ use Rattle.lfs_words.specs.declared.fault.FaultKind.TheVariants.{Cut, Bytes, Wor
 use Rattle.lfs_words.specs.declared.fault.FaultKind.TheVariants.{Cred, Memory}
 use Rattle.lfs_volume.specs.Seen.{Seen}
 use Rattle.lfs_live.specs.Hearing.{is_long}
+use Rattle.lfs_live.specs.Talkers.{Talker}
 use Rattle.lfs_live.specs.JournalText.{journal_text}
 use Rattle.lfs_live.specs.declared.fault.LineFault.{LineFault}
 use Rattle.lfs_live.specs.declared.fault.LineFault.TheVariants.{TooLong, Kind}
 use Rattle.lfs_live.specs.declared.hearing.Dot.{Dot}
-use Rattle.lfs_live.specs.declared.hearing.Dot.TheVariants.{Journal, Map, Segment, Report, Help, Quit}
+use Rattle.lfs_live.specs.declared.hearing.Dot.TheVariants.{Journal, Map, Segment, Space, Report, Help}
+use Rattle.lfs_live.specs.declared.hearing.Dot.TheVariants.{Quit}
 
 -- the word of what is wrong with a line of a script
 abbrev pub kind_word : FaultKind → List ℕ
@@ -51,17 +53,25 @@ help_text =
     ++ ended_line (codes ".journal [K]  what was asked and answered so far, or the last K of it")
     ++ ended_line (codes ".map  what stands in each segment of the log")
     ++ ended_line (codes ".segment N  each block of a segment: whose it is, where that stands now, live or dead")
+    ++ ended_line (codes ".space  clean segments, live bytes, numbers in use, what waits, and the journal's entries")
     ++ ended_line (codes ".report  how many calls were served, denied and refused so far")
     ++ ended_line (codes ".help    these lines")
     ++ ended_line (codes ".quit    ends with the report, as the end of the input does")
 
+-- how many entries a journal keeps of how many, and how many were handed out of it
+unfoldable pub entries_told : ℕ → ℕ → ℕ → List ℕ
+entries_told kept limit handed =
+    ended_line (codes "entries" ++ 32 ∷ decimal kept ++ 32 ∷ codes "kept" ++ 32 ∷ codes "of" ++ 32 ∷ decimal limit)
+    ++ ended_line (codes "entries" ++ 32 ∷ decimal handed ++ 32 ∷ codes "handed out")
+
 -- What a word of the server's own tells of a volume and of the entries that were handed out of its journal, by the
--- texts that
--- its store shows of its log; `.quit` tells nothing, but ends.
-abbrev pub dot_text : {F : Type 0} → (F → List ℕ) → (F → ℕ → List ℕ) → Dot → List Entry → Seen F → Option (List ℕ)
-dot_text map_text segment_text (Journal count) handed volume = Some (journal_text count volume.journal)
-dot_text map_text segment_text Map handed volume = Some (map_text volume.store)
-dot_text map_text segment_text (Segment number) handed volume = Some (segment_text volume.store number)
-dot_text map_text segment_text Report handed volume = Some (report_text (handed ++ volume.journal))
-dot_text map_text segment_text Help handed volume = Some help_text
-dot_text map_text segment_text Quit handed volume = None
+-- texts that its store shows; `.quit` tells nothing, but ends.
+abbrev pub dot_text : {F : Type 0} → Talker F → Dot → List Entry → Seen F → Option (List ℕ)
+dot_text r (Journal count) handed volume = Some (journal_text count volume.journal)
+dot_text r Map handed volume = Some (r.map_text volume.store)
+dot_text r (Segment number) handed volume = Some (r.segment_text volume.store number)
+dot_text r Space handed volume =
+    Some (r.space_text volume.store ++ entries_told (length volume.journal) volume.limit (length handed))
+dot_text r Report handed volume = Some (report_text (handed ++ volume.journal))
+dot_text r Help handed volume = Some help_text
+dot_text r Quit handed volume = None

@@ -27,6 +27,8 @@ pub enum Dot {
     Map,
     /// Tells each block of a segment.
     Segment(u64),
+    /// Tells how full the volume and its journal are.
+    Space,
     /// Tells the report so far.
     Report,
     /// Tells what may be said.
@@ -49,9 +51,10 @@ pub enum Heard {
 }
 
 /// Every word of the server's own that may stand alone.
-const DOTS: [Dot; 5] = [
+const DOTS: [Dot; 6] = [
     Dot::Journal(None),
     Dot::Map,
+    Dot::Space,
     Dot::Report,
     Dot::Help,
     Dot::Quit,
@@ -73,6 +76,7 @@ impl Dot {
             Dot::Journal(_) => ".journal",
             Dot::Map => ".map",
             Dot::Segment(_) => ".segment",
+            Dot::Space => ".space",
             Dot::Report => ".report",
             Dot::Help => ".help",
             Dot::Quit => ".quit",

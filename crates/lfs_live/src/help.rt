@@ -29,6 +29,10 @@ pub fn push_help(out: &mut Vec<u8>) -> Result<(), AllocError>
     )?;
     push_line(
         out,
+        ".space  clean segments, live bytes, numbers in use, what waits, and the journal's entries",
+    )?;
+    push_line(
+        out,
         ".report  how many calls were served, denied and refused so far",
     )?;
     push_line(out, ".help    these lines")?;

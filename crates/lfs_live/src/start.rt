@@ -22,6 +22,8 @@ use std::io::{self, Read, Write};
 pub struct Setup<J: Drop, V: Drop> {
     /// The parameters of the volume.
     pub params: Params,
+    /// Whether the cleaner makes a pass unasked behind each line that leaves at most three segments clean.
+    pub cleans: bool,
     /// Who stands beside.
     pub witnesses: Witnesses<J, V>,
 }
@@ -42,12 +44,14 @@ pub fn run_kept<J: JournalSink + Drop, V: Watch<LogStore> + Drop, R: Read, W: Wr
     setup: Setup<J, V>,
 ) -> Result<Witnesses<J, V>, RunFault>
     ensures written { let p = setup.params in let before = setup.witnesses in IfOk result (λ after.
-        IsKeptLogTalk p.segments p.inodes p.frames p.journal before.is_open after.is_open (J.next before.sink)
+        IsKeptLogTalk p.segments p.inodes p.frames p.journal
+        (record { is_open = before.is_open; cleans = setup.cleans }) after.is_open (J.next before.sink)
         (J.contents before.sink) (J.contents after.sink)
         (R.remaining reader.old) (R.remaining reader.new)
         (W.contents writer.old) (W.contents writer.new)) }
     ensures so_far { let p = setup.params in IfErr result (λ fault. fault ≡ Failed → HasHeardOfLog
-        p.segments p.inodes p.frames p.journal setup.witnesses.is_open
+        p.segments p.inodes p.frames p.journal
+        (record { is_open = setup.witnesses.is_open; cleans = setup.cleans })
         (R.remaining reader.old) (R.remaining reader.new)
         (W.contents writer.old) (W.contents writer.new)) }
     ensures silent { IfOk result (λ after. after.is_open ≡ setup.witnesses.is_open → teller.new ≡ teller.old) }
@@ -55,7 +59,7 @@ pub fn run_kept<J: JournalSink + Drop, V: Watch<LogStore> + Drop, R: Read, W: Wr
     ensures fault { let p = setup.params in IfErr result (IsLogFault p.segments p.inodes p.frames) }
 {
     let volume = fresh_volume(alloc, setup.params)?;
-    let mut tended = Tended::new(alloc, volume, setup.witnesses);
+    let mut tended = Tended::new(alloc, volume, setup.cleans, setup.witnesses);
     match tended.show(alloc, &[], &[]) {
         Ok(()) => {}
         Err(AllocError) => return Err(RunFault::Memory),
@@ -75,13 +79,16 @@ pub fn run_watched<V: Watch<LogStore> + Drop, R: Read, W: Write>(
     writer: &mut W,
     watch: V,
     params: Params,
+    cleans: bool,
 ) -> Result<V, RunFault>
     ensures written { OnOk result (IsLogTalk
-        params.segments params.inodes params.frames params.journal false
+        params.segments params.inodes params.frames params.journal
+        (record { is_open = false; cleans = cleans })
         (R.remaining reader.old) (R.remaining reader.new)
         (W.contents writer.old) (W.contents writer.new)) }
     ensures so_far { IfErr result (λ fault. fault ≡ Failed → HasHeardOfLog
-        params.segments params.inodes params.frames params.journal false
+        params.segments params.inodes params.frames params.journal
+        (record { is_open = false; cleans = cleans })
         (R.remaining reader.old) (R.remaining reader.new)
         (W.contents writer.old) (W.contents writer.new)) }
     ensures ranges { OnOk result (IsInRange params.segments params.inodes params.frames) }
@@ -93,7 +100,11 @@ pub fn run_watched<V: Watch<LogStore> + Drop, R: Read, W: Write>(
         program: "",
         watch,
     };
-    let setup = Setup { params, witnesses };
+    let setup = Setup {
+        params,
+        cleans,
+        witnesses,
+    };
     let teller = &mut io::sink();
     match run_kept(alloc, reader, writer, teller, setup) {
         Ok(witnesses) => Ok(witnesses.watch),
@@ -101,7 +112,7 @@ pub fn run_watched<V: Watch<LogStore> + Drop, R: Read, W: Write>(
     }
 }
 
-/// The same, and nobody watches.
+/// The same without passes unasked, and nobody watches.
 ///
 /// # Errors
 ///
@@ -113,17 +124,19 @@ pub fn run_lines<R: Read, W: Write>(
     params: Params,
 ) -> Result<(), RunFault>
     ensures written { OnOk result (IsLogTalk
-        params.segments params.inodes params.frames params.journal false
+        params.segments params.inodes params.frames params.journal
+        (record { is_open = false; cleans = false })
         (R.remaining reader.old) (R.remaining reader.new)
         (W.contents writer.old) (W.contents writer.new)) }
     ensures so_far { IfErr result (λ fault. fault ≡ Failed → HasHeardOfLog
-        params.segments params.inodes params.frames params.journal false
+        params.segments params.inodes params.frames params.journal
+        (record { is_open = false; cleans = false })
         (R.remaining reader.old) (R.remaining reader.new)
         (W.contents writer.old) (W.contents writer.new)) }
     ensures ranges { OnOk result (IsInRange params.segments params.inodes params.frames) }
     ensures fault { IfErr result (IsLogFault params.segments params.inodes params.frames) }
 {
-    match run_watched(alloc, reader, writer, Nobody, params) {
+    match run_watched(alloc, reader, writer, Nobody, params, false) {
         Ok(_) => Ok(()),
         Err(fault) => Err(fault),
     }

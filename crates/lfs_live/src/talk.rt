@@ -33,8 +33,9 @@ use std::io::{Read, Write};
 
 /// Reads lines up to the end of the input, or to one that quits; does what each says on a volume, and writes what is told
 /// of it, before it reads the next; and then writes the report. One who watches is shown each line that was answered. The
-/// journal's entries are given to a sink, and handed out where there is no room for what a line may ask for; why the sink
-/// takes no more is told at once. The clauses speak of a volume of whose journal the sink had nothing, as `Tended::new` gives.
+/// entries of each line are given to a sink before the line is answered, and handed out where there is no room for what a
+/// line may ask for; why the sink takes no more is told at once, and no call is served from then on. The clauses speak of a
+/// volume with an empty journal.
 ///
 /// # Errors
 ///
@@ -55,20 +56,18 @@ pub fn talk<
 ) -> Result<(), RunFault>
     ensures written { OnOk result (HasBegun tended.old → IsKeptTalk
         (talker_of (cleaner_of F.state F.is_settled F.cleaner)
-        F.map_text F.segment_text) (sink_of J.contents J.next)
+        F.map_text F.segment_text F.space_text) (sink_of J.contents J.next)
         tended.old tended.new (R.remaining reader.old) (R.remaining reader.new)
         (W.contents writer.old) (W.contents writer.new)) }
     ensures so_far { IfErr result (λ fault. fault ≡ Read → HasBegun tended.old → HasKeptSoFar
         (talker_of (cleaner_of F.state F.is_settled F.cleaner)
-        F.map_text F.segment_text) (sink_of J.contents J.next)
+        F.map_text F.segment_text F.space_text) (sink_of J.contents J.next)
         tended.old tended.new (R.remaining reader.old) (R.remaining reader.new)
         (W.contents writer.old) (W.contents writer.new)) }
     ensures silent { OnOk result (tended.new.is_open ≡ tended.old.is_open → teller.new ≡ teller.old) }
     ensures fault { IfErr result IsTalkFault }
 {
-    let heard = hear_all(alloc, reader, writer, teller, tended);
-    tended.end(teller);
-    heard?;
+    hear_all(alloc, reader, writer, teller, tended)?;
     report(alloc, writer, tended)
 }
 
@@ -108,12 +107,12 @@ fn hear_all<
 ) -> Result<(), RunFault>
     ensures heard { OnOk result (HasBegun tended.old → HeardAll
         (talker_of (cleaner_of F.state F.is_settled F.cleaner)
-        F.map_text F.segment_text) (sink_of J.contents J.next)
+        F.map_text F.segment_text F.space_text) (sink_of J.contents J.next)
         tended.old tended.new (R.remaining reader.old) (R.remaining reader.new)
         (W.contents writer.old) (W.contents writer.new)) }
     ensures so_far { IfErr result (λ fault. fault ≡ Read → HasBegun tended.old → HeardSoFar
         (talker_of (cleaner_of F.state F.is_settled F.cleaner)
-        F.map_text F.segment_text) (sink_of J.contents J.next)
+        F.map_text F.segment_text F.space_text) (sink_of J.contents J.next)
         tended.old tended.new (R.remaining reader.old) (R.remaining reader.new)
         (W.contents writer.old) (W.contents writer.new)) }
     ensures opened { OnOk result (tended.new.is_open ≡ true → tended.old.is_open ≡ true) }
@@ -147,7 +146,7 @@ fn hear_next<
 ) -> Result<bool, RunFault>
     ensures next { IfOk result (λ goes_on. goes_on ≡ true → HearsNext
         (talker_of (cleaner_of F.state F.is_settled F.cleaner)
-        F.map_text F.segment_text) (sink_of J.contents J.next)
+        F.map_text F.segment_text F.space_text) (sink_of J.contents J.next)
         tended.old tended.new speaker.old speaker.new (R.remaining reader.old) (R.remaining reader.new)
         (W.contents writer.old) (W.contents writer.new)) }
     ensures last { IfOk result (λ goes_on. goes_on ≡ false → (tended.new ≡ tended.old) × HearsLast
@@ -175,7 +174,8 @@ fn hear_next<
     Ok(false)
 }
 
-/// Does what a line says, which is given without its line feed, and writes what is told of it. Whether more is to be read.
+/// Does what a line says, which is given without its line feed, gives the sink what it entered, and writes what is told of
+/// it; then the cleaner makes a pass where one is due. Whether more is to be read.
 fn hear_line<
     F: CleanedStore + ShowsLog + Drop,
     J: JournalSink + Drop,
@@ -192,7 +192,7 @@ fn hear_line<
 ) -> Result<bool, RunFault>
     ensures told { IfOk result (λ goes_on. goes_on ≡ true → IsTold
         (talker_of (cleaner_of F.state F.is_settled F.cleaner)
-        F.map_text F.segment_text) (sink_of J.contents J.next)
+        F.map_text F.segment_text F.space_text) (sink_of J.contents J.next)
         tended.old tended.new speaker.old speaker.new (heard_of line.now)
         (W.contents writer.old) (W.contents writer.new)) }
     ensures quits { IfOk result (λ goes_on. goes_on ≡ false → (tended.new ≡ tended.old)
@@ -200,13 +200,13 @@ fn hear_line<
     ensures silent { OnOk result (tended.new.is_open ≡ tended.old.is_open → teller.new ≡ teller.old) }
     ensures fault { IfErr result IsLateFault }
 {
+    let before = tended.volume.journal().len();
     match answer(alloc, &mut tended.volume, &tended.told, speaker, line)? {
         Some(text) => {
+            tended.move_on(teller, before);
             say(writer, text.as_slice())?;
-            tended
-                .watch
-                .watch(alloc, line, text.as_slice(), tended.volume.store())?;
-            tended.move_on(teller);
+            tended.show(alloc, line, text.as_slice())?;
+            tended.tidy(alloc, teller)?;
             Ok(true)
         }
         None => Ok(false),

@@ -1,6 +1,6 @@
 //! What a line does, and the text that is told of it.
 
-ghost use Rattle.std.specs.Prelude.{◌≡◌, ◌++◌, [], List, Some, IfOk, MatchOption};
+ghost use Rattle.std.specs.Prelude.{◌≡◌, ◌++◌, [], List, length, Some, IfOk, MatchOption, OnOk};
 ghost use Rattle.lfs_model.specs.Counts.{counts_of};
 ghost use Rattle.lfs_print.specs.ReportText.{report_text};
 ghost use Rattle.lfs_volume.specs.Cleanings.{cleaner_of};
@@ -10,7 +10,7 @@ ghost use Rattle.lfs_why.specs.WhyText.{why_text};
 ghost use Rattle.lfs_live.specs.Hearing.{heard_of};
 ghost use Rattle.lfs_live.specs.Talkers.{talker_of};
 ghost use Rattle.lfs_live.specs.Talking.{Does, Hears, LooksOn, first_speaker};
-ghost use Rattle.lfs_live.specs.Telling.{cut_text, dot_text, fault_line, help_text};
+ghost use Rattle.lfs_live.specs.Telling.{cut_text, dot_text, entries_told, fault_line, help_text};
 ghost use Rattle.lfs_live.specs.declared.hearing.Dot.TheVariants.{Quit};
 ghost use Rattle.lfs_live.specs.declared.hearing.Heard.TheVariants as heard;
 
@@ -30,6 +30,7 @@ use lfs_types::store::FileStore;
 use lfs_view::shows::ShowsLog;
 use lfs_volume::volume::Volume;
 use lfs_why::lines::tell_explanation;
+use lfs_words::append::push_decimal;
 use lfs_words::caller::first_caller;
 use lfs_words::fault::FaultKind;
 use std::alloc::{AllocError, Global};
@@ -72,7 +73,7 @@ pub fn answer<F: CleanedStore + ShowsLog + Drop>(
         ((heard_of line.now ≡ heard.Dot Quit) × (volume.new ≡ volume.old))
         (λ text. (handed : List Entry) → told.now ≡ counts_of handed → Hears
         (talker_of (cleaner_of F.state F.is_settled F.cleaner)
-        F.map_text F.segment_text)
+        F.map_text F.segment_text F.space_text)
         handed volume.old speaker.old (heard_of line.now) text.items volume.new speaker.new)) }
 {
     match hear(alloc, line)? {
@@ -141,7 +142,7 @@ fn tell_why<F: FileStore + Drop>(
 }
 
 /// The text that a word of the server's own tells, or none where it quits.
-fn tell_dot<F: FileStore + ShowsLog + Drop>(
+fn tell_dot<F: CleanedStore + ShowsLog + Drop>(
     alloc: Global,
     volume: &Volume<F>,
     told: &Totals,
@@ -150,12 +151,14 @@ fn tell_dot<F: FileStore + ShowsLog + Drop>(
     ensures { IfOk result (λ given. MatchOption given
         (dot ≡ Quit)
         (λ text. (handed : List Entry) → told.now ≡ counts_of handed
-        → dot_text F.map_text F.segment_text dot handed volume.now ≡ Some text.items)) }
+        → dot_text (talker_of (cleaner_of F.state F.is_settled F.cleaner) F.map_text F.segment_text F.space_text)
+        dot handed volume.now ≡ Some text.items)) }
 {
     match dot {
         Dot::Journal(count) => Ok(Some(tell_journal(alloc, volume.journal(), count)?)),
         Dot::Map => Ok(Some(tell_map(alloc, volume.store())?)),
         Dot::Segment(number) => Ok(Some(tell_segment(alloc, volume.store(), number)?)),
+        Dot::Space => Ok(Some(tell_space(alloc, volume, told)?)),
         Dot::Report => Ok(Some(tell_report(alloc, told, volume.counts())?)),
         Dot::Help => Ok(Some(tell_help(alloc)?)),
         Dot::Quit => Ok(None),
@@ -192,6 +195,43 @@ fn tell_segment<F: ShowsLog>(alloc: Global, store: &F, number: u64) -> Result<Ve
     let mut text = Vec::new(alloc);
     store.push_segment(alloc, &mut text, number)?;
     Ok(text)
+}
+
+/// The text of `.space`.
+fn tell_space<F: FileStore + ShowsLog + Drop>(
+    alloc: Global,
+    volume: &Volume<F>,
+    told: &Totals,
+) -> Result<Vec<u8>, AllocError>
+    ensures { IfOk result (λ text. (handed : List Entry) → told.now ≡ counts_of handed → text.items
+        ≡ F.space_text volume.now.store
+        ++ entries_told (length volume.now.journal) volume.now.limit (length handed)) }
+{
+    let mut text = Vec::new(alloc);
+    volume.store().push_space(&mut text)?;
+    let kept = volume.journal().len() as u64;
+    let limit = u64::from(volume.journal_limit());
+    push_entries_told(&mut text, kept, limit, told.entries())?;
+    Ok(text)
+}
+
+/// Appends how many entries a journal keeps of how many, and how many were handed out of it.
+#[tactic(auto, unfolding(crate::specs::Telling::entries_told))]
+fn push_entries_told(
+    out: &mut Vec<u8>,
+    kept: u64,
+    limit: u64,
+    handed: u64,
+) -> Result<(), AllocError>
+    ensures { OnOk result (out.new.items ≡ out.old.items ++ entries_told kept limit handed) }
+{
+    out.extend_from_slice(b"entries ")?;
+    push_decimal(out, kept)?;
+    out.extend_from_slice(b" kept of ")?;
+    push_decimal(out, limit)?;
+    out.extend_from_slice(b"\nentries ")?;
+    push_decimal(out, handed)?;
+    out.extend_from_slice(b" handed out\n")
 }
 
 /// The text of `.help`.

@@ -1,20 +1,30 @@
 //! A volume that is talked to, whose journal is given to a sink.
 
-ghost use Rattle.std.specs.Prelude.{◌≡◌, ◌≤◌, [], List, drop, length, false, true, IfOk, OnErr, OnOk};
+ghost use Rattle.std.specs.Prelude.{◌≡◌, ◌≤◌, ℕ, [], List, drop, length, false, true, IfOk, OnErr, OnOk};
 ghost use Rattle.std.specs.Vec.{vec_capacity};
 ghost use Rattle.lfs_model.specs.Counts.{counts_of};
-ghost use Rattle.lfs_live.specs.Held.{HasRoom, IsHandedOut, Moves, Takes, drained, sink_of};
+ghost use Rattle.lfs_audit.specs.Runs.{TellsLine};
+ghost use Rattle.lfs_script.specs.declared.plan.Act.TheVariants.{Pass};
+ghost use Rattle.lfs_volume.specs.Cleanings.{cleaner_of};
+ghost use Rattle.lfs_volume.specs.Seen.{Seen};
+ghost use Rattle.lfs_live.specs.Held.{HasRoom, IsHandedOut, Moves, Takes, closed, course_of, drained, sink_of};
+ghost use Rattle.lfs_live.specs.Steps.{HasTidied};
+ghost use Rattle.lfs_live.specs.Talking.{first_speaker, is_due};
 ghost use Rattle.lfs_sinks.specs.Sums.{counts_sum};
 
 use crate::watch::Watch;
 use crate::witnesses::Witnesses;
+use lfs_audit::passing::run_step;
 use lfs_io::tell::tell;
-use lfs_model::journal::{Entry, Event};
+use lfs_model::journal::Entry;
+use lfs_script::plan::{Act, Step};
+use lfs_settle::entries::CLEANER;
 use lfs_sinks::sink::{JournalSink, SinkFault};
 use lfs_sinks::totals::Totals;
-use lfs_types::request::Request;
+use lfs_types::cleaned::CleanedStore;
 use lfs_types::store::FileStore;
 use lfs_volume::volume::Volume;
+use lfs_words::caller::first_caller;
 use std::alloc::{AllocError, Global};
 use std::io::Write;
 use std::marker::Model;
@@ -22,8 +32,12 @@ use std::marker::Model;
 /// The most entries that a line may make before more room is made.
 const LINE_ENTRIES: usize = 107;
 
-/// A volume, and the sink that its journal's entries are given to while it takes them: when a window of them is full they are
-/// handed out, and the journal goes on from the present tree. One who watches stands beside.
+/// With so many clean segments or fewer a pass is made unasked: a call is refused `NoSpace` only with fewer.
+const FEW_CLEAN: u32 = 3;
+
+/// A volume, and the sink that the entries of each line are given to while it takes them: when a window of them is full they
+/// are handed out, and the journal goes on from the present tree. Once the sink takes no more, no call is served. One who
+/// watches stands beside.
 #[derive(Drop)]
 pub struct Tended<F: FileStore + Drop, J: Drop, V: Drop> {
     pub(crate) volume: Volume<F>,
@@ -31,10 +45,10 @@ pub struct Tended<F: FileStore + Drop, J: Drop, V: Drop> {
     pub(crate) watch: V,
     /// How the calls of the entries that were handed out were answered.
     pub(crate) told: Totals,
-    /// How many of the journal's entries the sink has.
-    given: usize,
     /// Whether the sink takes more.
     is_open: bool,
+    /// Whether the cleaner makes a pass unasked where few segments are clean.
+    cleans: bool,
     /// Room for a journal, without entries.
     spare: Vec<Entry>,
     /// The program that tells why the sink takes no more.
@@ -51,22 +65,28 @@ impl<F: FileStore + Drop, J: Drop, V: Drop> Model for Tended<F, J, V> {
       volume = v.volume;
       sink = v.sink;
       told = v.told;
-      given = v.given;
       is_open = v.is_open;
+      cleans = v.cleans;
     } };
 
     ghost invariant = { λ v. v.spare.items ≡ [] };
 }
 
 impl<F: FileStore + Drop, J: JournalSink + Drop, V: Drop> Tended<F, J, V> {
-    /// A volume of whose journal its witness, the sink, has nothing yet.
-    pub fn new(alloc: Global, volume: Volume<F>, witnesses: Witnesses<J, V>) -> Tended<F, J, V>
+    /// A volume that is talked to from now on. Where it cleans, the cleaner makes a pass unasked behind each line that leaves
+    /// at most three segments clean.
+    pub fn new(
+        alloc: Global,
+        volume: Volume<F>,
+        cleans: bool,
+        witnesses: Witnesses<J, V>,
+    ) -> Tended<F, J, V>
         ensures { result ≡ record {
           volume = volume;
           sink = witnesses.sink;
           told = counts_of [];
-          given = 0;
           is_open = witnesses.is_open;
+          cleans = cleans;
         } }
     {
         let Witnesses {
@@ -80,8 +100,8 @@ impl<F: FileStore + Drop, J: JournalSink + Drop, V: Drop> Tended<F, J, V> {
             sink,
             watch,
             told: Totals::none(),
-            given: 0,
             is_open,
+            cleans,
             spare: Vec::new(alloc),
             program,
         }
@@ -100,62 +120,43 @@ impl<F: FileStore + Drop, J: JournalSink + Drop, V: Drop> Tended<F, J, V> {
         }
     }
 
-    /// Gives the sink what it lacks, where the journal ends in a Sync or has no room for what a line may ask for, and then
-    /// hands the entries out. Why the sink takes no more is told once.
-    pub(crate) fn move_on<D: Write>(&mut self, teller: &mut D)
+    /// Gives the sink the entries behind the first so many, which a line made, and hands all out where there is no room for
+    /// what the next line may ask for. Where the sink doesn't take them, that is told once, and no call is served any more.
+    pub(crate) fn move_on<D: Write>(&mut self, teller: &mut D, before: usize)
         ensures moves { (more : List Entry)
-            × Moves F.state (sink_of J.contents J.next) self.old self.new more }
-        ensures room { self.new.is_open ≡ true → HasRoom self.new.volume }
+            × Moves F.state (sink_of J.contents J.next) before self.old self.new more }
         ensures silent { self.new.is_open ≡ self.old.is_open → teller.new ≡ teller.old }
     {
         if self.is_open {
-            if let Err(fault) = self.keep_up() {
+            if let Err(fault) = self.keep_up(before) {
                 self.close(teller, fault);
             }
         }
     }
 
-    /// Gives the sink all that it lacks. Why it takes no more is told once.
-    pub(crate) fn end<D: Write>(&mut self, teller: &mut D)
-        ensures given { self.new.is_open ≡ true → Takes (sink_of J.contents J.next)
-            self.old.sink self.new.sink (drop self.old.given self.old.volume.journal) }
-        ensures opened { self.new.is_open ≡ true → self.old.is_open ≡ true }
-        ensures volume { self.new.volume ≡ self.old.volume }
-        ensures told { self.new.told ≡ self.old.told }
-        ensures silent { self.new.is_open ≡ self.old.is_open → teller.new ≡ teller.old }
-    {
-        if self.is_open {
-            if let Err(fault) = self.give() {
-                self.close(teller, fault);
-            }
-        }
-    }
-
-    /// The sink takes no more, for this fault, which is told.
+    /// The sink takes no more, for this fault, which is told. From now on no call is served, as nobody would have its entry.
     fn close<D: Write>(&mut self, teller: &mut D, fault: SinkFault)
-        ensures { self.new ≡ record self.old { is_open = false } }
+        ensures { self.new ≡ record self.old { volume = closed self.old.volume; is_open = false } }
     {
         self.is_open = false;
+        self.volume.close_journal();
         let _ = tell(teller, self.program, &fault);
     }
 
-    /// Hands the entries out where there is no room for what a line may ask for, and else gives the sink what it lacks where
-    /// the journal ends in a Sync.
-    fn keep_up(&mut self) -> Result<(), SinkFault>
+    /// Gives the sink the entries behind the first so many, and hands all out where there is no room for what a line may ask
+    /// for.
+    fn keep_up(&mut self, before: usize) -> Result<(), SinkFault>
         requires { self.old.is_open ≡ true }
         ensures moves { OnOk result ((more : List Entry)
-            × Moves F.state (sink_of J.contents J.next) self.old self.new more) }
-        ensures room { OnOk result (HasRoom self.new.volume) }
-        ensures opened { self.new.is_open ≡ true }
+            × Moves F.state (sink_of J.contents J.next) before self.old self.new more) }
         ensures failed { OnErr result (self.new ≡ record self.old { sink = self.new.sink }) }
     {
+        self.give(before)?;
         if self.is_full() {
-            return self.hand_out();
+            self.hand_out()
+        } else {
+            Ok(())
         }
-        if ends_in_sync(self.volume.journal()) {
-            return self.give();
-        }
-        Ok(())
     }
 
     /// Whether the journal has entries, and no room for what a line may ask for.
@@ -167,41 +168,80 @@ impl<F: FileStore + Drop, J: JournalSink + Drop, V: Drop> Tended<F, J, V> {
         kept > 0 && kept + LINE_ENTRIES > limit
     }
 
-    /// Gives the sink what it lacks.
-    fn give(&mut self) -> Result<(), SinkFault>
+    /// Gives the sink the entries behind the first so many.
+    fn give(&mut self, before: usize) -> Result<(), SinkFault>
         ensures taken { OnOk result (Takes (sink_of J.contents J.next)
-            self.old.sink self.new.sink (drop self.old.given self.old.volume.journal)) }
-        ensures given { OnOk result (self.new ≡ record self.old
-            { sink = self.new.sink; given = length self.old.volume.journal }) }
-        ensures failed { OnErr result (self.new ≡ record self.old { sink = self.new.sink }) }
+            self.old.sink self.new.sink (drop before self.old.volume.journal)) }
+        ensures same { self.new ≡ record self.old { sink = self.new.sink } }
     {
-        self.sink.take(lacking(self.volume.journal(), self.given))?;
-        self.given = self.volume.journal().len();
-        Ok(())
+        self.sink.take(behind(self.volume.journal(), before))
     }
 
-    /// Gives the sink what it lacks, and then hands the entries out: the journal goes on without them from the present tree.
+    /// Hands the entries out: the journal goes on without them from the present tree.
     fn hand_out(&mut self) -> Result<(), SinkFault>
-        ensures taken { OnOk result (Takes (sink_of J.contents J.next)
-            self.old.sink self.new.sink (drop self.old.given self.old.volume.journal)) }
         ensures drained { OnOk result (self.new ≡ record {
           volume = drained self.old.volume;
-          sink = self.new.sink;
+          sink = self.old.sink;
           told = counts_sum self.old.told (counts_of self.old.volume.journal);
-          given = 0;
           is_open = self.old.is_open;
+          cleans = self.old.cleans;
         }) }
         ensures legal { OnOk result (IsHandedOut F.state self.old.volume self.new.volume) }
-        ensures failed { OnErr result (self.new ≡ record self.old { sink = self.new.sink }) }
+        ensures failed { OnErr result (self.new ≡ self.old) }
     {
         let Some(told) = self.told.with(self.volume.counts()) else {
             return Err(SinkFault::Numbers);
         };
         let room = room_of(&mut self.spare, self.volume.journal_limit())?;
-        self.give()?;
         self.spare = emptied(self.volume.drain(room));
         self.told = told;
-        self.given = 0;
+        Ok(())
+    }
+}
+
+impl<F: CleanedStore + Drop, J: JournalSink + Drop, V: Drop> Tended<F, J, V> {
+    /// Makes a pass of the cleaner, as session 255 and the superuser, where one is due; nothing is told of it.
+    ///
+    /// # Errors
+    ///
+    /// Memory ran out; some of its calls may have been made.
+    pub(crate) fn tidy<D: Write>(&mut self, alloc: Global, teller: &mut D) -> Result<(), AllocError>
+        ensures tidied { OnOk result ((more : List Entry) × HasTidied
+            (cleaner_of F.state F.is_settled F.cleaner) (sink_of J.contents J.next) self.old self.new more) }
+        ensures silent { OnOk result (self.new.is_open ≡ self.old.is_open → teller.new ≡ teller.old) }
+    {
+        if self.is_due() {
+            self.pass(alloc, teller)
+        } else {
+            Ok(())
+        }
+    }
+
+    /// Whether a pass of the cleaner is due.
+    fn is_due(&self) -> bool
+        ensures { result ≡ is_due F.state (course_of self.now []) }
+    {
+        self.cleans && self.volume.clean_segments() <= FEW_CLEAN
+    }
+
+    /// Makes a pass of the cleaner, and moves on.
+    fn pass<D: Write>(&mut self, alloc: Global, teller: &mut D) -> Result<(), AllocError>
+        ensures passed { OnOk result ((more : List Entry) × (passed : Seen F) × (untold : List ℕ) × TellsLine
+            (cleaner_of F.state F.is_settled F.cleaner)
+            self.old.volume passed 255 first_speaker.cred Pass [] untold
+            × Moves F.state (sink_of J.contents J.next) (length self.old.volume.journal)
+            (record self.old { volume = passed }) self.new more) }
+        ensures silent { OnOk result (self.new.is_open ≡ self.old.is_open → teller.new ≡ teller.old) }
+    {
+        let before = self.volume.journal().len();
+        let step = Step {
+            session: CLEANER,
+            cred: first_caller(),
+            act: Act::Pass,
+        };
+        let mut untold = Vec::new(alloc);
+        run_step(&mut self.volume, step, &mut untold)?;
+        self.move_on(teller, before);
         Ok(())
     }
 }
@@ -216,10 +256,10 @@ impl<F: FileStore + Drop, J: JournalSink + Drop, V: Watch<F> + Drop> Tended<F, J
 }
 
 /// The entries behind the first so many.
-fn lacking(entries: &[Entry], given: usize) -> &[Entry]
-    ensures { result.now ≡ drop given entries.now }
+fn behind(entries: &[Entry], before: usize) -> &[Entry]
+    ensures { result.now ≡ drop before entries.now }
 {
-    &entries[given.min(entries.len())..]
+    &entries[before.min(entries.len())..]
 }
 
 /// Entries that are done with: their room.
@@ -242,20 +282,4 @@ fn room_of(spare: &mut Vec<Entry>, limit: u32) -> Result<Vec<Entry>, AllocError>
         return Ok(room);
     }
     Vec::with_capacity(alloc, limit as usize)
-}
-
-/// Whether the last entry is a Sync.
-fn ends_in_sync(entries: &[Entry]) -> bool {
-    match entries.last() {
-        Some(entry) => is_sync(&entry.event),
-        None => false,
-    }
-}
-
-/// Whether an event is a Sync.
-fn is_sync(event: &Event) -> bool {
-    match event {
-        Event::User(Request::Sync, _) => true,
-        Event::User(..) | Event::Cleaner(..) => false,
-    }
 }

@@ -5,24 +5,29 @@ use Rattle.std.specs.Io.KnownBytes.{Appends}
 use Rattle.clap.specs.Values.{kind_of}
 use Rattle.clap.specs.declared.error.Error.{Error}
 use Rattle.lfs_film.specs.Films.{Reel, page_text}
-use Rattle.lfs_types.specs.declared.store.Params.{Params}
 use Rattle.lfs_programs.specs.Ranges.{IsInRange}
 use Rattle.lfs_programs.specs.declared.options.ShellOptions.{ShellOptions}
 use Rattle.lfs_audit.specs.declared.fault.RunFault.{RunFault}
 use Rattle.lfs_audit.specs.declared.fault.RunFault.TheVariants.{Read}
-use Rattle.lfs_live.specs.Scripts.{HasHeardOfLog, IsKeptLogTalk, IsLogFault, IsLogTalk}
+use Rattle.lfs_live.specs.Scripts.{HasHeardOfLog, IsKeptLogTalk, IsLogFault, IsLogTalk, Manner}
 use Rattle.lfs_programs.specs.Ends.{EndsUnasked}
 use Rattle.lfs_programs.specs.declared.fault.ShellFault.{ShellFault}
 use Rattle.lfs_programs.specs.declared.filming.Heard.{Heard}
 use Rattle.lfs_programs.specs.declared.fault.ShellFault.TheVariants.{Film, Journal, Talk}
 
+-- how a talk goes: with a sink that takes the entries of its journal or without one, and with passes unasked where they
+-- are asked for
+abbrev pub manner_of : ShellOptions → Bool → Manner
+manner_of options is_open = record { is_open = is_open; cleans = options.cleans }
+
 -- A file's bytes, where they are known, grew by the lines of all entries of a talk, numbered from 1 on, where it took
 -- them to the end.
-pub record HasFiled {F : Type 0} (contents : F → Option (List ℕ)) (params : Params) (is_kept : Bool)
+pub record HasFiled {F : Type 0} (contents : F → Option (List ℕ)) (options : ShellOptions) (is_kept : Bool)
     (known left start out : Option (List ℕ)) : Type 0 where
   pub before : F
   pub after : F
-  pub talk : IsKeptLogTalk params.segments params.inodes params.frames params.journal true is_kept 1
+  pub talk : let p = options.params in
+      IsKeptLogTalk p.segments p.inodes p.frames p.journal (manner_of options true) is_kept 1
       (contents before) (contents after) known left start out
 
 -- The bytes of a reader were talked about up to the end of the talk: with all entries in memory, or with a file of the
@@ -30,16 +35,16 @@ pub record HasFiled {F : Type 0} (contents : F → Option (List ℕ)) (params : 
 pub record HasTalked {F : Type 0} (contents : F → Option (List ℕ)) (options : ShellOptions) (is_kept : Bool)
     (known start out : Option (List ℕ)) : Type 0 where
   pub left : Option (List ℕ)
-  pub alone : is_some options.journal_out ≡ false → let params = options.params in
-      IsLogTalk params.segments params.inodes params.frames params.journal false known left start out
-  pub filed : is_some options.journal_out ≡ true → HasFiled contents options.params is_kept known left start out
+  pub alone : is_some options.journal_out ≡ false → let p = options.params in
+      IsLogTalk p.segments p.inodes p.frames p.journal (manner_of options false) known left start out
+  pub filed : is_some options.journal_out ≡ true → HasFiled contents options is_kept known left start out
 
 -- the same up to a read that failed
 abbrev pub HasTalkedSoFar : ShellOptions → Option (List ℕ) → Option (List ℕ) → Option (List ℕ) → Type 0
 HasTalkedSoFar options known start out =
-    let params = options.params in
-    (left : Option (List ℕ)) × HasHeardOfLog params.segments params.inodes params.frames params.journal
-    (is_some options.journal_out) known left start out
+    let p = options.params in
+    (left : Option (List ℕ)) × HasHeardOfLog p.segments p.inodes p.frames p.journal
+    (manner_of options (is_some options.journal_out)) known left start out
 
 -- a file, whose bytes these are where they are known, got the page of a film
 pub record HasPage {F : Type 0} (contents : F → Option (List ℕ)) (reel : Reel) : Type 0 where
@@ -78,11 +83,9 @@ pub record HasBrokenOff {F : Type 0} (contents : F → Option (List ℕ)) (optio
   pub answered : fault ≡ Film → (is_kept : Bool) × HasTalked contents options is_kept known start out
   pub unkept : fault ≡ Journal → HasTalked contents options false known start out
 
--- A program that was asked for a talk ends with this status: 0 where it has its end, a file of the journal that is
--- asked for
--- has each entry, a film that is asked for is written to a file, and nothing is told; 2 where the file of the journal
--- could
--- not be made, and then nothing is read; else 1.
+-- A program that was asked for a talk ends with this status: 0 where it has its end, a file of the journal that is asked
+-- for has each entry, a film that is asked for is written to a file, and nothing is told; 2 where the file of the journal
+-- could not be made, and then nothing is read; else 1.
 pub record EndsTalk {R W D F : Type 0} (contents : F → Option (List ℕ)) (options : ShellOptions)
     (known start out : Option (List ℕ)) (status : ℕ) (in_before in_after : R) (out_before out_after : W)
     (err_before err_after : D) : Type 0 where

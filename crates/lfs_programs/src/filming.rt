@@ -81,7 +81,7 @@ pub(crate) fn hear<F: Write + Drop, R: Read, W: Write, D: Write>(
         film: options.film.map(|_| Film::new(alloc)),
     };
     let Some(file) = journal else {
-        return match run_watched(alloc, reader, writer, watch, params) {
+        return match run_watched(alloc, reader, writer, watch, params, options.cleans) {
             Ok(Filming { film }) => Ok(Heard {
                 film,
                 is_kept: true,
@@ -95,7 +95,12 @@ pub(crate) fn hear<F: Write + Drop, R: Read, W: Write, D: Write>(
         program: NAME,
         watch,
     };
-    match run_kept(alloc, reader, writer, teller, Setup { params, witnesses }) {
+    let setup = Setup {
+        params,
+        cleans: options.cleans,
+        witnesses,
+    };
+    match run_kept(alloc, reader, writer, teller, setup) {
         Ok(after) => Ok(Heard {
             film: after.watch.film,
             is_kept: after.is_open,

@@ -73,6 +73,9 @@ const SHELL_JOURNAL: NumberOption = NumberOption {
     refusal: "--journal takes a number of decimal digits alone, from 1 to 1000000",
 };
 
+/// The option of `lfs_shell` for passes of the cleaner that nobody asks for.
+const CLEAN: &str = "clean";
+
 /// The option of `lfs_shell` that takes the file of a film.
 const FILM: &str = "film";
 
@@ -142,6 +145,8 @@ pub fn options_of<'a, S: AsStr>(alloc: Global, words: &'a [S]) -> Result<Options
 pub struct ShellOptions<'a> {
     /// The parameters of the volume.
     pub params: Params,
+    /// Whether the cleaner makes a pass unasked behind each line that leaves at most three segments clean.
+    pub cleans: bool,
     /// The file that the film of the log is written to, where one is asked for.
     pub film: Option<&'a str>,
     /// The file that the journal's entries are written to, where one is asked for.
@@ -171,6 +176,7 @@ pub fn shell_options_of<'a, S: AsStr>(
             }
             Ok(ShellOptions {
                 params,
+                cleans: matches.get_flag(CLEAN),
                 film,
                 journal_out,
             })
@@ -284,6 +290,7 @@ fn shell_command<'a>(alloc: Global) -> Result<Command<'a>, AllocError> {
         .arg(FRAMES.arg(alloc))?
         .arg(SHELL_JOURNAL.arg(alloc))?
         .arg(journal_out(alloc))?
+        .arg(clean(alloc))?
         .arg(film(alloc))
 }
 
@@ -295,6 +302,16 @@ fn journal_out<'a>(alloc: Global) -> Arg<'a> {
         .action(ArgAction::Set)
         .help(
             "Writes each entry of the journal to FILE, which may not exist; --journal is then how many are kept in memory",
+        )
+}
+
+/// The option for passes of the cleaner.
+fn clean<'a>(alloc: Global) -> Arg<'a> {
+    Arg::new(alloc, CLEAN)
+        .long(CLEAN)
+        .action(ArgAction::SetTrue)
+        .help(
+            "Has the cleaner make a pass, as session 255, behind each line that leaves at most three segments clean",
         )
 }
 

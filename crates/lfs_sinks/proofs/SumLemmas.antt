@@ -2,13 +2,16 @@
 use Rattle.std.proofs.Common.{◌≡◌, ℕ, zero, suc, ◌+◌, ◌<◌, Bool, List, [], ◌∷◌, ◌++◌, length, take, get_or, map, set}
 use Rattle.std.proofs.Common.{refl, sym, ap, ◌∙◌, arith}
 use Rattle.std.specs.Prelude.{cond, count_by}
-use Rattle.std.proofs.lemmas.List.Sums.{sum_by-append}
+use Rattle.std.proofs.lemmas.List.Sums.{sum_by-append, sum_by-cons}
 use Rattle.lfs_model.specs.Counts.{counts_of, denials, is_cleaner, is_denied, is_denied_by, is_refused, is_served}
 use Rattle.lfs_model.specs.declared.counts.Counts.{Counts}
 use Rattle.lfs_model.specs.declared.journal.Entry.{Entry}
+use Rattle.lfs_model.specs.declared.journal.Event.{Event}
+use Rattle.lfs_model.specs.declared.journal.Event.TheVariants.{User, Cleaner}
 use Rattle.lfs_print.specs.ReportText.{counts_text, report_text}
 use Rattle.lfs_print.proofs.ReportLemmas.{report_same}
 use Rattle.lfs_types.specs.RuleCodes.{rules}
+use Rattle.lfs_types.specs.declared.answer.Answer.TheVariants.{Served, Denied, Refused}
 use Rattle.lfs_types.specs.declared.rule.Rule.{Rule}
 use Rattle.lfs_sinks.specs.Sums.{counts_sum, sums}
 
@@ -66,3 +69,39 @@ pub sums_more : (numbers others : List ℕ) (i : ℕ) → i < length numbers →
 sums_more numbers others i lt less =
     let next : suc i ≡ i + 1 = omega arith in
     sums-next numbers others i lt less ∙ ap (λ (k : ℕ). sums numbers (take k others)) next
+
+-- ---- each entry is counted once
+
+one_each : (event : Event)
+    → cond (is_served event) 1 0 + cond (is_denied event) 1 0 + cond (is_refused event) 1 0 + cond (is_cleaner event) 1 0
+    ≡ 1
+unfolding is_served is_denied is_refused is_cleaner
+one_each (User request (Served shown)) = refl
+one_each (User request (Denied denial)) = refl
+one_each (User request (Refused resource)) = refl
+one_each (Cleaner kind outcome) = refl
+
+-- one entry more
+count_next : {X : Type 0} (p : X → Bool) (x : X) (xs : List X) → count_by p (x ∷ xs) ≡ cond (p x) 1 0 + count_by p xs
+count_next p x xs = sum_by-cons (λ y. cond (p y) 1 0) x xs
+
+counted_once : (entries : List Entry)
+    → count_by (λ (e : Entry). is_served e.event) entries + count_by (λ (e : Entry). is_denied e.event) entries
+    + count_by (λ (e : Entry). is_refused e.event) entries + count_by (λ (e : Entry). is_cleaner e.event) entries
+    ≡ length entries
+counted_once [] = refl
+counted_once (entry ∷ entries) =
+    omega (
+      arith,
+      one_each entry.event,
+      counted_once entries,
+      count_next (λ (e : Entry). is_served e.event) entry entries,
+      count_next (λ (e : Entry). is_denied e.event) entry entries,
+      count_next (λ (e : Entry). is_refused e.event) entry entries,
+      count_next (λ (e : Entry). is_cleaner e.event) entry entries,
+    )
+
+pub totals_length : (totals : Counts) (entries : List Entry) → totals ≡ counts_of entries
+    → totals.served + totals.denied + totals.refused + totals.cleaner ≡ length entries
+totals_length totals entries is = ap (λ (c : Counts). c.served + c.denied + c.refused + c.cleaner) is
+    ∙ counted_once entries

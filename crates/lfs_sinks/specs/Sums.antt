@@ -1,5 +1,5 @@
 -- How the calls of all entries were answered, those that were handed out and those that are kept.
-use Rattle.std.specs.Prelude.{◌≡◌, ℕ, ◌+◌, ◌≤◌, ◌^◌, All, List, [], ◌∷◌}
+use Rattle.std.specs.Prelude.{ℕ, ◌+◌, List, [], ◌∷◌}
 use Rattle.lfs_model.specs.declared.counts.Counts.{Counts}
 
 -- numbers, each with the one of another list that stands in its place

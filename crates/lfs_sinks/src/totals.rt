@@ -58,6 +58,13 @@ impl Totals {
         }
     }
 
+    /// How many entries they count.
+    pub fn entries(&self) -> u64
+        ensures { (handed : List Entry) → self.now ≡ counts_of handed → result ≡ length handed }
+    {
+        self.served + self.denied + self.refused + self.cleaner
+    }
+
     /// The totals with the counts of a journal added; none where a number would be more than 2^60.
     pub fn with(&self, counts: &Counts) -> Option<Totals>
         ensures { IfSome result (λ totals. totals ≡ counts_sum self.now counts.now) }

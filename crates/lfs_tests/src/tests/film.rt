@@ -34,7 +34,7 @@ fn page_of(rt: &impl Abort, alloc: Global, mut talk: &[u8]) -> Vec<u8> {
         film: Film::new(alloc),
     };
     let mut told = Vec::new(alloc);
-    let filming = run_watched(alloc, &mut talk, &mut told, filming, SIX_SEGMENTS);
+    let filming = run_watched(alloc, &mut talk, &mut told, filming, SIX_SEGMENTS, false);
     let filming = filming.expect(rt, "a talk");
     let mut page = Vec::new(alloc);
     filming.film.write_page(&mut page).expect(rt, "a page");

@@ -16,7 +16,7 @@ returns-in_err-talk-clause-so_far g c =
     let exit = err_from_is_err_and c.from_residual-in_err-talk.result c.from_residual-in_err-talk.ensures.1 in
     rw (exit.1, exit.2)
     (λ is. begun_heard sink p.segments p.inodes p.frames p.journal c.in_ok-volume.volume before.sink
-    before.is_open _ c.talk.new.tended _ _ _ _
+    (record { is_open = before.is_open; cleans = c.args.setup.cleans }) _ c.talk.new.tended _ _ _ _
     (c.show.ensures ∙ c.new-tended.ensures) fresh (c.in_err-talk.ensures.so_far is))
 
 pub returns-in_err-talk-clause-fault : goal.returns-in_err-talk-clause-fault
@@ -35,10 +35,11 @@ returns-clause-written g c =
     let made = c.in_ok-volume.ensures in
     let fresh = fresh_log p.segments p.inodes p.frames p.journal c.in_ok-volume.volume made.fresh.0 made.fresh.1
     made.fresh.2 made.begins in
-    kept_as sink p.segments p.inodes p.frames p.journal before.is_open c.talk.new.tended after.result.sink
+    kept_as sink p.segments p.inodes p.frames p.journal
+    (record { is_open = before.is_open; cleans = c.args.setup.cleans }) c.talk.new.tended after.result.sink
     after.result.is_open _ _ _ _ _ _ after.ensures.sink after.ensures.is_open
     (begun_talk sink p.segments p.inodes p.frames p.journal c.in_ok-volume.volume before.sink
-    before.is_open _ c.talk.new.tended _ _ _ _
+    (record { is_open = before.is_open; cleans = c.args.setup.cleans }) _ c.talk.new.tended _ _ _ _
     (c.show.ensures ∙ c.new-tended.ensures) fresh c.in_ok-talk.ensures.written)
 
 pub returns-clause-silent : goal.returns-clause-silent

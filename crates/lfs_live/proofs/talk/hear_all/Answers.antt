@@ -4,14 +4,14 @@ use Rattle.lfs_volume.specs.Cleanings.{cleaner_of}
 use Rattle.lfs_live.specs.Held.{sink_of}
 use Rattle.lfs_live.specs.Talkers.{talker_of}
 use Rattle.lfs_live.proofs.KeepingLemmas.{same_open}
-use Rattle.lfs_live.proofs.TalkLemmas.{heard_enough, heard_failed, heard_last, heard_next, heard_none}
+use Rattle.lfs_live.proofs.TalkLemmas.{heard_enough, heard_failed, heard_last, heard_next, heard_none, tended_opened}
 use Rattle.lfs_live.proofs.talk.hear_all.Goals as goal
 
 pub loop-init : goal.loop-init
 loop-init g c =
     let s = g.F.CleanedStore in
     let r = talker_of (cleaner_of g.F.FileStore.state g.F.FileStore.is_settled s.cleaner) g.F.ShowsLog.map_text
-    g.F.ShowsLog.segment_text in
+    g.F.ShowsLog.segment_text g.F.ShowsLog.space_text in
     record {
       heard = λ begins. heard_none r (sink_of g.J.JournalSink.contents g.J.JournalSink.next) c.args.tended.now _ _ _
           c.first-speaker.ensures begins.0 begins.1;
@@ -23,7 +23,7 @@ pub returns-in_err-hear_next-clause-so_far : goal.returns-in_err-hear_next-claus
 returns-in_err-hear_next-clause-so_far g c =
     let s = g.F.CleanedStore in
     let r = talker_of (cleaner_of g.F.FileStore.state g.F.FileStore.is_settled s.cleaner) g.F.ShowsLog.map_text
-    g.F.ShowsLog.segment_text in
+    g.F.ShowsLog.segment_text g.F.ShowsLog.space_text in
     let sink = sink_of g.J.JournalSink.contents g.J.JournalSink.next in
     let exit = err_from_is_err_and c.from_residual.result c.from_residual.ensures.1 in
     rw (exit.1, exit.2)
@@ -36,7 +36,7 @@ pub returns-then-not-branch-clause-heard : goal.returns-then-not-branch-clause-h
 returns-then-not-branch-clause-heard g c =
     let s = g.F.CleanedStore in
     let r = talker_of (cleaner_of g.F.FileStore.state g.F.FileStore.is_settled s.cleaner) g.F.ShowsLog.map_text
-    g.F.ShowsLog.segment_text in
+    g.F.ShowsLog.segment_text g.F.ShowsLog.space_text in
     let sink = sink_of g.J.JournalSink.contents g.J.JournalSink.next in
     let last = c.in_ok-hear_next.ensures.last c.if-not-branch.true in
     λ begins. heard_last r sink c.args.tended.now c.loop.tended c.hear_next.new.tended c.loop.speaker _
@@ -58,17 +58,19 @@ pub loop-preserved : goal.loop-preserved
 loop-preserved g c =
     let s = g.F.CleanedStore in
     let r = talker_of (cleaner_of g.F.FileStore.state g.F.FileStore.is_settled s.cleaner) g.F.ShowsLog.map_text
-    g.F.ShowsLog.segment_text in
+    g.F.ShowsLog.segment_text g.F.ShowsLog.space_text in
     let sink = sink_of g.J.JournalSink.contents g.J.JournalSink.next in
     let next = c.in_ok-hear_next.ensures.next c.if-not-branch.false in
     record {
       heard = λ begins. heard_next r sink c.args.tended.now c.loop.tended c.hear_next.new.tended c.loop.speaker
           c.hear_next.new.speaker _ (g.R.Read.remaining c.loop.reader) _ _ (g.W.Write.contents c.loop.writer) _
           (c.loop.invariant.heard begins) next;
-      opened = λ is. c.loop.invariant.opened (next.heard.moves.opened is);
+      opened = λ is. c.loop.invariant.opened (tended_opened r sink c.loop.tended next.heard.middle
+          c.hear_next.new.tended next.heard.tended is);
       silent = λ same.
           let taking = same_open c.args.tended.now.is_open c.loop.tended.is_open c.hear_next.new.tended.is_open
-          c.loop.invariant.opened next.heard.moves.opened same in
+          c.loop.invariant.opened (tended_opened r sink c.loop.tended next.heard.middle c.hear_next.new.tended
+          next.heard.tended) same in
           c.in_ok-hear_next.ensures.silent taking.1 ∙ c.loop.invariant.silent taking.0;
     }
 
@@ -76,7 +78,7 @@ pub returns-clause-so_far : goal.returns-clause-so_far
 returns-clause-so_far g c =
     let s = g.F.CleanedStore in
     let r = talker_of (cleaner_of g.F.FileStore.state g.F.FileStore.is_settled s.cleaner) g.F.ShowsLog.map_text
-    g.F.ShowsLog.segment_text in
+    g.F.ShowsLog.segment_text g.F.ShowsLog.space_text in
     let sink = sink_of g.J.JournalSink.contents g.J.JournalSink.next in
     λ is begins. heard_enough r sink c.args.tended.now c.loop.tended c.loop.speaker _ _ _ _
     (c.loop.invariant.heard begins)

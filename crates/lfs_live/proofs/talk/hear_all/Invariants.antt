@@ -9,7 +9,7 @@ abbrev pub invariant-loop : goal.invariant-loop
 invariant-loop g l =
     let s = g.F.CleanedStore in
     let r = talker_of (cleaner_of g.F.FileStore.state g.F.FileStore.is_settled s.cleaner) g.F.ShowsLog.map_text
-    g.F.ShowsLog.segment_text in
+    g.F.ShowsLog.segment_text g.F.ShowsLog.space_text in
     record {
       heard : HasBegun l.fn.tended → HasHeard r (sink_of g.J.JournalSink.contents g.J.JournalSink.next)
           l.fn.tended l.tended l.speaker (g.R.Read.remaining l.fn.reader) (g.R.Read.remaining l.reader)

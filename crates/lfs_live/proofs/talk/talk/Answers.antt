@@ -5,26 +5,25 @@ use Rattle.lfs_live.specs.Talkers.{talker_of}
 use Rattle.lfs_live.proofs.TalkLemmas.{talk_ended, talk_failed}
 use Rattle.lfs_live.proofs.talk.talk.Goals as goal
 
-pub returns-in_err-heard-clause-so_far : goal.returns-in_err-heard-clause-so_far
-returns-in_err-heard-clause-so_far g c =
+pub returns-in_err-hear_all-clause-so_far : goal.returns-in_err-hear_all-clause-so_far
+returns-in_err-hear_all-clause-so_far g c =
     let s = g.F.CleanedStore in
     let r = talker_of (cleaner_of g.F.FileStore.state g.F.FileStore.is_settled s.cleaner) g.F.ShowsLog.map_text
-    g.F.ShowsLog.segment_text in
+    g.F.ShowsLog.segment_text g.F.ShowsLog.space_text in
     let sink = sink_of g.J.JournalSink.contents g.J.JournalSink.next in
     let exit = err_from_is_err_and c.from_residual.result c.from_residual.ensures.1 in
     rw (exit.1, exit.2)
-    (λ is begins. talk_failed r sink c.args.tended.now c.hear_all-heard.new.tended c.end.new.self _ _ _ _
-    (c.in_err-heard.ensures.so_far is begins)
-    c.end.ensures.volume c.end.ensures.opened c.end.ensures.given)
+    (λ is begins. talk_failed r sink c.args.tended.now c.hear_all.new.tended _ _ _ _
+    (c.in_err-hear_all.ensures.so_far is begins))
 
 pub returns-clause-written : goal.returns-clause-written
 returns-clause-written g c =
     let s = g.F.CleanedStore in
     let r = talker_of (cleaner_of g.F.FileStore.state g.F.FileStore.is_settled s.cleaner) g.F.ShowsLog.map_text
-    g.F.ShowsLog.segment_text in
+    g.F.ShowsLog.segment_text g.F.ShowsLog.space_text in
     let sink = sink_of g.J.JournalSink.contents g.J.JournalSink.next in
     on_ok_weaker c.report.result
-    (λ reported begins. talk_ended r sink c.args.tended.now c.hear_all-heard.new.tended c.end.new.self _ _ _
-    (g.W.Write.contents c.hear_all-heard.new.writer) _ (c.in_ok-heard.ensures.heard begins)
-    c.end.ensures.volume c.end.ensures.told c.end.ensures.opened c.end.ensures.given reported c.report.ensures.legal)
+    (λ reported begins. talk_ended r sink c.args.tended.now c.hear_all.new.tended _ _ _
+    (g.W.Write.contents c.hear_all.new.writer) _ (c.in_ok-hear_all.ensures.heard begins)
+    reported c.report.ensures.legal)
     c.report.ensures.reported

@@ -11,3 +11,7 @@ pub returns-in_ok-tell_report-in-Report : goal.returns-in_ok-tell_report-in-Repo
 returns-in_ok-tell_report-in-Report g c = λ handed counted.
     rw c.in-Report.is (ap Some
     (sym (c.in_ok-tell_report-in-Report.ensures handed c.args.volume.now.journal counted c.counts.ensures.counted)))
+
+pub returns-in_ok-tell_space-in-Space : goal.returns-in_ok-tell_space-in-Space
+returns-in_ok-tell_space-in-Space g c = λ handed counted.
+    rw c.in-Space.is (ap Some (sym (c.in_ok-tell_space-in-Space.ensures handed counted)))

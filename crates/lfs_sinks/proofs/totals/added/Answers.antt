@@ -1,4 +1,4 @@
-use Rattle.std.proofs.Common.{◌≡◌, ℕ, List, ap, ◌+◌, ◌∙◌, set, get_or, take, arith}
+use Rattle.std.proofs.Common.{ℕ, List, ap, ◌+◌, ◌∙◌, set, get_or, take, arith}
 use Rattle.lfs_sinks.specs.Sums.{sums}
 use Rattle.lfs_sinks.proofs.SumLemmas.{sums_more}
 use Rattle.lfs_sinks.proofs.totals.added.Goals as goal

@@ -1,0 +1,106 @@
+//! A volume in a file: loaded from its image, and kept as one.
+
+ghost use Rattle.std.specs.Prelude.{◌≤◌, IfOk, IfSome, OnOk};
+ghost use Rattle.lfs_staging.specs.Store.{IsSettled};
+ghost use Rattle.lfs_types.specs.Ranges.{least_frames, most_frames};
+ghost use Rattle.lfs_checking.specs.Files.{HasImage, IsLoaded};
+
+use crate::fault::{CheckFault, KeepFault};
+use crate::reading::read_image;
+use crate::saving::save_volume;
+use crate::volume::load_volume;
+use lfs_logstore::LogStore;
+use lfs_types::level::Level;
+use std::alloc::Global;
+use std::fs::{self, File, OpenFile, OpenOptions};
+use std::io::ErrorKind;
+use std::os::unix::fs::OpenOptionsExt;
+use std::rt::Files;
+
+/// Who may read and write an image, which has all users' bytes: its owner.
+const OWNERS: u32 = 0o600;
+
+/// The store and the securelevel of the volume whose image the file of this path has, with so many frames, 32 to 1,024;
+/// `None` where there is no such file.
+///
+/// # Errors
+///
+/// `Read` where the file can't be read, `Image` where what it has is the image of no volume; `Memory`.
+pub fn load_file<S: Files>(
+    files: &S,
+    alloc: Global,
+    path: &str,
+    frames: u32,
+) -> Result<Option<(LogStore, Level)>, KeepFault>
+    requires at_least { least_frames ≤ frames }
+    requires at_most { frames ≤ most_frames }
+    ensures { IfOk result (λ found. IfSome found (λ both. IsLoaded frames both.0 both.1)) }
+{
+    match bytes_in(files, alloc, path)? {
+        Some(bytes) => {
+            let both = load_volume(alloc, bytes.as_slice(), frames)?;
+            Ok(Some(both))
+        }
+        None => Ok(None),
+    }
+}
+
+/// The bytes of an image's file; `None` where there is no such file.
+fn bytes_in<S: Files>(files: &S, alloc: Global, path: &str) -> Result<Option<Vec<u8>>, CheckFault> {
+    match File::open(files, path) {
+        Ok(mut file) => Ok(Some(read_image(alloc, &mut file)?)),
+        Err(error) if error.kind() == ErrorKind::NotFound => Ok(None),
+        Err(_) => Err(CheckFault::Open),
+    }
+}
+
+/// Keeps a volume, of whose store nothing waits, in the file of this path: its image is written up to the disk, to a file
+/// of this name with `.new` behind it, which its owner alone may read, and which then gets the name. So the file has the
+/// image that it had, or the whole new one.
+///
+/// # Errors
+///
+/// `Save` where a file was not written, or got no name; `Memory`.
+pub fn save_file<S: Files>(
+    files: &S,
+    alloc: Global,
+    store: &LogStore,
+    level: Level,
+    path: &str,
+) -> Result<(), KeepFault>
+    requires { IsSettled store.now }
+    ensures { OnOk result (HasImage S.File.contents store.now.log level) }
+{
+    let new = format!(in alloc; "{path}.new")?;
+    write(files, alloc, store, level, new.as_str())?;
+    match fs::rename(files, new.as_str(), path) {
+        Ok(()) => Ok(()),
+        Err(_) => Err(KeepFault::Save),
+    }
+}
+
+/// Writes the image of a store and a securelevel to the file of this path, up to the disk. The file is made where there is
+/// none.
+fn write<S: Files>(
+    files: &S,
+    alloc: Global,
+    store: &LogStore,
+    level: Level,
+    path: &str,
+) -> Result<(), KeepFault>
+    requires { IsSettled store.now }
+    ensures { OnOk result (HasImage S.File.contents store.now.log level) }
+{
+    let mut options = OpenOptions::new();
+    options.write(true).create(true).truncate(true).mode(OWNERS);
+    let Ok(mut file) = options.open(files, path) else {
+        return Err(KeepFault::Save);
+    };
+    if save_volume(alloc, store, level, &mut file).is_err() {
+        return Err(KeepFault::Save);
+    }
+    match file.sync_all() {
+        Ok(()) => Ok(()),
+        Err(_) => Err(KeepFault::Save),
+    }
+}
