@@ -1,3 +1,4 @@
+pub mod PlaceLemmas
 pub mod PlanLemmas
 pub mod RequestLemmas
 pub mod SpellingLemmas

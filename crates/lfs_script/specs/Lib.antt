@@ -1,5 +1,8 @@
 pub mod CleanerCalls
+pub mod Forms
+pub mod Operands
 pub mod Parsing
+pub mod Places
 pub mod PlanTypes
 pub mod Plans
 pub mod Requests

@@ -3,6 +3,9 @@
 
 mod cleaner_calls;
 pub mod fault;
+mod forms;
+mod operands;
+pub mod place;
 pub mod plan;
 mod requests;
 pub mod script;

@@ -80,7 +80,9 @@ fn write(alloc: Global, words: &[&str]) -> Result<Request, FaultKind>
 }
 
 /// The path, the place and the bytes of a `write`: `at` and the place, or `end`.
-fn write_words<'a>(words: &[&'a str]) -> Result<(&'a str, Option<&'a str>, &'a str), FaultKind>
+pub(crate) fn write_words<'a>(
+    words: &[&'a str],
+) -> Result<(&'a str, Option<&'a str>, &'a str), FaultKind>
     ensures { MatchResult result
         (λ three. write_words (map (λ x. x.now) words.now) ≡ Ok (three.0.now, option_copied three.1, three.2.now))
         (λ kind. write_words (map (λ x. x.now) words.now) ≡ Err kind) }
