@@ -4,3 +4,4 @@ pub mod Handled
 pub mod Loans
 pub mod Making
 pub mod Room
+pub mod Tending

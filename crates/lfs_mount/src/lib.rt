@@ -7,6 +7,7 @@ mod calling;
 mod changing;
 mod flagging;
 mod handling;
+mod keeping;
 mod listing;
 mod loans;
 mod making;

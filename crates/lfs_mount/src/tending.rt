@@ -1,10 +1,12 @@
 //! What is done between messages: room for entries is made, and the cleaner passes.
 
-ghost use Rattle.std.specs.Prelude.{◌≡◌};
+ghost use Rattle.std.specs.Prelude.{◌≡◌, if◌then◌else◌, IfOk, OnErr};
+ghost use Rattle.lfs_mount.specs.Tending.{GoesOn, let_go};
 
 use crate::mount::Mount;
 use lfs_cleaner::pass::Pass;
 use lfs_cleaner::wanting::superuser;
+use lfs_model::journal::Entry;
 use lfs_types::cleaned::CleanedStore;
 use lfs_types::store::FileStore;
 use std::alloc::{AllocError, Global};
@@ -23,19 +25,34 @@ impl<F: FileStore + Drop> Mount<F> {
         self.tree.volume.clean_segments()
     }
 
-    /// Lets the entries of the journal go, where there is room for fewer than 256 more. The volume's store and level stay.
-    pub fn make_room(&mut self, alloc: Global) -> Result<(), AllocError>
-        ensures store { self.new.tree.volume.store ≡ self.old.tree.volume.store }
-        ensures level { self.new.tree.volume.level ≡ self.old.tree.volume.level }
+    /// The entries of the journal, since they were let go last.
+    pub fn journal(&self) -> &[Entry]
+        ensures { result.now ≡ self.now.tree.volume.journal }
+    {
+        self.tree.volume.journal()
+    }
+
+    /// Lets the entries of the journal go, where there is room for fewer than 256 more. Whether it did.
+    ///
+    /// # Errors
+    ///
+    /// Memory ran out for the room of a journal, and the entries are still there.
+    pub fn make_room(&mut self, alloc: Global) -> Result<bool, AllocError>
+        ensures let_go { IfOk result (λ did. self.new.tree.volume
+            ≡ (if did then let_go self.old.tree.volume else self.old.tree.volume)) }
+        ensures failed { OnErr result (self.new.tree.volume ≡ self.old.tree.volume) }
+        ensures nodes { self.new.tree.nodes ≡ self.old.tree.nodes }
+        ensures beside { self.new.beside ≡ self.old.beside }
+        ensures sizes { self.new.sizes ≡ self.old.sizes }
     {
         let limit = self.tree.volume.journal_limit() as usize;
         let used = self.tree.volume.journal().len();
         if limit.saturating_sub(used) >= ROOM {
-            return Ok(());
+            return Ok(false);
         }
         let room = Vec::with_capacity(alloc, limit)?;
         let _ = self.tree.volume.drain(room);
-        Ok(())
+        Ok(true)
     }
 }
 
@@ -44,6 +61,10 @@ impl<F: CleanedStore + Drop> Mount<F> {
     fn pass(&mut self)
         ensures content { (F.state self.new.tree.volume.store).content ≡ (F.state self.old.tree.volume.store).content }
         ensures level { self.new.tree.volume.level ≡ self.old.tree.volume.level }
+        ensures journal { GoesOn self.old.tree.volume self.new.tree.volume }
+        ensures nodes { self.new.tree.nodes ≡ self.old.tree.nodes }
+        ensures beside { self.new.beside ≡ self.old.beside }
+        ensures sizes { self.new.sizes ≡ self.old.sizes }
     {
         let cleaner = superuser();
         let mut pass = Pass::new();
@@ -58,6 +79,10 @@ impl<F: CleanedStore + Drop> Mount<F> {
     pub fn tend(&mut self, before: u32)
         ensures content { (F.state self.new.tree.volume.store).content ≡ (F.state self.old.tree.volume.store).content }
         ensures level { self.new.tree.volume.level ≡ self.old.tree.volume.level }
+        ensures journal { GoesOn self.old.tree.volume self.new.tree.volume }
+        ensures nodes { self.new.tree.nodes ≡ self.old.tree.nodes }
+        ensures beside { self.new.beside ≡ self.old.beside }
+        ensures sizes { self.new.sizes ≡ self.old.sizes }
     {
         let after = self.tree.volume.clean_segments();
         if after < FEW_CLEAN || (after == FEW_CLEAN && after < before) {
