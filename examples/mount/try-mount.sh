@@ -17,7 +17,7 @@ unmount() {
     umount "$folder" 2> "$folder.log" || umount -l "$folder" || true
     wait
 }
-trap 'unmount; rmdir "$folder"; rm -f "$folder.log"' EXIT
+trap 'unmount; rmdir "$folder"; rm -f "$folder".*' EXIT
 # Mounts a volume of these options, and stands in it.
 mount_volume() {
     "$here/mount.sh" "$folder" "$@" &
@@ -91,6 +91,58 @@ full=$(head -c 1048576 /dev/zero 2>&1 > full || true)
 compare 'a full volume' "${full##*: }" 'No space left on device'
 rm full
 compare 'room again' "$(cp "$folder.bytes" third 2>&1 && md5sum < third)" "$kept"
-rm "$folder.bytes"
+unmount
+
+# A volume is saved at the unmount: each file, its mode, owner, flags and bytes are there at the next mount.
+image=$folder.image
+all_files() {
+    find . -printf '%P %i %y %m %U %G %s\n' | sort
+    find . -type f -exec md5sum {} + | sort
+    lsattr -R
+}
+mount_volume --segments 32 --inodes 128 --image "$image"
+chmod 1777 .
+setpriv --reuid=7 --regid=8 --clear-groups sh -c 'umask 027; mkdir d; cp "$0" d/big; chmod 4751 d/big; echo odd > "$1"' \
+    "$folder.bytes" $'d/\xff\n'
+chattr +a d/big
+kept=$(all_files)
+unmount
+compare 'who reads an image' "$(stat -c %a "$image")" 600
+mount_volume --image "$image"
+compare 'a volume that is loaded' "$(all_files)" "$kept"
+compare 'its size' "$(df -B512 --output=size,itotal . | tail -n 1 | tr -s ' ')" ' 2048 125'
+chattr -a d/big
+rm d/big
+echo more > d/more
+kept=$(all_files)
+unmount
+compare 'no other file' "$(find "$image"*)" "$image"
+
+# An image that is none is told, nothing is served, and it stays as it is.
+# refuse WHAT TOLD: a mount of the file damaged tells this and ends.
+refuse() {
+    local told status=0 sum
+    sum=$(md5sum < "$folder.damaged")
+    told=$(timeout 60 "$here/mount.sh" "$folder" --image "$folder.damaged" 2>&1) || status=$?
+    compare "$1" "$status $told" "1 lfs_fuse: $2"
+    compare "$1: stays" "$(md5sum < "$folder.damaged")" "$sum"
+    compare "$1: no mount" "$(ls -A "$folder")" ''
+}
+{ printf M; tail -c +2 "$image"; } > "$folder.damaged"
+refuse 'another first byte' 'image: the image does not begin with LFSI'
+{ head -c -5 "$image"; printf '\001\0\0\0\0'; } > "$folder.damaged"
+refuse 'a number that is used, of version 0' 'image: the ifile says of number 127 what no number may be'
+head -c -1 "$image" > "$folder.damaged"
+refuse 'a byte less' 'image: the image ends too early'
+{ cat "$image"; echo; } > "$folder.damaged"
+refuse 'a byte more' 'image: the image goes on behind its end'
+rm "$folder.damaged"
+mkdir "$folder.damaged"
+timeout 60 "$here/mount.sh" "$folder" --image "$folder.damaged" 2> "$folder.log" || true
+compare 'a folder' "$(cat "$folder.log")" 'lfs_fuse: read failed'
+rmdir "$folder.damaged"
+
+mount_volume --image "$image"
+compare 'the image once more' "$(all_files)" "$kept"
 echo "$passed passed, $failed failed"
 [ "$failed" = 0 ]

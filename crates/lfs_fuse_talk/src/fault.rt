@@ -1,5 +1,6 @@
 //! Why a talk ends before its end.
 
+use lfs_checking::fault::{CheckFault, VolumeFault};
 use lfs_types::fault::FormatFault;
 use std::alloc::AllocError;
 use thiserror::Error;
@@ -10,6 +11,15 @@ pub enum TalkFault {
     /// The volume can't be laid out so.
     #[error("{0}")]
     Format(FormatFault),
+    /// The file of the image can't be read.
+    #[error("{0}")]
+    Read(CheckFault),
+    /// What the file of the image has is the image of no volume.
+    #[error("image: {0}")]
+    Image(VolumeFault),
+    /// The image is not saved.
+    #[error("image not saved")]
+    Save,
     /// What was read is no message: its length is less than a header's, or more than is taken.
     #[error("no message")]
     Message,
@@ -27,5 +37,17 @@ impl From<AllocError> for TalkFault {
 impl From<FormatFault> for TalkFault {
     fn from(fault: FormatFault) -> TalkFault {
         TalkFault::Format(fault)
+    }
+}
+
+impl From<CheckFault> for TalkFault {
+    fn from(fault: CheckFault) -> TalkFault {
+        TalkFault::Read(fault)
+    }
+}
+
+impl From<VolumeFault> for TalkFault {
+    fn from(fault: VolumeFault) -> TalkFault {
+        TalkFault::Image(fault)
     }
 }

@@ -3,6 +3,7 @@
 
 pub mod fault;
 mod groups;
+mod image;
 mod inbox;
 pub mod options;
 pub mod outside;

@@ -49,6 +49,9 @@ const FRAMES: NumberOption = NumberOption {
     help: "How many blocks of 512 bytes the cache holds, 32 to 1024; by default 1024",
 };
 
+/// The name of the option for an image.
+const IMAGE: &str = "image";
+
 /// The name of the option for a recording.
 const RECORDED: &str = "recorded";
 
@@ -57,10 +60,12 @@ const MORE: &str =
     "Standard input and output are an open /dev/fuse: examples/mount/mount.sh opens it, and mounts.";
 
 /// What `lfs_fuse` is asked to do.
-#[derive(Clone, Copy, PartialEq, Eq, Debug)]
-pub struct Options {
-    /// The parameters of the volume.
+#[derive(Clone, Copy, Debug)]
+pub struct Options<'a> {
+    /// The parameters of a fresh volume; of one whose image is loaded the frames and the journal's limit alone.
     pub params: Params,
+    /// The file from which the volume is loaded, where there is one, and in which it is saved at the end.
+    pub image: Option<&'a str>,
     /// Whether the messages are a recording, whose processes are gone.
     pub recorded: bool,
 }
@@ -70,7 +75,7 @@ pub struct Options {
 /// # Errors
 ///
 /// What the parser tells: for a word that is no option, a number out of its range, and help; or want of memory.
-pub fn options_of<'a, S: AsStr>(alloc: Global, words: &'a [S]) -> Result<Options, Error> {
+pub fn options_of<'a, S: AsStr>(alloc: Global, words: &'a [S]) -> Result<Options<'a>, Error> {
     let mut command = command(alloc)?;
     let matches = command.try_get_matches_from_mut(words)?;
     let params = Params {
@@ -79,8 +84,13 @@ pub fn options_of<'a, S: AsStr>(alloc: Global, words: &'a [S]) -> Result<Options
         frames: number(&matches, &FRAMES),
         journal: JOURNAL,
     };
+    let image = matches.get_str(IMAGE);
     let recorded = matches.get_flag(RECORDED);
-    Ok(Options { params, recorded })
+    Ok(Options {
+        params,
+        image,
+        recorded,
+    })
 }
 
 /// The fault of arguments that are no text.
@@ -116,7 +126,19 @@ fn command<'a>(alloc: Global) -> Result<Command<'a>, AllocError> {
         .arg(SEGMENTS.arg(alloc))?
         .arg(INODES.arg(alloc))?
         .arg(FRAMES.arg(alloc))?
+        .arg(image(alloc))?
         .arg(recorded(alloc))
+}
+
+/// The option for an image.
+fn image<'a>(alloc: Global) -> Arg<'a> {
+    Arg::new(alloc, IMAGE)
+        .long(IMAGE)
+        .value_name("FILE")
+        .action(ArgAction::Set)
+        .help(
+            "Loads the volume from FILE where there is one, with its segments and numbers, and saves it there at the end",
+        )
 }
 
 /// The option for a recording.

@@ -1,6 +1,10 @@
 //! `lfs_fuse`: messages of a kernel are read from standard input, and answered on standard output.
 
+ghost use Rattle.lfs_calls.specs.Volumes.{HasWorld};
+ghost use Rattle.lfs_logstore.specs.States.{state_of};
+
 use crate::fault::TalkFault;
+use crate::image::{load, save};
 use crate::options::{Options, not_utf8, options_of};
 use crate::outside::{Outside, Recording, System};
 use crate::talk::talk;
@@ -11,6 +15,7 @@ use lfs_fuse_wire::attributes::Time;
 use lfs_io::tell::end;
 use lfs_logstore::LogStore;
 use lfs_mount::mount::{Mount, Sizes};
+use lfs_types::level::Level;
 use lfs_types::store::Params;
 use lfs_volume::volume::Volume;
 use std::alloc::{AllocError, Global};
@@ -22,12 +27,12 @@ use std::time::Clock;
 /// The program's name.
 const NAME: &str = "lfs_fuse";
 
-/// What the command line asks for; its first word is the program's name.
-fn asked<E: Env + AllocGlobal>(env: &E) -> Result<Options, Error> {
-    match words(env) {
-        Ok(words) => options_of(env.alloc(), words.as_slice()),
+/// What the words of a command line ask for; the first is the program's name.
+fn asked<'a>(alloc: Global, words: &'a Result<Vec<String>, NoWords>) -> Result<Options<'a>, Error> {
+    match words {
+        Ok(words) => options_of(alloc, words.as_slice()),
         Err(NoWords::Memory) => Err(AllocError.into()),
-        Err(NoWords::NotUtf8) => Err(not_utf8(env.alloc())),
+        Err(NoWords::NotUtf8) => Err(not_utf8(alloc)),
     }
 }
 
@@ -57,34 +62,87 @@ fn fresh(alloc: Global, params: Params, now: Time) -> Result<Mount<LogStore>, Ta
     Ok(Mount::new(alloc, volume, sizes, now)?)
 }
 
-/// Answers messages on a fresh volume.
-fn serve<P: Outside, R: Read, W: Write>(
-    outside: &mut P,
+/// A mount of a volume that a store shows.
+fn over(
     alloc: Global,
-    params: Params,
+    store: LogStore,
+    level: Level,
+    journal: u32,
+    now: Time,
+) -> Result<Mount<LogStore>, TalkFault>
+    requires { HasWorld (state_of store) }
+{
+    let log = &store.parts().log;
+    let sizes = Sizes {
+        segments: log.segments(),
+        inodes: log.inodes(),
+    };
+    let volume = Volume::over(alloc, store, level, journal)?;
+    Ok(Mount::new(alloc, volume, sizes, now)?)
+}
+
+/// A mount of the volume whose image the named file has, and of a fresh one where none is named, or there is no such file.
+fn mounted<S: Files>(
+    files: &S,
+    alloc: Global,
+    options: &Options<'_>,
+    now: Time,
+) -> Result<Mount<LogStore>, TalkFault> {
+    let Some(path) = options.image else {
+        return fresh(alloc, options.params, now);
+    };
+    match load(files, alloc, path, options.params.frames)? {
+        Some((store, level)) => over(alloc, store, level, options.params.journal, now),
+        None => fresh(alloc, options.params, now),
+    }
+}
+
+/// Saves the volume, where a file is named for it.
+fn keep<S: Files>(
+    files: &S,
+    alloc: Global,
+    mount: &mut Mount<LogStore>,
+    options: &Options<'_>,
+) -> Result<(), TalkFault> {
+    match options.image {
+        Some(path) => save(files, alloc, mount, path),
+        None => Ok(()),
+    }
+}
+
+/// Answers messages on a volume, which is saved behind them where a file is named for it, also where the talk had a fault.
+fn serve<P: Outside, S: Files, R: Read, W: Write>(
+    outside: &mut P,
+    files: &S,
+    alloc: Global,
+    options: &Options<'_>,
     stdin: &mut R,
     stdout: &mut W,
 ) -> Result<(), TalkFault> {
     let now = outside.now();
-    let mut mount = fresh(alloc, params, now)?;
-    talk(outside, alloc, &mut mount, stdin, stdout)
+    let mut mount = mounted(files, alloc, options, now)?;
+    let talked = talk(outside, alloc, &mut mount, stdin, stdout);
+    let kept = keep(files, alloc, &mut mount, options);
+    talked?;
+    kept
 }
 
 /// Answers messages of a kernel, or of a recording.
 fn run<S: Files + Clock, R: Read, W: Write>(
     system: &S,
     alloc: Global,
-    options: Options,
+    options: &Options<'_>,
     stdin: &mut R,
     stdout: &mut W,
 ) -> Result<(), TalkFault> {
     if options.recorded {
-        serve(&mut Recording::new(), alloc, options.params, stdin, stdout)
+        serve(&mut Recording::new(), system, alloc, options, stdin, stdout)
     } else {
         serve(
             &mut System::of(system),
+            system,
             alloc,
-            options.params,
+            options,
             stdin,
             stdout,
         )
@@ -107,9 +165,11 @@ where
     W: Write,
     D: Write,
 {
-    match asked(env) {
+    let alloc = env.alloc();
+    let words = words(env);
+    match asked(alloc, &words) {
         Ok(options) => {
-            let outcome = run(system, env.alloc(), options, stdin, stdout);
+            let outcome = run(system, alloc, &options, stdin, stdout);
             end(stderr, NAME, outcome)
         }
         Err(error) => refuse(stdout, stderr, &error),
