@@ -1,2 +1,5 @@
 pub mod Fronts
 pub mod Images
+pub mod Serving
+pub mod Steps
+pub mod Talking

@@ -23,6 +23,9 @@ pub enum TalkFault {
     /// What was read is no message: its length is less than a header's, or more than is taken.
     #[error("no message")]
     Message,
+    /// A reply was not written whole. The talk goes on: its caller was interrupted, or nobody is there.
+    #[error("a reply was not written")]
+    Reply,
     /// A growth was refused.
     #[error("no memory")]
     Memory,

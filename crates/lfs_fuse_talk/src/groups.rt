@@ -1,5 +1,9 @@
 //! The groups of a process: the kernel tells one in a message, and the others in a file of their own.
 
+ghost use Rattle.std.specs.Prelude.{◌≡◌, ◌==◌};
+ghost use Rattle.std.specs.List.{list_any};
+ghost use Rattle.lfs_fuse_talk.specs.Serving.{are_wanted, calling};
+
 use lfs_fuse_wire::header::Header;
 use lfs_io::read::read_script;
 use std::alloc::{AllocError, Global};
@@ -11,12 +15,21 @@ const MOST: usize = 15;
 
 /// The messages that make calls, by their numbers in the protocol: LOOKUP, GETATTR, SETATTR, MKNOD to RENAME, OPEN to WRITE,
 /// FSYNC, OPENDIR, FSYNCDIR to CREATE, IOCTL, RENAME2.
-fn makes_calls(opcode: u32) -> bool {
-    matches!(opcode, 1 | 3 | 4 | 8..=12 | 14..=16 | 20 | 27 | 30 | 34 | 35 | 39 | 45)
+const CALLING: [u32; 18] = [
+    1, 3, 4, 8, 9, 10, 11, 12, 14, 15, 16, 20, 27, 30, 34, 35, 39, 45,
+];
+
+/// Whether a message of this number makes calls.
+fn makes_calls(opcode: u32) -> bool
+    ensures { result ≡ list_any (λ n. n == opcode) calling }
+{
+    CALLING.contains(&opcode)
 }
 
 /// Whether the groups of the caller count: a superuser is granted everything, whatever they are.
-pub(crate) fn are_wanted(header: &Header) -> bool {
+pub(crate) fn are_wanted(header: &Header) -> bool
+    ensures { result ≡ are_wanted header.now }
+{
     header.uid != 0 && makes_calls(header.opcode)
 }
 

@@ -1,8 +1,6 @@
 //! The image of a mount's volume: it is loaded before a talk, and saved behind it.
 
-ghost use Rattle.std.specs.Prelude.{IfOk, IfSome, OnOk};
-ghost use Rattle.lfs_calls.specs.Volumes.{HasWorld};
-ghost use Rattle.lfs_logstore.specs.States.{state_of};
+ghost use Rattle.std.specs.Prelude.{ℕ, List, IfOk, IfSome, OnOk};
 ghost use Rattle.lfs_staging.specs.Store.{IsSettled};
 ghost use Rattle.lfs_fuse_talk.specs.Images.{HasImage, IsLoaded};
 
@@ -60,7 +58,7 @@ pub(crate) fn load<S: Files>(
     path: &str,
     frames: u32,
 ) -> Result<Option<(LogStore, Level)>, TalkFault>
-    ensures { IfOk result (λ found. IfSome found (λ both. HasWorld (state_of both.0))) }
+    ensures { IfOk result (λ found. IfSome found (λ both. (bytes : List ℕ) × IsLoaded bytes both.0 both.1)) }
 {
     match bytes_in(files, alloc, path)? {
         Some(bytes) => {
@@ -71,7 +69,8 @@ pub(crate) fn load<S: Files>(
     }
 }
 
-/// Writes the image of a mount's volume to the file of this path, up to the disk. The file is made where there is none.
+/// Writes the image of a mount's volume to the file of this path, up to the disk. The file is made anew, so that it is its
+/// owner's alone.
 fn write<S: Files>(
     files: &S,
     alloc: Global,
@@ -81,8 +80,9 @@ fn write<S: Files>(
     requires { IsSettled mount.now.tree.volume.store }
     ensures { OnOk result (HasImage S.File.contents mount.now.tree.volume.store.log mount.now.tree.volume.level) }
 {
+    let _ = fs::remove_file(files, path);
     let mut options = OpenOptions::new();
-    options.write(true).create(true).truncate(true).mode(OWNERS);
+    options.write(true).create_new(true).mode(OWNERS);
     let Ok(mut file) = options.open(files, path) else {
         return Err(TalkFault::Save);
     };

@@ -8,5 +8,6 @@ mod inbox;
 pub mod options;
 pub mod outside;
 pub mod program;
+pub mod served;
 pub mod talk;
 mod words;

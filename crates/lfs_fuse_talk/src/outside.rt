@@ -1,5 +1,10 @@
 //! What a mount asks of the world outside: the time, and the groups of a process.
 
+ghost use Rattle.std.specs.Prelude.{ℕ, List, Option, IfOk};
+ghost use Rattle.std.specs.Option.{option_map};
+ghost use Rattle.lfs_fuse_wire.specs.declared.attributes.Time.{Time};
+ghost use Rattle.lfs_fuse_wire.specs.declared.header.Header.{Header};
+
 use crate::groups::others;
 use lfs_fuse_wire::attributes::Time;
 use lfs_fuse_wire::header::Header;
@@ -9,11 +14,19 @@ use std::time::{Clock, SystemTime, UNIX_EPOCH};
 
 /// The world outside a mount.
 pub trait Outside {
+    /// Which time it tells, and what it is then.
+    ghost time: { Self → Time → Self → Type 0 };
+    /// Which groups it tells of a message's process, if any, and what it is then.
+    ghost groups: { Self → Header → Option (List ℕ) → Self → Type 0 };
+
     /// The present time.
-    fn now(&mut self) -> Time;
+    fn now(&mut self) -> Time
+        ensures { time self.old result self.new };
 
     /// The groups of the process of a message but that of its header, at most 15; `None` where they can't be known.
-    fn others(&mut self, alloc: Global, header: &Header) -> Result<Option<Vec<u32>>, AllocError>;
+    fn others(&mut self, alloc: Global, header: &Header) -> Result<Option<Vec<u32>>, AllocError>
+        ensures { IfOk result (λ found. groups self.old header.now
+            (option_map (λ others. others.items) found) self.new) };
 }
 
 /// The system: its clock, and its processes' files beneath `/proc`.
@@ -47,6 +60,12 @@ fn time_of<S: Clock>(clock: &S) -> Option<Time> {
 }
 
 impl<S: Files + Clock> Outside for System<'_, S> {
+    ghost use Rattle.std.specs.Prelude.{◌≡◌, ⊤};
+
+    ghost time = { λ old now new. ⊤ };
+
+    ghost groups = { λ old header found new. new ≡ old };
+
     /// What the clock reads; the last time that it read, where it doesn't.
     fn now(&mut self) -> Time {
         if let Some(time) = time_of(self.system) {
@@ -75,6 +94,13 @@ impl Recording {
 }
 
 impl Outside for Recording {
+    ghost use Rattle.std.specs.Prelude.{◌≡◌, ◌+◌, [], min, Some};
+
+    ghost time = { λ old now new. (now ≡ record { seconds = old.seconds; nanoseconds = 0 })
+        × (new.seconds ≡ min (old.seconds + 1) 0xFFFF_FFFF_FFFF_FFFF) };
+
+    ghost groups = { λ old header found new. (found ≡ Some []) × (new ≡ old) };
+
     fn now(&mut self) -> Time {
         let seconds = self.seconds;
         self.seconds = seconds.saturating_add(1);

@@ -1,18 +1,23 @@
 //! `lfs_fuse`: messages of a kernel are read from standard input, and answered on standard output.
 
+ghost use Rattle.std.specs.Prelude.{◌≡◌, [], true, IfOk, MatchResult};
 ghost use Rattle.lfs_calls.specs.Volumes.{HasWorld};
 ghost use Rattle.lfs_logstore.specs.States.{state_of};
+ghost use Rattle.lfs_fuse_talk.specs.Images.{HasBegun};
+ghost use Rattle.lfs_fuse_talk.specs.Talking.{answering_of};
+ghost use Rattle.lfs_fuse_talk.specs.Serving.{HasServed};
 
 use crate::fault::TalkFault;
 use crate::image::{load, save};
 use crate::options::{Options, not_utf8, options_of};
 use crate::outside::{Outside, Recording, System};
-use crate::talk::talk;
+use crate::served::Served;
+use crate::talk::{Answerer, Talked, talk};
 use crate::words::{NoWords, words};
 use clap::Error;
 use clap::error::ErrorKind;
 use lfs_fuse_wire::attributes::Time;
-use lfs_io::tell::end;
+use lfs_io::tell::tell;
 use lfs_logstore::LogStore;
 use lfs_mount::mount::{Mount, Sizes};
 use lfs_types::level::Level;
@@ -52,7 +57,9 @@ fn refuse<W: Write, D: Write>(stdout: &mut W, stderr: &mut D, error: &Error) -> 
 }
 
 /// A mount of a fresh volume, whose root is made now.
-fn fresh(alloc: Global, params: Params, now: Time) -> Result<Mount<LogStore>, TalkFault> {
+fn fresh(alloc: Global, params: Params, now: Time) -> Result<Mount<LogStore>, TalkFault>
+    ensures { IfOk result (λ mount. HasBegun params.segments params.inodes params.frames mount.tree.volume) }
+{
     let store = LogStore::format(alloc, params)?;
     let volume = Volume::new(alloc, store, params.journal)?;
     let sizes = Sizes {
@@ -71,6 +78,14 @@ fn over(
     now: Time,
 ) -> Result<Mount<LogStore>, TalkFault>
     requires { HasWorld (state_of store) }
+    ensures { IfOk result (λ mount. mount.tree.volume ≡ record {
+      store = store;
+      level = level;
+      since = store;
+      since_level = level;
+      journal = [];
+      limit = journal;
+    }) }
 {
     let log = &store.parts().log;
     let sizes = Sizes {
@@ -87,7 +102,10 @@ fn mounted<S: Files>(
     alloc: Global,
     options: &Options<'_>,
     now: Time,
-) -> Result<Mount<LogStore>, TalkFault> {
+) -> Result<Mount<LogStore>, TalkFault>
+    ensures { let p = options.now.params in IfOk result (λ mount.
+        HasBegun p.segments p.inodes p.frames mount.tree.volume) }
+{
     let Some(path) = options.image else {
         return fresh(alloc, options.params, now);
     };
@@ -111,20 +129,29 @@ fn keep<S: Files>(
 }
 
 /// Answers messages on a volume, which is saved behind them where a file is named for it, also where the talk had a fault.
-fn serve<P: Outside, S: Files, R: Read, W: Write>(
-    outside: &mut P,
+fn serve<P: Outside + Drop, S: Files, R: Read, W: Write>(
+    outside: P,
     files: &S,
     alloc: Global,
     options: &Options<'_>,
     stdin: &mut R,
     stdout: &mut W,
-) -> Result<(), TalkFault> {
+) -> Result<Talked, TalkFault>
+    ensures { let p = options.now.params in IfOk result (λ talked. HasServed p.segments p.inodes p.frames
+        (answering_of ⟦<Served<LogStore, P> as Answerer>⟧.answers ⟦<Served<LogStore, P> as Answerer>⟧.rests)
+        (λ served. served.mount.tree.volume) talked.is_whole
+        (R.remaining stdin.old) (R.remaining stdin.new) (W.contents stdout.old) (W.contents stdout.new)) }
+{
+    let mut outside = outside;
     let now = outside.now();
-    let mut mount = mounted(files, alloc, options, now)?;
-    let talked = talk(outside, alloc, &mut mount, stdin, stdout);
+    let mount = mounted(files, alloc, options, now)?;
+    let mut served = Served::new(mount, outside);
+    let talked = talk(alloc, &mut served, stdin, stdout);
+    let mut mount = served.into_mount();
     let kept = keep(files, alloc, &mut mount, options);
-    talked?;
-    kept
+    let talked = talked?;
+    kept?;
+    Ok(talked)
 }
 
 /// Answers messages of a kernel, or of a recording.
@@ -134,18 +161,30 @@ fn run<S: Files + Clock, R: Read, W: Write>(
     options: &Options<'_>,
     stdin: &mut R,
     stdout: &mut W,
-) -> Result<(), TalkFault> {
+) -> Result<Talked, TalkFault> {
     if options.recorded {
-        serve(&mut Recording::new(), system, alloc, options, stdin, stdout)
+        serve(Recording::new(), system, alloc, options, stdin, stdout)
     } else {
-        serve(
-            &mut System::of(system),
-            system,
-            alloc,
-            options,
-            stdin,
-            stdout,
-        )
+        serve(System::of(system), system, alloc, options, stdin, stdout)
+    }
+}
+
+/// Tells how a talk ended, and gives the status: a reply that was not written is told, and is no fault of the talk.
+fn finish<D: Write>(stderr: &mut D, outcome: Result<Talked, TalkFault>) -> u8
+    ensures { MatchResult outcome
+        (λ talked. (result ≡ 0) × (talked.is_whole ≡ true → stderr.new ≡ stderr.old)) (λ _. result ≡ 1) }
+{
+    match outcome {
+        Ok(talked) => {
+            if !talked.is_whole {
+                let _ = tell(stderr, NAME, &TalkFault::Reply);
+            }
+            0
+        }
+        Err(fault) => {
+            let _ = tell(stderr, NAME, &fault);
+            1
+        }
     }
 }
 
@@ -170,7 +209,7 @@ where
     match asked(alloc, &words) {
         Ok(options) => {
             let outcome = run(system, alloc, &options, stdin, stdout);
-            end(stderr, NAME, outcome)
+            finish(stderr, outcome)
         }
         Err(error) => refuse(stdout, stderr, &error),
     }
