@@ -38,7 +38,7 @@ impl Audit {
         let kind = self.checker.row(path).map(|row| row.attrs.kind);
         for act in Act::all_of(kind) {
             let who = self.checker.who(*act, path)?;
-            push_who(out, *act, &who)?;
+            push_who(out, act.word(), &who)?;
         }
         Ok(())
     }

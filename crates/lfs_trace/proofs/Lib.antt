@@ -2,3 +2,5 @@ mod CheckLemmas
 mod Uncrowded
 mod StandingLemmas
 pub mod ErrorLemmas
+pub mod CopyLemmas
+pub mod OverLemmas

@@ -1,3 +1,4 @@
 pub mod Judging
 pub mod Checking
 pub mod Errors
+pub mod Copying

@@ -1,6 +1,6 @@
 //! A trace checked entry by entry, over a plain store that each legal entry's call is made on.
 
-ghost use Rattle.std.specs.Prelude.{◌≡◌, ◌↔◌, ◌<◌, Ok, Err, IfOk, IsErrOf, IsTrue, IsFalse, MatchOption, MatchResult, None, ℕ, is_some, if◌then◌else◌};
+ghost use Rattle.std.specs.Prelude.{◌≡◌, ◌↔◌, ◌<◌, Ok, Err, IfOk, IsErrOf, IsSome, IsTrue, IsFalse, MatchOption, MatchResult, None, ℕ, is_some, if◌then◌else◌};
 ghost use Rattle.lfs_types.specs.Tree.{World, opening_world};
 ghost use Rattle.lfs_types.specs.Ranges.{least_inodes, most_inodes};
 ghost use Rattle.std.specs.FinMap as map;
@@ -12,9 +12,11 @@ ghost use Rattle.lfs_explain.specs.Trails.{IsTrail, first_names, second_names};
 ghost use Rattle.lfs_trace.specs.Checking.{IsChecked, IsLooking, IsPlain, IsRowAt, IsRuled, IsSameStanding, MayShow, StandsAt, level_behind, numbers_of, plain_state, standing};
 ghost use Rattle.lfs_types.specs.declared.attrs.Attrs.{Attrs};
 ghost use Rattle.lfs_who.specs.Who.{IsWho};
+ghost use Rattle.lfs_who.specs.WhoText.{IsWhoTold};
 
 use crate::answers::{may_be_refused, one_answer, wants_number};
 use crate::cleaning::is_cleaning;
+use crate::copying::copy_of;
 use crate::fault::EntryFault;
 use lfs_calls::not_served::{NotServed, answered};
 use lfs_calls::reading::stat;
@@ -33,6 +35,7 @@ use lfs_types::request::Request;
 use lfs_types::rule::Denial;
 use lfs_types::store::FileStore;
 use lfs_who::act::Act;
+use lfs_who::telling::tell_who;
 use lfs_who::who::{Who, who_could};
 use std::alloc::{AllocError, Global};
 use std::marker::Model;
@@ -77,6 +80,34 @@ impl Checker {
             alloc,
             tree,
             level: Level::Insecure,
+            numbers,
+            segments,
+        })
+    }
+
+    /// A checker of the trace that a volume with so many inode numbers and segments goes on with, at this securelevel, from
+    /// the tree that its store shows. It stands there, over a copy of what the store contains.
+    pub fn over<F: FileStore>(
+        alloc: Global,
+        store: &mut F,
+        level: Level,
+        numbers: u32,
+        segments: u32,
+    ) -> Result<Checker, FormatFault>
+        requires world { HasWorld (F.state store.old) }
+        requires within { (n : ℕ) → IsSome (map.get (F.state store.old).content n) → n < numbers }
+        ensures stands { IfOk result (λ checker. InWorld (F.state store.old) (λ w.
+            w.level ≡ level → StandsAt checker w)) }
+        ensures numbers { IfOk result (λ checker. numbers_of checker ≡ numbers) }
+        ensures segments { IfOk result (λ checker. checker.segments ≡ segments) }
+        ensures state { F.state store.new ≡ F.state store.old }
+    {
+        let files = copy_of(alloc, store, numbers)?;
+        let tree = Tree::new(alloc, files)?;
+        Ok(Checker {
+            alloc,
+            tree,
+            level,
             numbers,
             segments,
         })
@@ -225,7 +256,16 @@ impl Checker {
             → IsWho w act path.now who) }
         ensures same { IsSameStanding self.old self.new }
     {
-        who_could(self.alloc, &mut self.tree, act, path)
+        who_could(self.alloc, &mut self.tree, self.level, act, path)
+    }
+
+    /// Who could make a call where the checker stands, over all callers, as lines of text.
+    pub fn tell_who(&mut self, request: &Request) -> Result<Vec<u8>, AllocError>
+        ensures told { IfOk result (λ text. (w : World) → StandsAt self.old w
+            → IsWhoTold w request.now text.items) }
+        ensures same { IsSameStanding self.old self.new }
+    {
+        tell_who(self.alloc, &mut self.tree, self.level, request)
     }
 
     /// Whether a number has a file where the checker stands.

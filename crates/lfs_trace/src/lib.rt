@@ -4,6 +4,7 @@
 pub mod answers;
 pub mod checker;
 pub mod cleaning;
+mod copying;
 pub mod errors;
 pub mod fault;
 #[cfg(test)]

@@ -3,7 +3,8 @@
 use crate::answers::{is_as_made, may_be_refused, one_answer};
 use crate::checker::Checker;
 use crate::cleaning::is_cleaning;
-use crate::fault::TraceFault;
+use crate::errors::Denials;
+use crate::fault::{EntryFault, TraceFault};
 use crate::trace::check_trace;
 use lfs_model::journal::{CleanerKind, CleanerOutcome, Entry, Event};
 use lfs_types::answer::{Answer, Resource, Served};
@@ -154,17 +155,22 @@ fn path(rt: &impl Abort, alloc: Global, text: &str) -> Path {
     Path::parse(alloc, text).expect(rt, "a path")
 }
 
-/// The entries of a Mkdir of `/a` by user 7, denied as the root is the superuser's, and a Stat of `/a`.
-fn two_entries(rt: &impl Abort, alloc: Global, at: u32) -> [Entry; 2] {
+/// The entry of a Mkdir of `/a` by user 7, with this answer.
+fn mkdir(rt: &impl Abort, alloc: Global, answer: Answer) -> Entry {
     let mkdir = Request::Mkdir {
         path: path(rt, alloc, "/a"),
         mode: Mode::new(0o755).expect(rt, "a mode"),
     };
+    entry_of(rt, mkdir, answer)
+}
+
+/// The entries of a Mkdir of `/a` by user 7, denied as the root is the superuser's, and a Stat of `/a`.
+fn two_entries(rt: &impl Abort, alloc: Global, at: u32) -> [Entry; 2] {
     let stat = Request::Stat {
         path: path(rt, alloc, "/a"),
     };
     [
-        entry_of(rt, mkdir, denied(Rule::GrantsWrite, 0)),
+        mkdir(rt, alloc, denied(Rule::GrantsWrite, 0)),
         entry_of(rt, stat, denied(Rule::NameThere, at)),
     ]
 }
@@ -194,4 +200,34 @@ fn a_checker_says_what_the_rules_answer(rt: HostRuntime) {
         _ => panic!(&rt; "no names"),
     };
     expect(&rt, names.as_slice().is_empty(), true);
+}
+
+#[test]
+fn denials_by_their_errors(rt: HostRuntime) {
+    let alloc = rt.alloc();
+    let mut checker = Checker::new(alloc, 16, 6).expect(&rt, "a checker");
+    // By the rules user 7 is denied by GrantsWrite, with EACCES.
+    let same = mkdir(&rt, alloc, denied(Rule::GrantsSearch, 3));
+    let other = mkdir(&rt, alloc, denied(Rule::IsOwner, 0));
+    let illegal = Err(EntryFault::Illegal);
+    assert!(&rt; checker.entry_as(Denials::Whole, &same) == illegal);
+    assert!(&rt; checker.entry_as(Denials::ByError, &same) == Ok(()));
+    assert!(&rt; checker.entry_as(Denials::ByError, &other) == illegal);
+    let done = mkdir(&rt, alloc, Answer::Served(Served::Done));
+    assert!(&rt; checker.entry_as(Denials::ByError, &done) == illegal);
+}
+
+#[test]
+fn who_could_make_a_call(rt: HostRuntime) {
+    let alloc = rt.alloc();
+    let mut checker = Checker::new(alloc, 16, 6).expect(&rt, "a checker");
+    let chown = Request::Chown {
+        path: path(&rt, alloc, "/"),
+        uid: 0,
+        gid: 20,
+    };
+    let text = checker.tell_who(&chown).expect(&rt, "memory");
+    // The root is user 0's.
+    let wanted = b"user 0: ok\nothers: denied O2 EPERM 0 0\n";
+    assert!(&rt; text.as_slice() == wanted.as_slice());
 }

@@ -5,53 +5,82 @@ use Rattle.std.specs.Prelude.{slice_index_or}
 use Rattle.std.specs.List.{list_any}
 use Rattle.lfs_types.specs.Caller.{Caller}
 use Rattle.lfs_types.specs.Tree.{World}
+use Rattle.lfs_types.specs.declared.level.Level.{Level}
+use Rattle.lfs_types.specs.declared.request.Request.{Request}
 use Rattle.lfs_model.specs.World.{IsTree}
-use Rattle.lfs_model.specs.Rules.{Check, first_failing, reaching, searching_tests}
+use Rattle.lfs_model.specs.Rules.{Check, decide, first_failing, leaves_test, reaching, rule_table, searching_tests}
 use Rattle.lfs_explain.specs.Asked.{asked}
-use Rattle.lfs_explain.specs.Tables.{Path, known_path, reaching_by}
-use Rattle.lfs_explain.specs.Trails.{IsTrail}
+use Rattle.lfs_explain.specs.Tables.{Path, known_path, reaching_by, table_by}
+use Rattle.lfs_explain.specs.Trails.{IsTrail, first_names, second_names}
+use Rattle.lfs_explain.specs.declared.trail.ShownRow.{ShownRow}
 use Rattle.lfs_explain.specs.declared.trail.Trail.{Trail}
 use Rattle.lfs_explain.proofs.Askings.{failing_asked}
 use Rattle.lfs_explain.proofs.ExplainLemmas.{root_there, told}
-use Rattle.lfs_explain.proofs.TableLemmas.{path_to, reaching_told}
-use Rattle.lfs_who.specs.Acts.{act_denial, act_table, request_of, tests_by}
+use Rattle.lfs_explain.proofs.TableLemmas.{end_is, path_to, reaching_told, removing_told}
+use Rattle.lfs_who.specs.Acts.{act_denial, act_table, leaving_by, request_of}
 use Rattle.lfs_who.specs.Lines.{Told}
-use Rattle.lfs_who.specs.Who.{AreNamed, IsToldTo, has_part_in, is_among, lines_for}
+use Rattle.lfs_who.specs.Who.{AreNamed, IsToldTo, IsWho, IsWhoCalls, has_part_in, is_among, lines_for}
 use Rattle.lfs_who.specs.Conditions.{has_part}
 use Rattle.lfs_who.specs.declared.act.Act.{Act}
 use Rattle.lfs_who.specs.declared.act.Act.TheVariants.{Stat, Search, Read, Write, Append, List as Names, Create, Unlink}
-use Rattle.lfs_who.specs.declared.act.Act.TheVariants.{Rmdir}
+use Rattle.lfs_who.specs.declared.act.Act.TheVariants.{Rmdir, Move, Chmod, Chown, Chflags}
 use Rattle.lfs_who.specs.declared.condition.Question.{Question}
 use Rattle.lfs_who.specs.declared.who.Named.{Named}
+use Rattle.lfs_who.specs.declared.who.Who.{Who}
 
 -- tests of which the same are asked have the same first that fails
 same_failing : (xs ys : List Check) → asked xs ≡ asked ys → first_failing xs ≡ first_failing ys
 same_failing xs ys same = sym (failing_asked xs) ∙ ap first_failing same ∙ failing_asked ys
 
-module _ (w : World) (tree : IsTree w.rows) (first second : Trail) (path : List (List ℕ))
-    (t : IsTrail w.rows path first) (s : IsTrail w.rows [] second) (c : Caller) where
-  path_is : known_path first ≡ path_to w.rows path first.is_childless
-  path_is = λ i. record { rows = t.rows_are i; names = t.counted i; is_childless = first.is_childless }
+module _ (w : World) (tree : IsTree w.rows) (c : Caller) where
+  -- what is asked of a call decides as its rules do
+  pub call_decided : (level : Level) → w.level ≡ level → (first second : Trail) (request : Request)
+      → IsTrail w.rows (first_names request) first → IsTrail w.rows (second_names request) second
+      → first_failing (table_by level c request (known_path first) (known_path second)) ≡ decide w c request
+  call_decided level at first second request t s =
+      same_failing (table_by level c request (known_path first) (known_path second)) (rule_table w c request)
+      (told w tree level at c first second request t s)
 
-  searched : asked (reaching_by c (searching_tests c 0) (known_path first))
-      ≡ asked (reaching w.rows c path (searching_tests c 0))
-  searched =
-      ap (λ (p : Path). asked (reaching_by c (searching_tests c 0) p)) path_is
-      ∙ reaching_told w.rows c (root_there w.rows tree) path first.is_childless (searching_tests c 0)
+  module _ (first : Trail) (path : List (List ℕ)) (t : IsTrail w.rows path first) where
+    path_is : known_path first ≡ path_to w.rows path first.is_childless
+    path_is = λ i. record { rows = t.rows_are i; names = t.counted i; is_childless = first.is_childless }
 
-  asked_same : (act : Act) → asked (tests_by c act (known_path first)) ≡ asked (act_table w c act path)
-  asked_same Stat = told w tree w.level refl c first second (request_of Stat path) t s
-  asked_same Search = searched
-  asked_same Read = told w tree w.level refl c first second (request_of Read path) t s
-  asked_same Write = told w tree w.level refl c first second (request_of Write path) t s
-  asked_same Append = told w tree w.level refl c first second (request_of Append path) t s
-  asked_same Names = told w tree w.level refl c first second (request_of Names path) t s
-  asked_same Create = told w tree w.level refl c first second (request_of Create path) t s
-  asked_same Unlink = told w tree w.level refl c first second (request_of Unlink path) t s
-  asked_same Rmdir = told w tree w.level refl c first second (request_of Rmdir path) t s
+    -- of going through a directory
+    pub search_decided : first_failing (reaching_by c (searching_tests c 0) (known_path first))
+        ≡ act_denial w c Search path
+    search_decided =
+        same_failing (reaching_by c (searching_tests c 0) (known_path first))
+        (reaching w.rows c path (searching_tests c 0))
+        (ap (λ (p : Path). asked (reaching_by c (searching_tests c 0) p)) path_is
+        ∙ reaching_told w.rows c (root_there w.rows tree) path first.is_childless (searching_tests c 0))
 
-  pub decided : (act : Act) → first_failing (tests_by c act (known_path first)) ≡ act_denial w c act path
-  decided act = same_failing (tests_by c act (known_path first)) (act_table w c act path) (asked_same act)
+    -- of taking a name away to another directory
+    left_told : asked (leaving_by c (path_to w.rows path first.is_childless)) ≡ asked (act_table w c Move path)
+    left_told = sym (removing_told w.rows c (root_there w.rows tree) path first.is_childless _ _
+        (λ some long. ap (λ (s : ShownRow). asked (leaves_test c false s.attrs (length path) ∷ []))
+        (sym (end_is w.rows path long))))
+
+    pub move_decided : first_failing (leaving_by c (known_path first)) ≡ act_denial w c Move path
+    move_decided =
+        same_failing (leaving_by c (known_path first)) (act_table w c Move path)
+        (ap (λ (p : Path). asked (leaving_by c p)) path_is ∙ left_told)
+
+-- who could make an act's call is who could do it, where a call does it
+pub calls_are : (w : World) (path : List (List ℕ)) (who : Who) (act : Act) → (act ≡ Search → ⊥) → (act ≡ Move → ⊥)
+    → IsWhoCalls w (request_of act path) who → IsWho w act path who
+calls_are w path who Stat ns nm is c = is c (λ s. absurd s)
+calls_are w path who Search ns nm is c = absurd (ns refl)
+calls_are w path who Read ns nm is c = is c (λ s. absurd s)
+calls_are w path who Write ns nm is c = is c (λ s. absurd s)
+calls_are w path who Append ns nm is c = is c (λ s. absurd s)
+calls_are w path who Names ns nm is c = is c (λ s. absurd s)
+calls_are w path who Create ns nm is c = is c (λ s. absurd s)
+calls_are w path who Unlink ns nm is c = is c (λ s. absurd s)
+calls_are w path who Rmdir ns nm is c = is c (λ s. absurd s)
+calls_are w path who Move ns nm is c = absurd (nm refl)
+calls_are w path who Chmod ns nm is c = is c (λ s. absurd s)
+calls_are w path who Chown ns nm is c = is c (λ s. absurd s)
+calls_are w path who Chflags ns nm is c = is c (λ s. absurd s)
 
 -- ---- all users
 

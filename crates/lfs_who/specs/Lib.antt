@@ -2,3 +2,4 @@ pub mod Acts
 pub mod Conditions
 pub mod Lines
 pub mod Who
+pub mod WhoText

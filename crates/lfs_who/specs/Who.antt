@@ -3,7 +3,9 @@ use Rattle.std.specs.Prelude.{◌≡◌, ℕ, ◌==◌, Bool, true, false, List,
 use Rattle.std.specs.List.{list_any}
 use Rattle.lfs_types.specs.Caller.{Caller}
 use Rattle.lfs_types.specs.Tree.{World}
-use Rattle.lfs_model.specs.Rules.{first_failing}
+use Rattle.lfs_types.specs.declared.request.Request.{Request}
+use Rattle.lfs_types.specs.declared.request.Request.TheVariants.{SetLevel}
+use Rattle.lfs_model.specs.Rules.{decide, first_failing}
 use Rattle.lfs_who.specs.Acts.{act_denial}
 use Rattle.lfs_who.specs.Conditions.{all_posed, has_part}
 use Rattle.lfs_who.specs.Lines.{Told, told_to}
@@ -22,6 +24,16 @@ lines_for (named ∷ more) others u = if named.uid == u then named.lines.items e
 abbrev pub IsWho : World → Act → List (List ℕ) → Who → Type 0
 IsWho w act path who = (c : Caller) → told_to c (lines_for who.named.items who.others.items c.uid)
     ≡ act_denial w c act path ∷ []
+
+-- the call sets the securelevel, which init alone may lower
+abbrev pub SetsLevel : Request → Type 0
+SetsLevel (SetLevel level) = Unit {0}
+SetsLevel request = ⊥
+
+-- the same of a call: of one that sets the securelevel, all callers who aren't init
+abbrev pub IsWhoCalls : World → Request → Who → Type 0
+IsWhoCalls w request who = (c : Caller) → (SetsLevel request → c.init ≡ false)
+    → told_to c (lines_for who.named.items who.others.items c.uid) ≡ decide w c request ∷ []
 
 -- whether a user is among some
 abbrev pub is_among : ℕ → List ℕ → Bool

@@ -1,8 +1,18 @@
 //! What somebody may want to do by a path.
 
-use lfs_types::attrs::Kind;
+ghost use Rattle.std.specs.Prelude.{◌≡◌, [], IfOk};
+ghost use Rattle.lfs_types.specs.declared.request.Request.TheVariants as requests;
+ghost use Rattle.lfs_who.specs.Acts.{request_of};
 
-/// A call on a path, or the search of a directory that calls on what is in it ask.
+use lfs_types::attrs::Kind;
+use lfs_types::file_flags::FileFlags;
+use lfs_types::mode::Mode;
+use lfs_types::path::Path;
+use lfs_types::payload::Payload;
+use lfs_types::request::{Place, Request};
+use std::alloc::{AllocError, Global};
+
+/// A call on a path, or a part of calls that have another path besides.
 #[derive(Clone, Copy, PartialEq, Eq, Debug)]
 pub enum Act {
     /// To look at its attributes.
@@ -23,13 +33,41 @@ pub enum Act {
     Unlink,
     /// To take it away, a directory.
     Rmdir,
+    /// To take it out of its directory into another: what a Rename there asks of it and of where it hangs. What it asks of
+    /// the other directory is of another path.
+    Move,
+    /// To set its mode, whatever mode it gets.
+    Chmod,
+    /// To give it to user 0 and group 0.
+    Chown,
+    /// To take all its flags from it, at the present securelevel.
+    Chflags,
 }
 
 /// The acts by a path that leads to a file.
-const FILE_ACTS: [Act; 5] = [Act::Stat, Act::Read, Act::Write, Act::Append, Act::Unlink];
+const FILE_ACTS: [Act; 9] = [
+    Act::Stat,
+    Act::Read,
+    Act::Write,
+    Act::Append,
+    Act::Unlink,
+    Act::Move,
+    Act::Chmod,
+    Act::Chown,
+    Act::Chflags,
+];
 
 /// The acts by a path that leads to a directory.
-const DIRECTORY_ACTS: [Act; 4] = [Act::Stat, Act::Search, Act::List, Act::Rmdir];
+const DIRECTORY_ACTS: [Act; 8] = [
+    Act::Stat,
+    Act::Search,
+    Act::List,
+    Act::Rmdir,
+    Act::Move,
+    Act::Chmod,
+    Act::Chown,
+    Act::Chflags,
+];
 
 /// The acts by a path that leads nowhere.
 const NEW_ACTS: [Act; 2] = [Act::Stat, Act::Create];
@@ -44,6 +82,43 @@ impl Act {
         }
     }
 
+    /// The call that does it by a path; a Stat where none does it alone.
+    pub fn request_of(self, alloc: Global, path: &Path) -> Result<Request, AllocError>
+        ensures { IfOk result (λ request. request ≡ request_of self path.now) }
+    {
+        let path = path.try_clone(alloc)?;
+        Ok(match self {
+            Act::Stat | Act::Search | Act::Move => Request::Stat { path },
+            Act::Read => Request::Read {
+                path,
+                off: 0,
+                len: 0,
+            },
+            Act::Write => empty_write(alloc, path, Place::At(0)),
+            Act::Append => empty_write(alloc, path, Place::End),
+            Act::List => Request::List { path },
+            Act::Create => Request::Create {
+                path,
+                mode: no_mode(),
+            },
+            Act::Unlink => Request::Unlink { path },
+            Act::Rmdir => Request::Rmdir { path },
+            Act::Chmod => Request::Chmod {
+                path,
+                mode: no_mode(),
+            },
+            Act::Chown => Request::Chown {
+                path,
+                uid: 0,
+                gid: 0,
+            },
+            Act::Chflags => Request::Chflags {
+                path,
+                flags: FileFlags::none(),
+            },
+        })
+    }
+
     /// Its word.
     pub fn word(self) -> &'static str {
         match self {
@@ -56,6 +131,30 @@ impl Act {
             Act::Create => "create",
             Act::Unlink => "unlink",
             Act::Rmdir => "rmdir",
+            Act::Move => "move",
+            Act::Chmod => "chmod",
+            Act::Chown => "chown 0 0",
+            Act::Chflags => "chflags 0",
         }
     }
+}
+
+/// A Write of no bytes.
+fn empty_write(alloc: Global, path: Path, place: Place) -> Request
+    ensures { result ≡ requests.Write path place [] }
+{
+    let Ok(bytes) = Payload::new(Vec::new(alloc)) else {
+        unreachable!()
+    };
+    Request::Write { path, place, bytes }
+}
+
+/// The mode without any bit.
+fn no_mode() -> Mode
+    ensures { result ≡ 0 }
+{
+    let Some(mode) = Mode::new(0) else {
+        unreachable!()
+    };
+    mode
 }

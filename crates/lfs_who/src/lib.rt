@@ -6,6 +6,8 @@ mod asking;
 pub mod condition;
 pub mod line;
 mod lines;
+mod moving;
 mod posing;
+mod privileged;
 pub mod telling;
 pub mod who;

@@ -6,18 +6,19 @@ ghost use Rattle.lfs_types.specs.Tree.{World};
 ghost use Rattle.lfs_types.specs.declared.path.TheConstants.{PATH_MAX};
 ghost use Rattle.lfs_model.specs.World.{IsTree};
 ghost use Rattle.lfs_calls.specs.Volumes.{HasWorld, InWorld};
-ghost use Rattle.lfs_explain.specs.Trails.{IsTrail};
+ghost use Rattle.lfs_explain.specs.Trails.{IsTrail, first_names, second_names};
 ghost use Rattle.lfs_who.specs.Conditions.{has_part};
 ghost use Rattle.lfs_who.specs.declared.condition.Question.{Question as Asked};
-ghost use Rattle.lfs_who.specs.Who.{AreNamed, IsToldTo, IsWho, has_part_in, is_among, lines_for};
+ghost use Rattle.lfs_who.specs.Who.{AreNamed, IsToldTo, IsWho, IsWhoCalls, has_part_in, is_among, lines_for};
 
 use crate::act::Act;
-use crate::asking::questions_of;
+use crate::asking::{push_call, push_leaving, push_search};
 use crate::condition::{Condition, Question};
 use crate::line::Line;
 use crate::lines::lines_of;
 use lfs_calls::tree::Tree;
-use lfs_explain::explain::{Explanation, explain, first_of};
+use lfs_explain::explain::{Explanation, explain, first_of, second_of};
+use lfs_explain::trail::Trail;
 use lfs_types::cred::Cred;
 use lfs_types::level::Level;
 use lfs_types::path::Path;
@@ -43,37 +44,98 @@ pub struct Who {
     pub others: Vec<Line>,
 }
 
-/// Who could do this by a path now, over all callers there can be. Users and groups are told apart only where the rules
-/// decide otherwise. An error where memory runs out.
+/// Who could make a call now, over all callers there can be, at this securelevel. Users and groups are told apart only
+/// where the rules decide otherwise; of a SetLevel only callers who aren't init are told. An error where memory runs out.
+pub fn who_calls<F: FileStore>(
+    alloc: Global,
+    tree: &mut Tree<F>,
+    level: Level,
+    request: &Request,
+) -> Result<Who, AllocError>
+    requires { HasWorld (F.state tree.old) }
+    ensures who { IfOk result (λ who. InWorld (F.state tree.old) (λ w. w.level ≡ level
+        → IsWhoCalls w request.now who)) }
+    ensures state { F.state tree.new ≡ F.state tree.old }
+{
+    let paths = paths_of(alloc, tree, level, request)?;
+    let mut questions = Vec::new(alloc);
+    push_call(&mut questions, level, request, &paths.first, &paths.second)?;
+    let who = who_of(alloc, &questions)?;
+    Ok(who)
+}
+
+/// Who could do this by a path now, over all callers there can be, at this securelevel, as `who_calls` tells of a call.
 pub fn who_could<F: FileStore>(
     alloc: Global,
     tree: &mut Tree<F>,
+    level: Level,
     act: Act,
     path: &Path,
 ) -> Result<Who, AllocError>
     requires { HasWorld (F.state tree.old) }
-    ensures who { IfOk result (λ who. InWorld (F.state tree.old) (λ w. IsWho w act path.now who)) }
+    ensures who { IfOk result (λ who. InWorld (F.state tree.old) (λ w. w.level ≡ level
+        → IsWho w act path.now who)) }
+    ensures state { F.state tree.new ≡ F.state tree.old }
+{
+    let request = act.request_of(alloc, path)?;
+    match act {
+        Act::Search => {
+            let paths = paths_of(alloc, tree, level, &request)?;
+            who_searches(alloc, &paths.first)
+        }
+        Act::Move => {
+            let paths = paths_of(alloc, tree, level, &request)?;
+            who_moves(alloc, &paths.first)
+        }
+        _ => who_calls(alloc, tree, level, &request),
+    }
+}
+
+/// What a call's paths lead through.
+fn paths_of<F: FileStore>(
+    alloc: Global,
+    tree: &mut Tree<F>,
+    level: Level,
+    request: &Request,
+) -> Result<Explanation, AllocError>
+    requires { HasWorld (F.state tree.old) }
+    ensures short { IfOk result (λ paths. paths.first.names ≤ PATH_MAX) }
+    ensures short_second { IfOk result (λ paths. paths.second.names ≤ PATH_MAX) }
+    ensures first { IfOk result (λ paths. InWorld (F.state tree.old) (λ w.
+        IsTrail w.rows (first_names request.now) paths.first)) }
+    ensures second { IfOk result (λ paths. InWorld (F.state tree.old) (λ w.
+        IsTrail w.rows (second_names request.now) paths.second)) }
     ensures state { F.state tree.new ≡ F.state tree.old }
 {
     let Ok(superuser) = Cred::new(0, &[0], false) else {
         unreachable!()
     };
-    let request = Request::Stat {
-        path: path.try_clone(alloc)?,
-    };
-    let _names = first_of(&request);
-    let explanation = explain(alloc, tree, Level::Insecure, &superuser, &request)?;
-    who_by(alloc, act, &explanation)
+    let _first = first_of(request);
+    let _second = second_of(request);
+    let paths = explain(alloc, tree, level, &superuser, request)?;
+    Ok(paths)
 }
 
-/// Who could do this by the path of an explained call of one path, from the same tree.
-pub fn who_by(alloc: Global, act: Act, explanation: &Explanation) -> Result<Who, AllocError>
-    requires { explanation.now.first.names ≤ PATH_MAX }
-    ensures { IfOk result (λ who. (w : World) (path : List (List ℕ)) → IsTree w.rows
-        → IsTrail w.rows path explanation.now.first → IsTrail w.rows [] explanation.now.second
-        → IsWho w act path who) }
+/// Who could go through the directory that a path leads to.
+fn who_searches(alloc: Global, path: &Trail) -> Result<Who, AllocError>
+    requires { path.now.names ≤ PATH_MAX }
+    ensures { IfOk result (λ who. (w : World) (names : List (List ℕ)) → IsTree w.rows
+        → IsTrail w.rows names path.now → IsWho w Act.Search names who) }
 {
-    let questions = questions_of(alloc, act, &explanation.first)?;
+    let mut questions = Vec::new(alloc);
+    push_search(&mut questions, path)?;
+    let who = who_of(alloc, &questions)?;
+    Ok(who)
+}
+
+/// Who could take what a path leads to away to another directory.
+fn who_moves(alloc: Global, path: &Trail) -> Result<Who, AllocError>
+    requires { path.now.names ≤ PATH_MAX }
+    ensures { IfOk result (λ who. (w : World) (names : List (List ℕ)) → IsTree w.rows
+        → IsTrail w.rows names path.now → IsWho w Act.Move names who) }
+{
+    let mut questions = Vec::new(alloc);
+    push_leaving(&mut questions, path)?;
     let who = who_of(alloc, &questions)?;
     Ok(who)
 }
@@ -115,6 +177,11 @@ fn push_users(users: &mut Vec<u32>, condition: &Condition) -> Result<(), AllocEr
             push_user(users, 0)?;
             push_user(users, dir.uid)?;
             push_user(users, file.uid)
+        }
+        Condition::IsSuperuser | Condition::MaySetFlags(..) => push_user(users, 0),
+        Condition::IsOwner(attrs) | Condition::MaySetOwner(attrs, _, _) => {
+            push_user(users, 0)?;
+            push_user(users, attrs.uid)
         }
     }
 }
