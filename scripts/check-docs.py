@@ -28,7 +28,7 @@ FILE = re.compile(r"[\w./*-]+\.(?:rt|antt|md|py|sh|edit|lfs|out|txt|csv)")
 ITEM = re.compile(r"[A-Za-z_]\w*(?:(?:::|\.)[A-Za-z_]\w*)*")
 HYPHENED = re.compile(r"[a-z0-9]+(?:-[a-z0-9]+)+")
 # a line of a script in the tutorial, and its answer
-SHOWN = re.compile(r"    (\S.*?)(?: {2,}(0 .*))?$")
+SHOWN = re.compile(r"    (\S.*?)(?: {2,}([0-8] .*))?$")
 # a place of one machine, which nobody else has
 PLACE = re.compile(r"(?<![\w.])/(?:work|opt|tmp|root|usr|Users)/")
 # what belongs to the toolchain, Rust or the field, and stands in no file of ours
@@ -311,8 +311,22 @@ def check_tutorial(told):
             told(page, 1, f"the lines of {script.name} don't stand here as they are there")
             continue
         beside = [answer for _, answer in shown[at:at + len(lines)] if answer]
-        if beside != [line for line in answers if line.startswith("0 ")]:
+        if beside != [line for line in answers if line[0] in "012345678"]:
             told(page, 1, f"beside the lines of {script.name} stand other answers than in {script.stem}.out")
+
+
+def check_words(told):
+    """The words that a terminal completes (rlwrap -f) are those of a line's verbs, of the shell's own and the fixed ones."""
+    path = TOP / "examples/shell/words"
+    sources = (("lfs_script/src/verb.rt", r'=> "(\w+)"'), ("lfs_print/src/cleaner.rt", r'=> "(\w+)"'),
+               ("lfs_live/src/hearing.rt", r'=> "(\.\w+)"'))
+    wanted = {word for file, form in sources for word in re.findall(form, (TOP / "crates" / file).read_text())}
+    wanted |= {".why", "at", "end", "init"}
+    listed = set(path.read_text().split())
+    for word in sorted(wanted - listed):
+        told(path, 1, f"the word {word} is lacking")
+    for word in sorted(listed - wanted):
+        told(path, 1, f"{word} is no word of a line")
 
 
 def main():
@@ -326,6 +340,7 @@ def main():
     check_edits(told)
     check_crates(told)
     check_tutorial(told)
+    check_words(told)
     written = [TOP / "README.md", *(path for path in (TOP / "docs").glob("*.md") if path.name != "SPEC.md")]
     size = sum(path.stat().st_size for path in written)
     if size >= MOST_BYTES:

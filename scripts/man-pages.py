@@ -70,6 +70,8 @@ def lines_of(source, chain):
     """The lines of a page for a program's options, with help, which each has."""
     found = [option(source, it) for it in re.findall(r"\.arg\((\w+(?:\.arg)?\(alloc\))\)", chain)]
     found.append(("-h, --help", "Prints help"))
+    if ".version(" in chain:
+        found.append(("-V, --version", "Prints version"))
     return [line for shown, told in found for line in (".TP", f".B {escaped(shown)}", f"{escaped(told)}.")]
 
 

@@ -1,13 +1,13 @@
 -- How `lfs_shell` ends, by how its talk did.
-use Rattle.std.proofs.Common.{◌≡◌, ℕ, Bool, true, false, List, Option, Result, Ok, Err, IfErr, IfOk, IsSome, sym}
+use Rattle.std.proofs.Common.{◌≡◌, ℕ, Bool, true, false, List, Option, Result, Ok, Err, IfErr, IfOk, IsSome, inr, is_some, refl, sym}
 use Rattle.std.proofs.Common.{subst, ◌∙◌, arith}
 use Rattle.std.specs.Prelude.{MatchResult}
 use Rattle.lfs_audit.specs.declared.fault.RunFault.{RunFault}
 use Rattle.lfs_audit.specs.declared.fault.RunFault.TheVariants.{Read}
 use Rattle.lfs_live.specs.Scripts.{IsLogFault}
-use Rattle.lfs_programs.specs.Talks.{EndsTalk, Finishes, HasBrokenOff, HasTalked, HasTalkedSoFar, IsShellFault}
+use Rattle.lfs_programs.specs.Talks.{EndsShell, EndsTalk, Finishes, HasBrokenOff, HasTalked, HasTalkedSoFar, IsShellFault}
 use Rattle.lfs_programs.specs.declared.fault.ShellFault.{ShellFault}
-use Rattle.lfs_programs.specs.declared.fault.ShellFault.TheVariants.{Film, Journal, Talk}
+use Rattle.lfs_programs.specs.declared.fault.ShellFault.TheVariants.{Film, Journal, Line, Talk}
 use Rattle.lfs_programs.specs.declared.filming.Heard.{Heard}
 use Rattle.lfs_programs.specs.declared.options.ShellOptions.{ShellOptions}
 
@@ -35,8 +35,9 @@ broken_talk contents options known start out fault told is so_far cause = record
   fault = told;
   cause = subst (λ (f : ShellFault). IsShellFault options f) (sym is) cause;
   so_far = λ read. let same : fault ≡ Read = cc in so_far same;
-  answered = λ film. absurd (cc);
+  answered = λ why film. absurd (cc);
   unkept = λ journal. absurd (cc);
+  faulty = λ line. absurd (cc);
 }
 
 -- a talk, what it has besides, and the status that is told of it
@@ -72,14 +73,15 @@ ends_talk contents options known start out status in_before in_after out_before 
 ends_talk contents options known start out status in_before in_after out_before out_after err_before err_between
     err_after (Ok heard) (Err (Talk fault)) talked silent kept so_far cause finishes is untold = absurd finishes
 ends_talk contents options known start out status in_before in_after out_before out_after err_before err_between
-    err_after (Ok heard) (Err Film) talked silent kept so_far cause finishes is untold =
+    err_after (Ok heard) (Err (Film why)) talked silent kept so_far cause finishes is untold =
     ends_broken contents options known start out status in_before in_after out_before out_after err_before err_after is
     (record {
-      fault = Film;
+      fault = Film why;
       cause = finishes;
       so_far = λ talk. absurd (cc);
-      answered = λ _. (heard.is_kept, talked);
+      answered = λ _ _. (heard.is_kept, talked);
       unkept = λ journal. absurd (cc);
+      faulty = λ line. absurd (cc);
     })
 ends_talk contents options known start out status in_before in_after out_before out_after err_before err_between
     err_after (Ok heard) (Err Journal) talked silent kept so_far cause finishes is untold =
@@ -88,6 +90,67 @@ ends_talk contents options known start out status in_before in_after out_before 
       fault = Journal;
       cause = kept finishes;
       so_far = λ talk. absurd (cc);
-      answered = λ film. absurd (cc);
+      answered = λ why film. absurd (cc);
       unkept = λ _. subst (λ (b : Bool). HasTalked contents options b known start out) finishes talked;
+      faulty = λ line. absurd (cc);
     })
+ends_talk contents options known start out status in_before in_after out_before out_after err_before err_between
+    err_after (Ok heard) (Err Line) talked silent kept so_far cause finishes is untold =
+    ends_broken contents options known start out status in_before in_after out_before out_after err_before err_after is
+    (record {
+      fault = Line;
+      cause = finishes.1;
+      so_far = λ talk. absurd (cc);
+      answered = λ why film. absurd (cc);
+      unkept = λ journal. absurd (cc);
+      faulty = λ _. subst (λ (b : Bool). HasTalked contents options b known start out) finishes.0 talked;
+    })
+
+-- a talk over another reader, of which nothing is told
+pub ends_elsewhere : {R S W D F : Type 0} (contents : F → Option (List ℕ)) (options : ShellOptions)
+    (known start out : Option (List ℕ)) (status : ℕ) (there_before there_after : S) (here : R)
+    (out_before out_after : W) (err_before err_after : D)
+    → EndsTalk contents options known start out status there_before there_after out_before out_after err_before err_after
+    → EndsTalk contents options known start out status here here out_before out_after err_before err_after
+ends_elsewhere contents options known start out status there_before there_after here out_before out_after err_before
+    err_after ends = record {
+      either = ends.either;
+      done = ends.done;
+      filmed = ends.filmed;
+      failed = ends.failed;
+      unmade = λ two. let u = ends.unmade two in (u.0, refl, u.2);
+    }
+
+-- ---- which lines are answered
+
+-- those of a file
+pub ends_file : {R S W D F : Type 0} (contents : F → Option (List ℕ)) (options : ShellOptions)
+    (known start out : Option (List ℕ)) (status : ℕ) (there_before there_after : S) (here : R)
+    (out_before out_after : W) (err_before err_after : D) (bytes : Option (List ℕ))
+    → true ≡ is_some options.script
+    → EndsTalk contents options bytes start out status there_before there_after out_before out_after err_before err_after
+    → EndsShell contents options known start out status here here out_before out_after err_before err_after
+ends_file contents options known start out status there_before there_after here out_before out_after err_before err_after
+    bytes named ends = record {
+      bytes = bytes;
+      own = λ none. let other : true ≡ false = rw none at named in absurd (cc);
+      talk = ends_elsewhere contents options bytes start out status there_before there_after here out_before out_after
+          err_before err_after ends;
+    }
+
+-- those of a file which is not opened
+pub ends_unopened : {R W D F : Type 0} (contents : F → Option (List ℕ)) (options : ShellOptions)
+    (known start out : Option (List ℕ)) (status : ℕ) (here : R) (there : W) (err_before err_after : D)
+    → status ≡ 2 → IsSome options.script
+    → EndsShell contents options known start out status here here there there err_before err_after
+ends_unopened contents options known start out status here there err_before err_after is named = record {
+  bytes = known;
+  own = λ _. refl;
+  talk = record {
+    either = omega (arith, is);
+    done = λ none. absurd (omega (arith, is, none));
+    filmed = λ none. absurd (omega (arith, is, none));
+    failed = λ one. absurd (omega (arith, is, one));
+    unmade = λ _. (inr named, refl, refl);
+  };
+}

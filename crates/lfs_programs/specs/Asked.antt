@@ -1,5 +1,5 @@
 -- What a run that was asked for prints, and how it may end.
-use Rattle.std.specs.Prelude.{◌≡◌, ◌≢◌, ◌≤◌, ℕ, false, true, List, Option, Result, IfErr, IfOk, IfSome}
+use Rattle.std.specs.Prelude.{◌≡◌, ◌≢◌, ◌≤◌, ℕ, false, true, List, None, Option, Result, IfErr, IfOk, IfSome, IsSome}
 use Rattle.std.specs.Io.KnownBytes.{Appends, Keeps}
 use Rattle.clap.specs.Values.{kind_of}
 use Rattle.clap.specs.declared.error.Error.{Error}
@@ -50,12 +50,22 @@ pub record EndsRun {D : Type 0} (options : Options) (known start out : Option (L
   pub done : status ≡ 0 → HasGotText options known start out × (err_after ≡ err_before)
   pub failed : status ≢ 0 → HasFailed options known start out
 
+-- The same of the script that was asked for, which is the reader's where no file is named; and with status 2 where its
+-- file was not opened, and then nothing is read or printed.
+pub record EndsServer {R W D : Type 0} (options : Options) (known start out : Option (List ℕ)) (status : ℕ)
+    (in_before in_after : R) (out_before out_after : W) (err_before err_after : D) : Type 0 where
+  pub bytes : Option (List ℕ)
+  pub own : options.script ≡ None → bytes ≡ known
+  pub run : status ≢ 2 → EndsRun options bytes start out status err_before err_after
+  pub unopened : status ≡ 2 → IsSome options.script × (in_after ≡ in_before) × (out_after ≡ out_before)
+
 -- `lfsd` ends with this status by what it was asked for: options whose numbers are in their ranges, as a run of that
 -- kind ends, or else nothing is read
 pub record IsServerEnd {R W D : Type 0} (known start out : Option (List ℕ)) (status : ℕ) (in_before in_after : R)
     (out_before out_after : W) (err_before err_after : D) : Type 0 where
   pub asked : Result Options Error
   pub ranges : IfOk asked (λ options. IsInRange 100000 options.params)
-  pub run : IfOk asked (λ options. EndsRun options known start out status err_before err_after)
+  pub run : IfOk asked (λ options. EndsServer options known start out status in_before in_after out_before out_after
+      err_before err_after)
   pub not_run : IfErr asked (λ error. (in_after ≡ in_before)
       × EndsUnasked (kind_of error) status out_before out_after err_before err_after)

@@ -1,6 +1,6 @@
 -- How `lfs_shell` ends.
 use Rattle.std.specs.Prelude.{◌≡◌, ◌≤◌, ℕ, Bool, false, true, List, Option, Result, Ok, Err, IfErr, IfOk, IfSome}
-use Rattle.std.specs.Prelude.{IsSome, is_some}
+use Rattle.std.specs.Prelude.{IsSome, None, is_some, ◌⊎◌}
 use Rattle.std.specs.Io.KnownBytes.{Appends}
 use Rattle.clap.specs.Values.{kind_of}
 use Rattle.clap.specs.declared.error.Error.{Error}
@@ -11,9 +11,10 @@ use Rattle.lfs_audit.specs.declared.fault.RunFault.{RunFault}
 use Rattle.lfs_audit.specs.declared.fault.RunFault.TheVariants.{Read}
 use Rattle.lfs_live.specs.Scripts.{HasHeardOfLog, IsKeptLogTalk, IsLogFault, IsLogTalk, Manner}
 use Rattle.lfs_programs.specs.Ends.{EndsUnasked}
+use Rattle.lfs_programs.specs.declared.fault.FilmFault.{FilmFault}
 use Rattle.lfs_programs.specs.declared.fault.ShellFault.{ShellFault}
 use Rattle.lfs_programs.specs.declared.filming.Heard.{Heard}
-use Rattle.lfs_programs.specs.declared.fault.ShellFault.TheVariants.{Film, Journal, Talk}
+use Rattle.lfs_programs.specs.declared.fault.ShellFault.TheVariants.{Film, Journal, Line, Talk}
 
 -- how a talk goes: with a sink that takes the entries of its journal or without one, and with passes unasked where they
 -- are asked for
@@ -56,36 +57,46 @@ pub record HasPage {F : Type 0} (contents : F → Option (List ℕ)) (reel : Ree
 abbrev pub IsFilmed : {F : Type 0} → (F → Option (List ℕ)) → Type 0
 IsFilmed contents = (reel : Reel) × HasPage contents reel
 
--- a talk may end in this fault, which is a film's or a journal's only where one is asked for
+-- a talk may end in this fault, which is a film's or a journal's only where one is asked for, and a line's only where
+-- that is asked for
 abbrev pub IsShellFault : ShellOptions → ShellFault → Type 0
 IsShellFault options (Talk fault) = IsLogFault options.params.segments options.params.inodes options.params.frames fault
-IsShellFault options Film = IsSome options.film
+IsShellFault options (Film fault) = IsSome options.film
 IsShellFault options Journal = IsSome options.journal_out
+IsShellFault options Line = options.strict ≡ true
 
 -- A talk's outcome, with what it has besides: the talk's fault; or its film's, which is written where it is done; or that
--- the file of its journal has not each entry.
+-- the file of its journal has not each entry; or that a line had a fault, where that is asked for.
 abbrev pub Finishes : {F : Type 0} → (F → Option (List ℕ)) → ShellOptions → Result Heard RunFault
     → Result (Unit {0}) ShellFault → Type 0
 Finishes contents options (Err fault) outcome = outcome ≡ Err (Talk fault)
 Finishes contents options (Ok heard) (Ok done) =
     (heard.is_kept ≡ true) × IfSome options.film (λ _. IsFilmed contents)
+    × (options.strict ≡ true → heard.has_fault ≡ false)
 Finishes contents options (Ok heard) (Err (Talk fault)) = ⊥
-Finishes contents options (Ok heard) (Err Film) = IsSome options.film
+Finishes contents options (Ok heard) (Err (Film fault)) = IsSome options.film
 Finishes contents options (Ok heard) (Err Journal) = heard.is_kept ≡ false
+Finishes contents options (Ok heard) (Err Line) =
+    (heard.is_kept ≡ true) × (options.strict ≡ true) × (heard.has_fault ≡ true)
 
 -- A talk ended in a fault, which has its cause. Where a read failed, each line that was read by then is answered; where
--- a film was not written, or the file of the journal took no more, all is.
+-- a film was not written, the file of the journal took no more, or a line had a fault, all is.
 pub record HasBrokenOff {F : Type 0} (contents : F → Option (List ℕ)) (options : ShellOptions)
     (known start out : Option (List ℕ)) : Type 0 where
   pub fault : ShellFault
   pub cause : IsShellFault options fault
   pub so_far : fault ≡ Talk Read → HasTalkedSoFar options known start out
-  pub answered : fault ≡ Film → (is_kept : Bool) × HasTalked contents options is_kept known start out
+  pub answered : (why : FilmFault) → fault ≡ Film why → (is_kept : Bool) × HasTalked contents options is_kept known start out
   pub unkept : fault ≡ Journal → HasTalked contents options false known start out
+  pub faulty : fault ≡ Line → HasTalked contents options true known start out
 
--- A program that was asked for a talk ends with this status: 0 where it has its end, a file of the journal that is asked
--- for has each entry, a film that is asked for is written to a file, and nothing is told; 2 where the file of the journal
--- could not be made, and then nothing is read; else 1.
+-- a file is needed before anything is answered: that of the journal, or that of the lines
+abbrev pub NeedsFile : ShellOptions → Type 0
+NeedsFile options = IsSome options.journal_out ⊎ IsSome options.script
+
+-- A program that was asked for a talk ends with this status: 0 where it has its end, a file of the journal that is
+-- asked for has each entry, a film that is asked for is written to a file, and nothing is told; 2 where a file that is
+-- needed before could not be opened, and then nothing is read; else 1.
 pub record EndsTalk {R W D F : Type 0} (contents : F → Option (List ℕ)) (options : ShellOptions)
     (known start out : Option (List ℕ)) (status : ℕ) (in_before in_after : R) (out_before out_after : W)
     (err_before err_after : D) : Type 0 where
@@ -93,7 +104,15 @@ pub record EndsTalk {R W D F : Type 0} (contents : F → Option (List ℕ)) (opt
   pub done : status ≡ 0 → HasTalked contents options true known start out × (err_after ≡ err_before)
   pub filmed : status ≡ 0 → IfSome options.film (λ _. IsFilmed contents)
   pub failed : status ≡ 1 → HasBrokenOff contents options known start out
-  pub unmade : status ≡ 2 → IsSome options.journal_out × (in_after ≡ in_before) × (out_after ≡ out_before)
+  pub unmade : status ≡ 2 → NeedsFile options × (in_after ≡ in_before) × (out_after ≡ out_before)
+
+-- the same of the lines that were asked for, which are the reader's where no file is named
+pub record EndsShell {R W D F : Type 0} (contents : F → Option (List ℕ)) (options : ShellOptions)
+    (known start out : Option (List ℕ)) (status : ℕ) (in_before in_after : R) (out_before out_after : W)
+    (err_before err_after : D) : Type 0 where
+  pub bytes : Option (List ℕ)
+  pub own : options.script ≡ None → bytes ≡ known
+  pub talk : EndsTalk contents options bytes start out status in_before in_after out_before out_after err_before err_after
 
 -- `lfs_shell` ends with this status by what it was asked for: options whose numbers are in their ranges, as a talk
 -- ends, or else nothing is read
@@ -101,7 +120,7 @@ pub record IsShellEnd {R W D F : Type 0} (contents : F → Option (List ℕ)) (k
     (status : ℕ) (in_before in_after : R) (out_before out_after : W) (err_before err_after : D) : Type 0 where
   pub asked : Result ShellOptions Error
   pub ranges : IfOk asked (λ options. IsInRange 1000000 options.params)
-  pub talk : IfOk asked (λ options. EndsTalk contents options known start out status in_before in_after out_before
+  pub talk : IfOk asked (λ options. EndsShell contents options known start out status in_before in_after out_before
       out_after err_before err_after)
   pub not_run : IfErr asked (λ error. (in_after ≡ in_before)
       × EndsUnasked (kind_of error) status out_before out_after err_before err_after)

@@ -1,6 +1,7 @@
-//! Why `lfs_shell` ends with status 1.
+//! Why a program doesn't begin, and why `lfs_shell` ends with status 1.
 
 use lfs_audit::fault::RunFault;
+use std::io::ErrorKind;
 use thiserror::Error;
 
 /// Why `lfs_shell` ends with status 1.
@@ -10,11 +11,31 @@ pub enum ShellFault {
     #[error("{0}")]
     Talk(RunFault),
     /// All was answered, and the film could not be written to its file.
-    #[error("film not written")]
-    Film,
+    #[error("film not written: {0}")]
+    Film(FilmFault),
     /// All was answered, and the file of the journal took no more entries, which was told by then.
     #[error("journal not written")]
     Journal,
+    /// All was answered, and a line has a fault, which was told as its answer.
+    #[error("a line has a fault")]
+    Line,
+}
+
+/// Why a film is not in its file. What stood there by then is left as it was.
+#[derive(Clone, Copy, PartialEq, Eq, Debug, Error)]
+pub enum FilmFault {
+    /// The file beside it, in which it is written first, could not be made.
+    #[error("{0}")]
+    Unmade(ErrorKind),
+    /// The page was not written.
+    #[error("write failed")]
+    Unwritten,
+    /// The file beside it did not get the film's name.
+    #[error("not renamed, {0}")]
+    Unnamed(ErrorKind),
+    /// A growth was refused.
+    #[error("no memory")]
+    Memory,
 }
 
 /// Why `lfs_shell` doesn't begin: the file of the journal was not made.
@@ -26,4 +47,14 @@ pub enum OpenFault {
     /// No file of this path could be made.
     #[error("journal file not made")]
     Unmade,
+}
+
+/// Why a program doesn't begin: the file of its script was not opened.
+#[derive(Clone, Copy, Debug, Error)]
+#[error("{path} not opened: {kind}")]
+pub struct UnopenedScript<'a> {
+    /// The file.
+    pub path: &'a str,
+    /// Why.
+    pub kind: ErrorKind,
 }

@@ -5,28 +5,36 @@ ghost use Rattle.lfs_audit.specs.declared.fault.RunFault.TheVariants.{Read as Fa
 ghost use Rattle.lfs_live.specs.Scripts.{IsLogFault};
 ghost use Rattle.lfs_programs.specs.Talks.{Finishes, HasPage, HasTalked, HasTalkedSoFar, IsFilmed};
 
-use crate::fault::ShellFault;
+use crate::fault::{FilmFault, ShellFault};
 use crate::options::ShellOptions;
 use lfs_audit::fault::RunFault;
 use lfs_film::film::Film;
-use lfs_io::output::WriteFault;
 use lfs_live::start::{Setup, run_kept, run_watched};
 use lfs_live::watch::Watch;
 use lfs_live::witnesses::Witnesses;
 use lfs_logstore::LogStore;
 use lfs_sinks::sink::LineSink;
 use std::alloc::{AllocError, Global};
-use std::fs::File;
+use std::fs::{self, File};
 use std::io::{Read, Write};
 use std::rt::Files;
 
 /// The program's name.
 pub(crate) const NAME: &str = "lfs_shell";
 
-/// A film that is shown each line that was answered, where one is made.
+/// The name of a film's file while it is written, behind that of the film.
+const PART: &str = ".part";
+
+/// How the answer to a line begins that has a fault.
+const FAULT: &[u8] = b"fault ";
+
+/// One who is shown each line that was answered.
 #[derive(Drop)]
 pub(crate) struct Filming {
+    /// The film, where one is made.
     film: Option<Film>,
+    /// Whether a line had a fault.
+    has_fault: bool,
 }
 
 impl Watch<LogStore> for Filming {
@@ -37,6 +45,7 @@ impl Watch<LogStore> for Filming {
         told: &[u8],
         store: &LogStore,
     ) -> Result<(), AllocError> {
+        self.has_fault = self.has_fault || told.starts_with(FAULT);
         match &mut self.film {
             Some(film) => film.show(alloc, line, told, store),
             None => Ok(()),
@@ -51,6 +60,8 @@ pub(crate) struct Heard {
     film: Option<Film>,
     /// Whether the file of the journal, where there is one, has each entry.
     is_kept: bool,
+    /// Whether a line had a fault.
+    has_fault: bool,
 }
 
 /// Answers lines as they come, on a fresh volume. The journal's entries go to a file, where there is one; why it takes no more
@@ -79,12 +90,14 @@ pub(crate) fn hear<F: Write + Drop, R: Read, W: Write, D: Write>(
     let params = options.params;
     let watch = Filming {
         film: options.film.map(|_| Film::new(alloc)),
+        has_fault: false,
     };
     let Some(file) = journal else {
         return match run_watched(alloc, reader, writer, watch, params, options.cleans) {
-            Ok(Filming { film }) => Ok(Heard {
+            Ok(Filming { film, has_fault }) => Ok(Heard {
                 film,
                 is_kept: true,
+                has_fault,
             }),
             Err(fault) => Err(fault),
         };
@@ -101,10 +114,15 @@ pub(crate) fn hear<F: Write + Drop, R: Read, W: Write, D: Write>(
         witnesses,
     };
     match run_kept(alloc, reader, writer, teller, setup) {
-        Ok(after) => Ok(Heard {
-            film: after.watch.film,
-            is_kept: after.is_open,
-        }),
+        Ok(after) => {
+            let is_kept = after.is_open;
+            let Filming { film, has_fault } = after.watch;
+            Ok(Heard {
+                film,
+                is_kept,
+                has_fault,
+            })
+        }
         Err(fault) => Err(fault),
     }
 }
@@ -113,38 +131,62 @@ pub(crate) fn hear<F: Write + Drop, R: Read, W: Write, D: Write>(
 ///
 /// # Errors
 ///
-/// The talk's fault; `Film`: the page was not written; `Journal`: the file of the journal has not each entry.
+/// The talk's fault; `Film`: the page was not written; `Journal`: the file of the journal has not each entry; `Line`: a line had
+/// a fault, where that is asked for.
 pub(crate) fn finish<F: Files>(
     files: &F,
+    alloc: Global,
     options: &ShellOptions<'_>,
     heard: Result<Heard, RunFault>,
 ) -> Result<(), ShellFault>
     ensures { Finishes F.File.contents options.now heard result }
 {
-    let Heard { film, is_kept } = match heard {
+    let Heard {
+        film,
+        is_kept,
+        has_fault,
+    } = match heard {
         Ok(heard) => heard,
         Err(fault) => return Err(ShellFault::Talk(fault)),
     };
     if let Some(path) = options.film {
-        if !is_written(files, path, film) {
-            return Err(ShellFault::Film);
+        if let Err(fault) = write_film(files, alloc, path, film) {
+            return Err(ShellFault::Film(fault));
         }
     }
-    if is_kept {
-        Ok(())
-    } else {
-        Err(ShellFault::Journal)
+    if !is_kept {
+        return Err(ShellFault::Journal);
     }
+    if options.strict && has_fault {
+        return Err(ShellFault::Line);
+    }
+    Ok(())
 }
 
-/// Writes the page of a film to the file of this path, which is made where there is none. Whether there is a film, and its page
-/// was written.
-fn is_written<F: Files>(files: &F, path: &str, film: Option<Film>) -> bool
-    ensures { result ≡ true → IsFilmed F.File.contents }
+/// Writes the page of a film to a file beside that of this path, which then gets its name: so the file of this path is a whole
+/// film, or as it was.
+///
+/// # Errors
+///
+/// The file could not be made, written or named so; there is no film; or memory ran out.
+fn write_film<F: Files>(
+    files: &F,
+    alloc: Global,
+    path: &str,
+    film: Option<Film>,
+) -> Result<(), FilmFault>
+    ensures { OnOk result (IsFilmed F.File.contents) }
 {
-    match film {
-        Some(film) => write_film(files, path, &film).is_ok(),
-        None => false,
+    let Some(film) = film else {
+        return Err(FilmFault::Unwritten);
+    };
+    let Ok(part) = format!(in alloc; "{path}{PART}") else {
+        return Err(FilmFault::Memory);
+    };
+    write_page(files, part.as_str(), &film)?;
+    match fs::rename(files, part.as_str(), path) {
+        Ok(()) => Ok(()),
+        Err(error) => Err(FilmFault::Unnamed(error.kind())),
     }
 }
 
@@ -153,12 +195,15 @@ fn is_written<F: Files>(files: &F, path: &str, film: Option<Film>) -> bool
 /// # Errors
 ///
 /// The file could not be made, or not written.
-fn write_film<F: Files>(files: &F, path: &str, film: &Film) -> Result<(), WriteFault>
+fn write_page<F: Files>(files: &F, path: &str, film: &Film) -> Result<(), FilmFault>
     ensures { OnOk result (HasPage F.File.contents film.now) }
 {
-    let Ok(mut file) = File::create(files, path) else {
-        return Err(WriteFault);
+    let mut file = match File::create(files, path) {
+        Ok(file) => file,
+        Err(error) => return Err(FilmFault::Unmade(error.kind())),
     };
-    film.write_page(&mut file)?;
-    Ok(())
+    match film.write_page(&mut file) {
+        Ok(()) => Ok(()),
+        Err(_) => Err(FilmFault::Unwritten),
+    }
 }

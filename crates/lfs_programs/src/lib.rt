@@ -5,6 +5,8 @@ pub mod fault;
 mod filming;
 pub mod options;
 pub mod refusing;
+mod script;
 pub mod server;
 pub mod shell;
+mod telling;
 mod words;

@@ -76,6 +76,15 @@ const SHELL_JOURNAL: NumberOption = NumberOption {
 /// The option of `lfs_shell` for passes of the cleaner that nobody asks for.
 const CLEAN: &str = "clean";
 
+/// The word of the file of a script.
+const SCRIPT: &str = "script";
+
+/// The option of `lfs_shell` that has a line's fault end it with status 1.
+const STRICT: &str = "strict";
+
+/// The version of the programs, as `CHANGELOG.md` has it.
+const VERSION: &str = "1.0";
+
 /// The option of `lfs_shell` that takes the file of a film.
 const FILM: &str = "film";
 
@@ -113,20 +122,22 @@ written, docs/RULES.md which rule denies what.";
 
 /// What `lfsd` is asked to do.
 #[derive(Clone, Copy, PartialEq, Eq, Debug)]
-pub struct Options {
+pub struct Options<'a> {
     /// The parameters of the volume.
     pub params: Params,
     /// Whether each session runs on a thread of its own.
     pub threads: bool,
+    /// The file of the script, where it is not that of standard input.
+    pub script: Option<&'a str>,
 }
 
 /// The options that the words of `lfsd` ask for; the first word is the program's name.
 ///
 /// # Errors
 ///
-/// What the parser tells, with its exit code: 2 for a word that is no option or a number out of its range, 0 for `--help`; or
-/// want of memory.
-pub fn options_of<'a, S: AsStr>(alloc: Global, words: &'a [S]) -> Result<Options, Error>
+/// What the parser tells, with its exit code: 2 for a word that is no option or a number out of its range, 0 for `--help` and
+/// `--version`; or want of memory.
+pub fn options_of<'a, S: AsStr>(alloc: Global, words: &'a [S]) -> Result<Options<'a>, Error>
     ensures { IfOk result (λ options. IsInRange 100000 options.params) }
 {
     let mut command = command(alloc)?;
@@ -134,7 +145,12 @@ pub fn options_of<'a, S: AsStr>(alloc: Global, words: &'a [S]) -> Result<Options
     match params_in(&matches, &JOURNAL) {
         Ok(params) => {
             let threads = matches.get_flag("threads");
-            Ok(Options { params, threads })
+            let script = matches.get_str(SCRIPT);
+            Ok(Options {
+                params,
+                threads,
+                script,
+            })
         }
         Err(refusal) => Err(wrong_value(&mut command, refusal)),
     }
@@ -151,6 +167,10 @@ pub struct ShellOptions<'a> {
     pub film: Option<&'a str>,
     /// The file that the journal's entries are written to, where one is asked for.
     pub journal_out: Option<&'a str>,
+    /// The file of the lines, where they are not those of standard input.
+    pub script: Option<&'a str>,
+    /// Whether the status is 1 where a line has a fault.
+    pub strict: bool,
 }
 
 /// The options that the words of `lfs_shell` ask for; the first word is the program's name.
@@ -179,6 +199,8 @@ pub fn shell_options_of<'a, S: AsStr>(
                 cleans: matches.get_flag(CLEAN),
                 film,
                 journal_out,
+                script: matches.get_str(SCRIPT),
+                strict: matches.get_flag(STRICT),
             })
         }
         Err(refusal) => Err(wrong_value(&mut command, refusal)),
@@ -267,23 +289,22 @@ fn has_sign(matches: &ArgMatches<'_>, name: &str) -> bool {
 /// The options of `lfsd`.
 fn command<'a>(alloc: Global) -> Result<Command<'a>, AllocError> {
     Command::new(alloc, "lfsd")
-        .about(
-            "Runs a script of calls, read from standard input, on a volume in memory and prints the answers and a report",
-        )
+        .about("Runs a script of calls on a volume in memory and prints the answers and a report")
+        .version(VERSION)
         .after_help(MORE)
         .arg(threads(alloc))?
         .arg(SEGMENTS.arg(alloc))?
         .arg(INODES.arg(alloc))?
         .arg(FRAMES.arg(alloc))?
-        .arg(JOURNAL.arg(alloc))
+        .arg(JOURNAL.arg(alloc))?
+        .arg(script(alloc))
 }
 
 /// The options of `lfs_shell`.
 fn shell_command<'a>(alloc: Global) -> Result<Command<'a>, AllocError> {
     Command::new(alloc, "lfs_shell")
-        .about(
-            "Answers calls on a volume in memory, each line of standard input before the next is read",
-        )
+        .about("Answers calls on a volume in memory, each line before the next is read")
+        .version(VERSION)
         .after_help(SHELL_MORE)
         .arg(SEGMENTS.arg(alloc))?
         .arg(INODES.arg(alloc))?
@@ -291,7 +312,9 @@ fn shell_command<'a>(alloc: Global) -> Result<Command<'a>, AllocError> {
         .arg(SHELL_JOURNAL.arg(alloc))?
         .arg(journal_out(alloc))?
         .arg(clean(alloc))?
-        .arg(film(alloc))
+        .arg(film(alloc))?
+        .arg(strict(alloc))?
+        .arg(script(alloc))
 }
 
 /// The option for the journal's file.
@@ -324,6 +347,22 @@ fn film<'a>(alloc: Global) -> Arg<'a> {
         .help(
             "Writes a film of the log to FILE at the end: a page of HTML with a frame for each line that changed it",
         )
+}
+
+/// The option for a status that tells of faults.
+fn strict<'a>(alloc: Global) -> Arg<'a> {
+    Arg::new(alloc, STRICT)
+        .long(STRICT)
+        .action(ArgAction::SetTrue)
+        .help("Ends with status 1 where a line has a fault")
+}
+
+/// The word for the file of a script.
+fn script<'a>(alloc: Global) -> Arg<'a> {
+    Arg::new(alloc, SCRIPT)
+        .value_name("SCRIPT")
+        .action(ArgAction::Set)
+        .help("The file of the lines; without it, they are read from standard input")
 }
 
 /// The option for threads.

@@ -11,9 +11,9 @@ use lfs_audit::tell::end;
 use lfs_io::output::{WriteFault, flush};
 use std::io::Write;
 
-/// Tells what was asked for in place of a run, which is the help, on standard output, and of words that were refused on
-/// standard error. Gives the status with which the program ends: 0 for the help, 2 for words that were refused, 1 where
-/// memory was wanting or the help was not written.
+/// Tells what was asked for in place of a run, which is the help or the version, on standard output, and of words that were
+/// refused on standard error. Gives the status with which the program ends: 0 for what was asked for, 2 for words that were
+/// refused, 1 where memory was wanting or the text was not written.
 pub fn refuse<W: Write, D: Write>(
     stdout: &mut W,
     stderr: &mut D,
@@ -24,7 +24,8 @@ pub fn refuse<W: Write, D: Write>(
 {
     match error.kind() {
         ErrorKind::OutOfMemory => end(stderr, program, Err(RunFault::Memory)),
-        ErrorKind::DisplayHelp => end(stderr, program, help(stdout, error)),
+        ErrorKind::DisplayHelp => end(stderr, program, show(stdout, error)),
+        ErrorKind::DisplayVersion => end(stderr, program, show(stdout, error)),
         _ => {
             let _ = write!(stderr, "{error}");
             2
@@ -32,8 +33,8 @@ pub fn refuse<W: Write, D: Write>(
     }
 }
 
-/// Writes the help.
-fn help<W: Write>(stdout: &mut W, error: &Error) -> Result<(), WriteFault> {
+/// Writes the help or the version.
+fn show<W: Write>(stdout: &mut W, error: &Error) -> Result<(), WriteFault> {
     match write!(stdout, "{error}") {
         Ok(()) => flush(stdout),
         Err(_) => Err(WriteFault),

@@ -1,65 +1,115 @@
-//! `lfsd`: a script is read from standard input and run, with its sessions on threads where that is asked for.
+//! `lfsd`: a script is read, from standard input or from a file, and run, with its sessions on threads where that is asked for.
 
-ghost use Rattle.std.specs.Prelude.{◌≡◌, ℕ, List, IfErr, IfOk, IfSome, OnOk};
+ghost use Rattle.std.specs.Prelude.{◌≡◌, ℕ, List, Some, IfErr, IfOk, IfSome, OnOk};
 ghost use Rattle.std.specs.Io.KnownBytes.{Appends, Keeps};
 ghost use Rattle.clap.specs.Values.{kind_of};
 ghost use Rattle.lfs_programs.specs.Ranges.{IsInRange};
 ghost use Rattle.lfs_audit.specs.Scripts.{IsLogOutput};
 ghost use Rattle.lfs_audit.specs.Threads.{MayHaveWrittenThreads};
-ghost use Rattle.lfs_programs.specs.Asked.{EndsRun, IsAloneFault, IsAskedFault, IsServerEnd, HasGotText};
+ghost use Rattle.lfs_programs.specs.Asked.{EndsRun, EndsServer, IsAloneFault, IsAskedFault, IsServerEnd, HasGotText};
 ghost use Rattle.lfs_programs.specs.Ends.{EndsUnasked};
 
 use crate::options::{Options, not_utf8, options_of};
 use crate::refusing::refuse;
+use crate::script::open_script;
+use crate::telling::tell_fault;
 use crate::words::{NoWords, words};
 use clap::Error;
 use lfs_audit::fault::ThreadsFault;
 use lfs_audit::run::run_script;
-use lfs_audit::tell::end;
+use lfs_audit::tell::tell;
 use lfs_audit::threads::run_threads;
+use lfs_io::read::read_script;
 use lfs_types::store::Params;
 use std::alloc::{AllocError, Global};
 use std::env::Env;
 use std::io::{Read, Write};
+use std::rt::Files;
 use std::sync::Wait;
 use std::thread::Threads;
 
 /// The program's name.
-const NAME: &str = "lfsd";
+pub(crate) const NAME: &str = "lfsd";
 
 /// Does what the arguments of an environment ask `lfsd` for, and gives the status with which it ends: 0 for a run that
-/// is done and for help, 1 for a fault, told in a line on standard error, 2 for words that are refused.
-pub fn lfsd<E, S, R, W, D>(env: &E, rt: &S, stdin: &mut R, stdout: &mut W, stderr: &mut D) -> u8
+/// is done, for help and for the version, 1 for a fault, told in a line on standard error, 2 for words that are refused and for
+/// a script's file that is not opened.
+pub fn lfsd<E, S, F, R, W, D>(
+    env: &E,
+    rt: &S,
+    files: &F,
+    stdin: &mut R,
+    stdout: &mut W,
+    stderr: &mut D,
+) -> u8
 where
     E: Env + AllocGlobal,
     S: Threads + Wait + Sync,
+    F: Files,
     R: Read,
     W: Write,
     D: Write,
     ensures { IsServerEnd (R.remaining stdin.old) (W.contents stdout.old) (W.contents stdout.new)
         result stdin.old stdin.new stdout.old stdout.new stderr.old stderr.new }
 {
-    let asked = asked(env);
-    serve(rt, env.alloc(), asked, stdin, stdout, stderr)
+    let alloc = env.alloc();
+    let words = words(env);
+    let asked = asked(alloc, &words);
+    serve(rt, files, alloc, asked, stdin, stdout, stderr)
 }
 
-/// What the command line asks for; its first word is the program's name.
-fn asked<E: Env + AllocGlobal>(env: &E) -> Result<Options, Error>
+/// What the words of a command line ask for; the first is the program's name.
+fn asked<'a>(alloc: Global, words: &'a Result<Vec<String>, NoWords>) -> Result<Options<'a>, Error>
     ensures { IfOk result (λ options. IsInRange 100000 options.params) }
 {
-    match words(env) {
-        Ok(words) => options_of(env.alloc(), words.as_slice()),
+    match words {
+        Ok(words) => options_of(alloc, words.as_slice()),
         Err(NoWords::Memory) => Err(AllocError.into()),
-        Err(NoWords::NotUtf8) => Err(not_utf8(env.alloc())),
+        Err(NoWords::NotUtf8) => Err(not_utf8(alloc)),
     }
 }
 
 /// Does what was asked for, or tells why that is nothing.
-pub fn serve<S, R, W, D>(
+pub fn serve<S, F, R, W, D>(
+    rt: &S,
+    files: &F,
+    alloc: Global,
+    asked: Result<Options<'_>, Error>,
+    stdin: &mut R,
+    stdout: &mut W,
+    stderr: &mut D,
+) -> u8
+where
+    S: Threads + Wait + Sync,
+    F: Files,
+    R: Read,
+    W: Write,
+    D: Write,
+    ensures run { IfOk asked.entry (λ options. EndsServer options
+        (R.remaining stdin.old) (W.contents stdout.old) (W.contents stdout.new)
+        result stdin.old stdin.new stdout.old stdout.new stderr.old stderr.new) }
+    ensures not_run { IfErr asked.entry (λ error. (stdin.new ≡ stdin.old)
+        × EndsUnasked (kind_of error) result stdout.old stdout.new stderr.old stderr.new) }
+{
+    match asked {
+        Ok(options) => match open_script(files, options.script) {
+            Ok(Some(mut script)) => run_from(rt, alloc, options, &mut script, stdout, stderr),
+            Ok(None) => run_from(rt, alloc, options, stdin, stdout, stderr),
+            Err(fault) => {
+                let _ = tell(stderr, NAME, &fault);
+                2
+            }
+        },
+        Err(error) => refuse(stdout, stderr, NAME, &error),
+    }
+}
+
+/// Reads a script, runs it as was asked, and tells its fault. Gives the status with which the program ends.
+fn run_from<S, R, W, D>(
     rt: &S,
     alloc: Global,
-    asked: Result<Options, Error>,
-    stdin: &mut R,
+    options: Options<'_>,
+    reader: &mut R,
     stdout: &mut W,
     stderr: &mut D,
 ) -> u8
@@ -68,18 +118,43 @@ where
     R: Read,
     W: Write,
     D: Write,
-    ensures run { IfOk asked (λ options. EndsRun options
-        (R.remaining stdin.old) (W.contents stdout.old) (W.contents stdout.new)
-        result stderr.old stderr.new) }
-    ensures not_run { IfErr asked (λ error. (stdin.new ≡ stdin.old)
-        × EndsUnasked (kind_of error) result stdout.old stdout.new stderr.old stderr.new) }
+    ensures { EndsRun options.entry
+        (R.remaining reader.old) (W.contents stdout.old) (W.contents stdout.new)
+        result stderr.old stderr.new }
 {
-    match asked {
-        Ok(options) => {
-            let outcome = run(rt, alloc, options, stdin, stdout);
-            end(stderr, NAME, outcome)
+    match read_script(alloc, reader) {
+        Ok(script) => run_bytes(rt, alloc, options, script.as_slice(), stdout, stderr),
+        Err(fault) => {
+            let _ = tell(stderr, NAME, &fault);
+            1
         }
-        Err(error) => refuse(stdout, stderr, NAME, &error),
+    }
+}
+
+/// Runs the script of these bytes as was asked, and tells its fault. Gives the status with which the program ends.
+fn run_bytes<S, W, D>(
+    rt: &S,
+    alloc: Global,
+    options: Options<'_>,
+    script: &[u8],
+    stdout: &mut W,
+    stderr: &mut D,
+) -> u8
+where
+    S: Threads + Wait + Sync,
+    W: Write,
+    D: Write,
+    ensures { EndsRun options.entry
+        (Some script.now) (W.contents stdout.old) (W.contents stdout.new)
+        result stderr.old stderr.new }
+{
+    let mut reader = script;
+    match run(rt, alloc, options, &mut reader, stdout) {
+        Ok(()) => 0,
+        Err(fault) => {
+            tell_fault(alloc, script, fault, stderr);
+            1
+        }
     }
 }
 
@@ -87,24 +162,24 @@ where
 fn run<S, R, W>(
     rt: &S,
     alloc: Global,
-    options: Options,
-    stdin: &mut R,
+    options: Options<'_>,
+    reader: &mut R,
     stdout: &mut W,
 ) -> Result<(), ThreadsFault>
 where
     S: Threads + Wait + Sync,
     R: Read,
     W: Write,
-    ensures written { OnOk result (HasGotText options
-        (R.remaining stdin.old) (W.contents stdout.old) (W.contents stdout.new)) }
-    ensures fault { IfErr result (IsAskedFault options (R.remaining stdin.old)) }
+    ensures written { OnOk result (HasGotText options.entry
+        (R.remaining reader.old) (W.contents stdout.old) (W.contents stdout.new)) }
+    ensures fault { IfErr result (IsAskedFault options.entry (R.remaining reader.old)) }
     ensures unwritten { IfErr result (λ fault. (MayHaveWrittenThreads fault → ⊥)
         → Keeps (W.contents stdout.old) (W.contents stdout.new)) }
 {
     if options.threads {
-        run_threads(rt, alloc, stdin, stdout, options.params)
+        run_threads(rt, alloc, reader, stdout, options.params)
     } else {
-        run_alone(alloc, options.params, stdin, stdout)
+        run_alone(alloc, options.params, reader, stdout)
     }
 }
 
@@ -112,17 +187,17 @@ where
 fn run_alone<R: Read, W: Write>(
     alloc: Global,
     params: Params,
-    stdin: &mut R,
+    reader: &mut R,
     stdout: &mut W,
 ) -> Result<(), ThreadsFault>
-    ensures written { OnOk result (IfSome (R.remaining stdin.old) (λ script. (text : List ℕ)
+    ensures written { OnOk result (IfSome (R.remaining reader.old) (λ script. (text : List ℕ)
         × IsLogOutput script params.segments params.inodes params.frames params.journal text
         × Appends (W.contents stdout.old) (W.contents stdout.new) text)) }
-    ensures fault { IfErr result (IsAloneFault (R.remaining stdin.old) params) }
+    ensures fault { IfErr result (IsAloneFault (R.remaining reader.old) params) }
     ensures unwritten { IfErr result (λ fault. (MayHaveWrittenThreads fault → ⊥)
         → Keeps (W.contents stdout.old) (W.contents stdout.new)) }
 {
-    match run_script(alloc, stdin, stdout, params) {
+    match run_script(alloc, reader, stdout, params) {
         Ok(()) => Ok(()),
         Err(fault) => Err(ThreadsFault::Run(fault)),
     }

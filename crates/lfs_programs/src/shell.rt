@@ -1,4 +1,4 @@
-//! `lfs_shell`: a line is read from standard input and answered on standard output before the next is read.
+//! `lfs_shell`: a line is read, from standard input or from a file, and answered on standard output before the next is read.
 
 ghost use Rattle.std.specs.Prelude.{◌≡◌, false, true, IfErr, IfOk, IsSome, MatchResult, is_some};
 ghost use Rattle.clap.specs.Values.{kind_of};
@@ -6,12 +6,13 @@ ghost use Rattle.lfs_programs.specs.Ranges.{IsInRange};
 ghost use Rattle.lfs_audit.specs.declared.fault.RunFault.TheVariants.{Read as Failed};
 ghost use Rattle.lfs_live.specs.Scripts.{IsLogFault};
 ghost use Rattle.lfs_programs.specs.Ends.{EndsUnasked};
-ghost use Rattle.lfs_programs.specs.Talks.{EndsTalk, HasTalked, HasTalkedSoFar, IsShellEnd};
+ghost use Rattle.lfs_programs.specs.Talks.{EndsShell, EndsTalk, HasTalked, HasTalkedSoFar, IsShellEnd};
 
 use crate::fault::{OpenFault, ShellFault};
 use crate::filming::{Heard, NAME, finish, hear};
 use crate::options::{ShellOptions, shell_not_utf8, shell_options_of};
 use crate::refusing::refuse;
+use crate::script::open_script;
 use crate::words::{NoWords, words};
 use clap::Error;
 use lfs_audit::fault::RunFault;
@@ -23,8 +24,8 @@ use std::io::{BufReader, ErrorKind, Read, Write};
 use std::rt::Files;
 
 /// Does what the arguments of an environment ask `lfs_shell` for, and gives the status with which it ends: 0 for a talk
-/// that has its end, with its film written where one is asked for, and for help; 1 for a fault, told in a line on
-/// standard error; 2 for words that are refused.
+/// that has its end, with its film written where one is asked for, for help and for the version; 1 for a fault, told in a line
+/// on standard error; 2 for words that are refused, and for a file of the journal or of the lines that is not opened.
 pub fn lfs_shell<E, F, R, W, D>(
     env: &E,
     files: &F,
@@ -76,25 +77,53 @@ where
     R: Read,
     W: Write,
     D: Write,
-    ensures talk { IfOk asked.entry (λ options. EndsTalk F.File.contents options
+    ensures talk { IfOk asked.entry (λ options. EndsShell F.File.contents options
         (R.remaining stdin.old) (W.contents stdout.old) (W.contents stdout.new)
         result stdin.old stdin.new stdout.old stdout.new stderr.old stderr.new) }
     ensures not_run { IfErr asked.entry (λ error. (stdin.new ≡ stdin.old)
         × EndsUnasked (kind_of error) result stdout.old stdout.new stderr.old stderr.new) }
 {
     match asked {
-        Ok(options) => match open_journal(files, options.journal_out) {
-            Ok(journal) => {
-                let heard = run(alloc, stdin, stdout, stderr, journal, &options);
-                let outcome = finish(files, &options, heard);
-                end_talk(stderr, outcome)
-            }
+        Ok(options) => match open_script(files, options.script) {
+            Ok(Some(mut lines)) => talk_over(files, alloc, &options, &mut lines, stdout, stderr),
+            Ok(None) => talk_over(files, alloc, &options, stdin, stdout, stderr),
             Err(fault) => {
                 let _ = tell(stderr, NAME, &fault);
                 2
             }
         },
         Err(error) => refuse(stdout, stderr, NAME, &error),
+    }
+}
+
+/// Answers the lines of a reader as was asked, and gives the status with which the program ends.
+fn talk_over<F, R, W, D>(
+    files: &F,
+    alloc: Global,
+    options: &ShellOptions<'_>,
+    reader: &mut R,
+    stdout: &mut W,
+    stderr: &mut D,
+) -> u8
+where
+    F: Files,
+    R: Read,
+    W: Write,
+    D: Write,
+    ensures { EndsTalk F.File.contents options.now
+        (R.remaining reader.old) (W.contents stdout.old) (W.contents stdout.new)
+        result reader.old reader.new stdout.old stdout.new stderr.old stderr.new }
+{
+    match open_journal(files, options.journal_out) {
+        Ok(journal) => {
+            let heard = run(alloc, reader, stdout, stderr, journal, options);
+            let outcome = finish(files, alloc, options, heard);
+            end_talk(stderr, outcome)
+        }
+        Err(fault) => {
+            let _ = tell(stderr, NAME, &fault);
+            2
+        }
     }
 }
 
@@ -137,7 +166,7 @@ fn end_talk<D: Write>(stderr: &mut D, outcome: Result<(), ShellFault>) -> u8
 /// The talk's fault; `Memory` where there is none for the pieces.
 fn run<F: Write + Drop, R: Read, W: Write, D: Write>(
     alloc: Global,
-    stdin: &mut R,
+    reader: &mut R,
     stdout: &mut W,
     stderr: &mut D,
     journal: Option<F>,
@@ -145,15 +174,15 @@ fn run<F: Write + Drop, R: Read, W: Write, D: Write>(
 ) -> Result<Heard, RunFault>
     requires { is_some journal ≡ is_some options.now.journal_out }
     ensures talked { IfOk result (λ heard. HasTalked F.contents options.now heard.is_kept
-        (R.remaining stdin.old) (W.contents stdout.old) (W.contents stdout.new)) }
+        (R.remaining reader.old) (W.contents stdout.old) (W.contents stdout.new)) }
     ensures silent { IfOk result (λ heard. heard.is_kept ≡ true → stderr.new ≡ stderr.old) }
     ensures kept { IfOk result (λ heard. heard.is_kept ≡ false → IsSome options.now.journal_out) }
     ensures so_far { IfErr result (λ fault. fault ≡ Failed → HasTalkedSoFar options.now
-        (R.remaining stdin.old) (W.contents stdout.old) (W.contents stdout.new)) }
+        (R.remaining reader.old) (W.contents stdout.old) (W.contents stdout.new)) }
     ensures fault { let p = options.now.params in IfErr result (IsLogFault p.segments p.inodes p.frames) }
 {
-    match BufReader::new(alloc, stdin) {
-        Ok(mut reader) => hear(alloc, &mut reader, stdout, stderr, journal, options),
+    match BufReader::new(alloc, reader) {
+        Ok(mut pieces) => hear(alloc, &mut pieces, stdout, stderr, journal, options),
         Err(_) => Err(RunFault::Memory),
     }
 }

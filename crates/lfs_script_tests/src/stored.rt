@@ -17,7 +17,10 @@ pub fn is_as_stored<R>(rt: &R, line: &str) -> anyhow::Result<bool>
 where
     R: Files + AllocGlobal + Print + Threads + Wait + Sync,
 {
-    let mut options = options_in(rt, line)?;
+    let words = words_in(rt, line)?;
+    let mut options = options_of(rt.alloc(), words.as_slice()).map_err(|error| anyhow!(
+        "{line}: {error}"
+    ))?;
     if !prints_stored(rt, line, options)? {
         return Ok(false);
     }
@@ -32,7 +35,7 @@ where
 }
 
 /// Whether the script that a line of the list names prints what is stored, with these options. Tells what else it prints.
-fn prints_stored<R>(rt: &R, line: &str, options: Options) -> anyhow::Result<bool>
+fn prints_stored<R>(rt: &R, line: &str, options: Options<'_>) -> anyhow::Result<bool>
 where
     R: Files + AllocGlobal + Print + Threads + Wait + Sync,
 {
@@ -54,12 +57,6 @@ pub fn words_in<'a, R: AllocGlobal>(rt: &R, line: &'a str) -> anyhow::Result<Vec
     Ok(words)
 }
 
-/// What a line of the list asks for.
-fn options_in<R: AllocGlobal>(rt: &R, line: &str) -> anyhow::Result<Options> {
-    let words = words_in(rt, line)?;
-    options_of(rt.alloc(), words.as_slice()).map_err(|error| anyhow!("{line}: {error}"))
-}
-
 /// Tells what a script or a talk printed that isn't stored.
 pub fn print_lines<R: AllocGlobal + Print>(
     rt: &R,
@@ -72,7 +69,7 @@ pub fn print_lines<R: AllocGlobal + Print>(
 }
 
 /// What the script of this name prints.
-fn output<R>(rt: &R, name: &str, options: Options) -> anyhow::Result<Vec<u8>>
+fn output<R>(rt: &R, name: &str, options: Options<'_>) -> anyhow::Result<Vec<u8>>
 where
     R: Files + AllocGlobal + Threads + Wait + Sync,
 {
@@ -93,7 +90,7 @@ where
 fn is_output<R: Files + AllocGlobal>(
     rt: &R,
     name: &str,
-    options: Options,
+    options: Options<'_>,
     written: &[u8],
 ) -> anyhow::Result<bool> {
     let file = format!(in rt.alloc(); "{name}.out")?;

@@ -1,5 +1,5 @@
-//! A file server to talk to: it reads a line from standard input, answers it on standard output, and reads the next. It
-//! may write its journal to a file, and a film of its log.
+//! A file server to talk to: it reads a line, from standard input or from a file, answers it on standard output, and reads
+//! the next. It may write its journal to a file, and a film of its log.
 #![tactic(auto)]
 
 use lfs_programs::shell::lfs_shell;

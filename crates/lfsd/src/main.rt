@@ -1,4 +1,5 @@
-//! A file server that runs a script: it reads lines of calls from standard input and prints the answer to each.
+//! A file server that runs a script: it reads lines of calls, from standard input or from a file, and prints the answer to
+//! each.
 #![tactic(auto)]
 
 use lfs_programs::server::lfsd;
@@ -6,6 +7,7 @@ use std::process::ExitCode;
 
 fn main(rt: HostRuntime) -> ExitCode {
     let status = lfsd(
+        &rt,
         &rt,
         &rt,
         &mut rt.stdin(),

@@ -78,7 +78,10 @@ where
 {
     let env = (Words { words }, alloc);
     match program {
-        Program::Server => lfsd(&env, rt, stdin, stdout, stderr),
+        Program::Server => {
+            let disk = Disk::new(alloc);
+            lfsd(&env, rt, &disk.files(false), stdin, stdout, stderr)
+        }
         Program::Shell => {
             let disk = Disk::new(alloc);
             lfs_shell(&env, &disk.files(false), stdin, stdout, stderr)

@@ -1,4 +1,4 @@
-//! Files in memory, of which one of two can be made.
+//! Files in memory, of which one of two can be made, and one that is there can be read.
 
 use std::alloc::{Allocator, Global};
 use std::cell::{Cell, RefCell};
@@ -8,7 +8,15 @@ use std::io::{ErrorKind, Read, Seek, SeekFrom, Write};
 use std::rt::Files;
 
 /// The paths of the files that can be made, of which a program makes one.
-const PATHS: [&str; 2] = ["film.html", "journal.out"];
+const PATHS: [&str; 2] = ["film.html.part", "journal.out"];
+
+/// The name that the first of them can get.
+const RENAMED: &str = "film.html";
+
+/// The path of a script, and what it is.
+const SCRIPT: &str = "script.lfs";
+
+const LINES: &[u8] = b"create /a 0644\nstat /a\n";
 
 /// The path of a file that is there.
 const THERE: &str = "there.out";
@@ -17,6 +25,7 @@ const THERE: &str = "there.out";
 #[derive(Drop)]
 pub struct Disk {
     made: Cell<u32>,
+    renamed: Cell<bool>,
     page: RefCell<Vec<u8>>,
 }
 
@@ -25,6 +34,7 @@ impl Disk {
     pub fn new(alloc: Global) -> Disk {
         Disk {
             made: Cell::new(0),
+            renamed: Cell::new(false),
             page: RefCell::new(Vec::new(alloc)),
         }
     }
@@ -34,7 +44,13 @@ impl Disk {
         Shelf {
             disk: self,
             is_full,
+            rest: &[],
         }
+    }
+
+    /// Whether the film got its name.
+    pub fn is_renamed(&self) -> bool {
+        self.renamed.get()
     }
 
     /// How often the file was made.
@@ -44,7 +60,11 @@ impl Disk {
 
     /// What was written to the file.
     pub fn into_page(self) -> Vec<u8> {
-        let Disk { made: _, page } = self;
+        let Disk {
+            made: _,
+            renamed: _,
+            page,
+        } = self;
         page.into_inner()
     }
 }
@@ -54,6 +74,8 @@ impl Disk {
 pub struct Shelf<'a> {
     disk: &'a Disk,
     is_full: bool,
+    /// What is left to be read of it.
+    rest: &'static [u8],
 }
 
 /// What no program asks for.
@@ -62,8 +84,8 @@ fn unsupported<T>() -> io::Result<T> {
 }
 
 impl Read for Shelf<'_> {
-    fn read(&mut self, _buf: &mut [u8]) -> io::Result<usize> {
-        Err(io::Error::from(ErrorKind::Unsupported))
+    fn read(&mut self, buf: &mut [u8]) -> io::Result<usize> {
+        self.rest.read(buf)
     }
 }
 
@@ -119,6 +141,11 @@ impl<'a> Files for Shelf<'a> {
         if path == THERE {
             return Err(io::Error::from(ErrorKind::AlreadyExists));
         }
+        if path == SCRIPT {
+            let mut script = *self;
+            script.rest = LINES;
+            return Ok(script);
+        }
         if path != PATHS[0] && path != PATHS[1] {
             return Err(io::Error::from(ErrorKind::NotFound));
         }
@@ -142,8 +169,12 @@ impl<'a> Files for Shelf<'a> {
         unsupported()
     }
 
-    fn rename(&self, _from: &str, _to: &str) -> io::Result<()> {
-        unsupported()
+    fn rename(&self, from: &str, to: &str) -> io::Result<()> {
+        if from != PATHS[0] || to != RENAMED {
+            return unsupported();
+        }
+        self.disk.renamed.set(true);
+        Ok(())
     }
 
     fn remove_file(&self, _path: &str) -> io::Result<()> {

@@ -43,6 +43,7 @@ fn film_is_written_to_its_file(rt: HostRuntime) {
     let mut talk = TALK;
     expect_end(&rt, alloc, (&disk, false), FILMED, &mut talk, (0, TOLD, ""));
     expect_eq(&rt, disk.made(), 1);
+    expect_eq(&rt, disk.is_renamed(), true);
     expect_frames(&rt, alloc, disk.into_page().as_slice(), FRAMES);
 }
 
@@ -70,8 +71,11 @@ fn no_file_is_made_behind_a_fault_of_the_talk(rt: HostRuntime) {
     expect_eq(&rt, disk.made(), 0);
 }
 
-/// What a talk ends with whose film is not written.
-const UNWRITTEN: (u8, &str, &str) = (1, TOLD, "lfs_shell: film not written\n");
+/// What a talk ends with whose film's file is not made.
+const UNMADE: (u8, &str, &str) = (1, TOLD, "lfs_shell: film not written: entity not found\n");
+
+/// What one ends with whose film finds no room.
+const UNWRITTEN: (u8, &str, &str) = (1, TOLD, "lfs_shell: film not written: write failed\n");
 
 #[test]
 fn film_whose_file_can_not_be_made_is_a_fault(rt: HostRuntime) {
@@ -79,7 +83,7 @@ fn film_whose_file_can_not_be_made_is_a_fault(rt: HostRuntime) {
     let disk = Disk::new(alloc);
     let mut talk = TALK;
     let words: &[&[u8]] = &[b"lfs_shell", b"--segments=6", b"--film=none/film.html"];
-    expect_end(&rt, alloc, (&disk, false), words, &mut talk, UNWRITTEN);
+    expect_end(&rt, alloc, (&disk, false), words, &mut talk, UNMADE);
     expect_eq(&rt, disk.made(), 0);
 }
 
@@ -90,4 +94,5 @@ fn film_that_finds_no_room_is_a_fault(rt: HostRuntime) {
     let mut talk = TALK;
     expect_end(&rt, alloc, (&disk, true), FILMED, &mut talk, UNWRITTEN);
     expect_eq(&rt, disk.made(), 1);
+    expect_eq(&rt, disk.is_renamed(), false);
 }

@@ -65,7 +65,7 @@ fn server_on_threads_refuses_lines_of_the_cleaner(rt: HostRuntime) {
 
 /// Words that are refused, and a part of what is told.
 const REFUSED: [(&[&[u8]], &str); 10] = [
-    (&[b"lfsd", b"script"], "error: "),
+    (&[b"lfsd", b"script.lfs", b"another"], "error: "),
     (&[b"lfsd", b"--thread"], "--thread"),
     (&[b"lfsd", b"--threads=1"], "--threads"),
     (&[b"lfsd", b"--segments"], "--segments"),
@@ -91,17 +91,46 @@ fn server_refuses_words(rt: HostRuntime) {
 }
 
 /// Words, inputs and the line of the fault of each. Nothing else is written.
-const FAULTS: [(&[&[u8]], &[u8], &str); 4] = [
+const FAULTS: [(&[&[u8]], &[u8], &str); 9] = [
     (
         &[b"lfsd"],
         b"stat /\nnonsense\n",
-        "lfsd: script line 2: Words\n",
+        "lfsd: script line 2: Words 'nonsense' at 1: no line begins so\n",
     ),
-    (&[b"lfsd"], b"stat /", "lfsd: script line 1: Cut\n"),
+    (
+        &[b"lfsd"],
+        b"stat /",
+        "lfsd: script line 1: Cut a line ends in a line feed\n",
+    ),
     (
         &[b"lfsd", b"--threads"],
         b"session 1\nstat /\nstat\n",
-        "lfsd: script line 3: Words\n",
+        "lfsd: script line 3: Words 'stat' at 1: its form is stat PATH\n",
+    ),
+    (
+        &[b"lfsd"],
+        b"\n# comment\ncreate /dir rw-\n",
+        "lfsd: script line 3: Number 'rw-' at 13: a mode is 1 to 6 octal digits, at most 7777, as 0644\n",
+    ),
+    (
+        &[b"lfsd"],
+        b"stat  /\n",
+        "lfsd: script line 1: Words '' at 6: one space stands between words, none elsewhere\n",
+    ),
+    (
+        &[b"lfsd"],
+        b"stat\t/\n",
+        "lfsd: script line 1: Bytes at 5: a tab, where one space stands between words\n",
+    ),
+    (
+        &[b"lfsd"],
+        b"stat /\r\n",
+        "lfsd: script line 1: Bytes at 7: a carriage return, where a line feed alone ends a line\n",
+    ),
+    (
+        &[b"lfsd"],
+        b"as 5 5 init\n",
+        "lfsd: script line 1: Cred 'init' at 8: init is user 0\n",
     ),
     (
         &[b"lfsd", b"--threads"],
@@ -118,9 +147,52 @@ fn server_tells_the_fault_of_a_script(rt: HostRuntime) {
     }
 }
 
+/// What the script of the file is answered.
+const OF_FILE: &str =
+    "0 ok\n0 stat 4 file 0 0 0644 00000000 0\nentries 2\nserved 2\ndenied 0\nrefused 0\ncleaner 0\n";
+
+#[test]
+fn server_reads_its_script_from_a_file(rt: HostRuntime) {
+    let words: &[&[u8]] = &[b"lfsd", b"script.lfs"];
+    let wanted = (0, OF_FILE, "");
+    expect_ended(
+        &rt,
+        rt.alloc(),
+        Program::Server,
+        words,
+        b"nonsense\n",
+        wanted,
+    );
+}
+
+#[test]
+fn server_tells_a_script_that_is_not_opened(rt: HostRuntime) {
+    let words: &[&[u8]] = &[b"lfsd", b"none.lfs"];
+    let wanted = (2, "", "lfsd: none.lfs not opened: entity not found\n");
+    expect_ended(&rt, rt.alloc(), Program::Server, words, b"stat /\n", wanted);
+}
+
+#[test]
+fn server_tells_its_version(rt: HostRuntime) {
+    for word in [b"--version".as_slice(), b"-V"] {
+        let words: &[&[u8]] = &[b"lfsd", word];
+        let wanted = (0, "lfsd 1.0\n", "");
+        expect_ended(
+            &rt,
+            rt.alloc(),
+            Program::Server,
+            words,
+            b"nonsense\n",
+            wanted,
+        );
+    }
+}
+
 /// What its help tells of, among others.
 const HELP: &[&str] = &[
     "lfsd",
+    "SCRIPT",
+    "--version",
     "--threads",
     "6 to 1024",
     "1 to 100000",

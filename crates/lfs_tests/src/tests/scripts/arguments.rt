@@ -12,12 +12,13 @@ use std::alloc::Global;
 use std::process::Abort;
 
 /// Words of a command line, and what they ask for.
-const TAKEN: [(&[&str], Options); 3] = [
+const TAKEN: [(&[&str], Options<'static>); 3] = [
     (
         &["lfsd"],
         Options {
             params: DEFAULTS,
             threads: false,
+            script: None,
         },
     ),
     (
@@ -40,6 +41,7 @@ const TAKEN: [(&[&str], Options); 3] = [
                 journal: 1,
             },
             threads: false,
+            script: None,
         },
     ),
     (
@@ -49,6 +51,7 @@ const TAKEN: [(&[&str], Options); 3] = [
             "--journal=100000",
             "--inodes=0004096",
             "--segments=1024",
+            "a script",
             "--frames=1024",
         ],
         Options {
@@ -59,6 +62,7 @@ const TAKEN: [(&[&str], Options); 3] = [
                 journal: 100_000,
             },
             threads: true,
+            script: Some("a script"),
         },
     ),
 ];
@@ -122,7 +126,7 @@ const REFUSED: [&[&str]; 25] = [
     &["lfsd", "--journal", "0"],
     &["lfsd", "--journal", "100001"],
     &["lfsd", "--journal=+1"],
-    &["lfsd", "script"],
+    &["lfsd", "script", "another"],
     &["lfsd", "--threads=1"],
     &["lfsd", "--segments", "5"],
     &["lfsd", "--segments", "1025"],
