@@ -3,6 +3,7 @@ pub mod HelpLemmas
 pub mod KeepingLemmas
 pub mod LineLemmas
 pub mod SameLemmas
+pub mod SettleLemmas
 pub mod StartLemmas
 pub mod TalkLemmas
 pub mod TellingLemmas

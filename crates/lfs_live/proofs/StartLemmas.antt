@@ -10,27 +10,9 @@ use Rattle.lfs_audit.specs.declared.fault.RunFault.{RunFault}
 use Rattle.lfs_audit.specs.declared.fault.RunFault.TheVariants.{Read, TooLong, Script, Format, Memory, Write}
 use Rattle.lfs_live.specs.Faults.{IsTalkFault}
 use Rattle.lfs_live.specs.Held.{HasBegun, Held, Sink, course_of}
-use Rattle.lfs_live.specs.Scripts.{HasHeardOfLog, IsFresh, IsKeptLogTalk, IsLogFault, Manner, log_talker}
+use Rattle.lfs_live.specs.Scripts.{HasHeardOver, IsFresh, IsKeptTalkOver, IsLogFault, Manner, log_talker}
 use Rattle.lfs_live.specs.Talking.{HasKeptSoFar, IsKeptTalk}
 use Rattle.lfs_server.specs.Fresh.{IsFreshLog}
-
--- a talk over a fresh volume, with its end
-pub log_talk : {J : Type 0} (sink : Sink J) (segments inodes frames limit : ℕ) (old new : Held Parts J)
-    (known left start out : Option (List ℕ))
-    → IsFresh segments inodes frames limit old.volume
-    → IsKeptTalk log_talker sink old new known left start out
-    → IsKeptLogTalk segments inodes frames limit (record { is_open = old.is_open; cleans = old.cleans }) new.is_open
-    (sink.next old.sink)
-    (sink.contents old.sink) (sink.contents new.sink) known left start out
-log_talk {J} sink segments inodes frames limit old new known left start out fresh talk = record {
-  talk = record {
-    old = old.volume;
-    new = course_of new talk.handed;
-    fresh = fresh;
-    talk = talk.talk;
-  };
-  kept = λ taking. (talk.kept taking).lines;
-}
 
 -- a fresh volume
 pub fresh_log : (segments inodes frames limit : ℕ) (v : Seen Parts) → v.journal ≡ [] → v.limit ≡ limit
@@ -60,45 +42,45 @@ begun volume sink manner = record {
   cleans = manner.cleans;
 }
 
--- a talk that begins so, with its end
-pub begun_talk : {J : Type 0} (sink : Sink J) (segments inodes frames limit : ℕ) (volume : Seen Parts) (j : J)
+-- a talk over a volume that begins so, with its end
+pub begun_talk : {J : Type 0} (sink : Sink J) (begins : Seen Parts → Type 0) (volume : Seen Parts) (j : J)
     (manner : Manner) (old new : Held Parts J) (known left start out : Option (List ℕ))
-    → old ≡ begun volume j manner → IsFresh segments inodes frames limit volume
+    → old ≡ begun volume j manner → begins volume → volume.journal ≡ []
     → (HasBegun old → IsKeptTalk log_talker sink old new known left start out)
-    → IsKeptLogTalk segments inodes frames limit manner new.is_open (sink.next j) (sink.contents j)
-    (sink.contents new.sink) known left start out
-begun_talk {J} sink segments inodes frames limit volume j manner old new known left start out is fresh talk =
-    log_talk sink segments inodes frames limit (begun volume j manner) new known left start out fresh
-    (subst (λ (h : Held Parts J). HasBegun h → IsKeptTalk log_talker sink h new known left start out) is talk
-    (refl, fresh.empty))
+    → IsKeptTalkOver begins manner new.is_open (sink.next j) (sink.contents j) (sink.contents new.sink) known left start
+    out
+begun_talk {J} sink begins volume j manner old new known left start out is begin empty talk =
+    let ended = subst (λ (h : Held Parts J). HasBegun h → IsKeptTalk log_talker sink h new known left start out) is talk
+    (refl, empty) in
+    record {
+      talk = record { old = volume; new = course_of new ended.handed; begun = begin; talk = ended.talk };
+      kept = λ taking. (ended.kept taking).lines;
+    }
 
 -- up to a read that failed
-pub begun_heard : {J : Type 0} (sink : Sink J) (segments inodes frames limit : ℕ) (volume : Seen Parts) (j : J)
+pub begun_heard : {J : Type 0} (sink : Sink J) (begins : Seen Parts → Type 0) (volume : Seen Parts) (j : J)
     (manner : Manner) (old new : Held Parts J) (known left start out : Option (List ℕ))
-    → old ≡ begun volume j manner → IsFresh segments inodes frames limit volume
+    → old ≡ begun volume j manner → begins volume → volume.journal ≡ []
     → (HasBegun old → HasKeptSoFar log_talker sink old new known left start out)
-    → HasHeardOfLog segments inodes frames limit manner known left start out
-begun_heard {J} sink segments inodes frames limit volume j manner old new known left start out is fresh heard =
+    → HasHeardOver begins manner known left start out
+begun_heard {J} sink begins volume j manner old new known left start out is begin empty heard =
     let so_far = subst (λ (h : Held Parts J). HasBegun h → HasKeptSoFar log_talker sink h new known left start out) is
-    heard (refl, fresh.empty) in
+    heard (refl, empty) in
     record {
       old = volume;
       new = course_of new so_far.handed;
-      fresh = fresh;
+      begun = begin;
       so_far = so_far.so_far;
     }
 
 -- the sink and whether it takes more, as they are handed back
-pub kept_as : {J : Type 0} (sink : Sink J) (segments inodes frames limit : ℕ) (manner : Manner) (new : Held Parts J)
+pub kept_as : {J : Type 0} (sink : Sink J) (begins : Seen Parts → Type 0) (manner : Manner) (new : Held Parts J)
     (last : J) (is_open : Bool) (number : ℕ) (first known left start out : Option (List ℕ))
     → last ≡ new.sink → is_open ≡ new.is_open
-    → IsKeptLogTalk segments inodes frames limit manner new.is_open number first (sink.contents new.sink)
-    known left start out
-    → IsKeptLogTalk segments inodes frames limit manner is_open number first (sink.contents last)
-    known left start out
-kept_as {J} sink segments inodes frames limit manner new last is_open number first known left start
-    out same still talk =
-    subst (λ (b : Bool). IsKeptLogTalk segments inodes frames limit manner b number first (sink.contents last)
-    known left start out) (sym still)
-    (subst (λ (j : J). IsKeptLogTalk segments inodes frames limit manner new.is_open number first (sink.contents j)
-    known left start out) (sym same) talk)
+    → IsKeptTalkOver begins manner new.is_open number first (sink.contents new.sink) known left start out
+    → IsKeptTalkOver begins manner is_open number first (sink.contents last) known left start out
+kept_as {J} sink begins manner new last is_open number first known left start out same still talk =
+    subst (λ (b : Bool). IsKeptTalkOver begins manner b number first (sink.contents last) known left start out)
+    (sym still)
+    (subst (λ (j : J). IsKeptTalkOver begins manner new.is_open number first (sink.contents j) known left start out)
+    (sym same) talk)

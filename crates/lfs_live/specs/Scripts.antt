@@ -50,28 +50,41 @@ abbrev pub begins_with : {F : Type 0} → Seen F → Manner → Course F
 begins_with volume manner =
     record { volume = volume; handed = []; is_open = manner.is_open; cleans = manner.cleans }
 
--- a talk over a fresh volume
-pub record IsLogTalk (segments inodes frames limit : ℕ) (manner : Manner)
+-- a talk over a volume that begins so
+pub record IsTalkOver (begins : Seen Parts → Type 0) (manner : Manner)
     (known left start out : Option (List ℕ)) : Type 0 where
   pub old : Seen Parts
   pub new : Course Parts
-  pub fresh : IsFresh segments inodes frames limit old
+  pub begun : begins old
   pub talk : IsTalk log_talker (begins_with old manner) new known left start out
 
 -- The same, and where the sink took entries to the end, its bytes became these by the lines of all entries, numbered
 -- from this number on.
-pub record IsKeptLogTalk (segments inodes frames limit : ℕ) (manner : Manner) (is_open : Bool) (number : ℕ)
+pub record IsKeptTalkOver (begins : Seen Parts → Type 0) (manner : Manner) (is_open : Bool) (number : ℕ)
     (first last known left start out : Option (List ℕ)) : Type 0 where
-  pub talk : IsLogTalk segments inodes frames limit manner known left start out
+  pub talk : IsTalkOver begins manner known left start out
   pub kept : is_open ≡ true → IsJournalOf number first last (talk.new.handed ++ talk.new.volume.journal)
 
 -- the same up to a read that failed
-pub record HasHeardOfLog (segments inodes frames limit : ℕ) (manner : Manner)
+pub record HasHeardOver (begins : Seen Parts → Type 0) (manner : Manner)
     (known left start out : Option (List ℕ)) : Type 0 where
   pub old : Seen Parts
   pub new : Course Parts
-  pub fresh : IsFresh segments inodes frames limit old
+  pub begun : begins old
   pub so_far : HasHeardSoFar log_talker (begins_with old manner) new known left start out
+
+-- the same of a fresh volume
+abbrev pub IsLogTalk : ℕ → ℕ → ℕ → ℕ → Manner → Option (List ℕ) → Option (List ℕ) → Option (List ℕ) → Option (List ℕ)
+    → Type 0
+IsLogTalk segments inodes frames limit = IsTalkOver (IsFresh segments inodes frames limit)
+
+abbrev pub IsKeptLogTalk : ℕ → ℕ → ℕ → ℕ → Manner → Bool → ℕ → Option (List ℕ) → Option (List ℕ) → Option (List ℕ)
+    → Option (List ℕ) → Option (List ℕ) → Option (List ℕ) → Type 0
+IsKeptLogTalk segments inodes frames limit = IsKeptTalkOver (IsFresh segments inodes frames limit)
+
+abbrev pub HasHeardOfLog : ℕ → ℕ → ℕ → ℕ → Manner → Option (List ℕ) → Option (List ℕ) → Option (List ℕ)
+    → Option (List ℕ) → Type 0
+HasHeardOfLog segments inodes frames limit = HasHeardOver (IsFresh segments inodes frames limit)
 
 -- a talk over a fresh volume may end in this fault
 abbrev pub IsLogFault : ℕ → ℕ → ℕ → RunFault → Type 0

@@ -3,7 +3,10 @@
 ghost use Rattle.std.specs.Prelude.{◌≡◌, false, IfErr, IfOk, OnOk};
 ghost use Rattle.lfs_server.specs.Serving.{IsInRange};
 ghost use Rattle.lfs_audit.specs.declared.fault.RunFault.TheVariants.{Read as Failed};
-ghost use Rattle.lfs_live.specs.Scripts.{HasHeardOfLog, IsKeptLogTalk, IsLogFault, IsLogTalk};
+ghost use Rattle.lfs_live.specs.Faults.{IsTalkFault};
+ghost use Rattle.lfs_live.specs.Held.{HasBegun, sink_of};
+ghost use Rattle.lfs_live.specs.Scripts.{HasHeardOfLog, IsKeptLogTalk, IsLogFault, IsLogTalk, log_talker};
+ghost use Rattle.lfs_live.specs.Talking.{HasKeptSoFar, IsKeptTalk};
 
 use crate::talk::talk;
 use crate::tended::Tended;
@@ -60,12 +63,36 @@ pub fn run_kept<J: JournalSink + Drop, V: Watch<LogStore> + Drop, R: Read, W: Wr
 {
     let volume = fresh_volume(alloc, setup.params)?;
     let mut tended = Tended::new(alloc, volume, setup.cleans, setup.witnesses);
-    match tended.show(alloc, &[], &[]) {
-        Ok(()) => {}
-        Err(AllocError) => return Err(RunFault::Memory),
-    }
-    talk(alloc, reader, writer, teller, &mut tended)?;
+    run_over(alloc, reader, writer, teller, &mut tended)?;
     Ok(tended.into_witnesses())
+}
+
+/// A talk over a volume, whatever tree it begins at: one who watches is shown its store, with an empty line of which nothing
+/// is told, before the first line.
+///
+/// # Errors
+///
+/// Those of `talk`.
+pub fn run_over<J: JournalSink + Drop, V: Watch<LogStore> + Drop, R: Read, W: Write, D: Write>(
+    alloc: Global,
+    reader: &mut R,
+    writer: &mut W,
+    teller: &mut D,
+    tended: &mut Tended<LogStore, J, V>,
+) -> Result<(), RunFault>
+    ensures written { OnOk result (HasBegun tended.old → IsKeptTalk log_talker (sink_of J.contents J.next)
+        tended.old tended.new (R.remaining reader.old) (R.remaining reader.new)
+        (W.contents writer.old) (W.contents writer.new)) }
+    ensures so_far { IfErr result (λ fault. fault ≡ Failed → HasBegun tended.old → HasKeptSoFar log_talker
+        (sink_of J.contents J.next) tended.old tended.new (R.remaining reader.old) (R.remaining reader.new)
+        (W.contents writer.old) (W.contents writer.new)) }
+    ensures silent { OnOk result (tended.new.is_open ≡ tended.old.is_open → teller.new ≡ teller.old) }
+    ensures fault { IfErr result IsTalkFault }
+{
+    match tended.show(alloc, &[], &[]) {
+        Ok(()) => talk(alloc, reader, writer, teller, tended),
+        Err(AllocError) => Err(RunFault::Memory),
+    }
 }
 
 /// The same without a sink: the journal is kept, up to its limit. The one who watches is handed back.

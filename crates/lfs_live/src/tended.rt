@@ -6,6 +6,7 @@ ghost use Rattle.lfs_model.specs.Counts.{counts_of};
 ghost use Rattle.lfs_audit.specs.Runs.{TellsLine};
 ghost use Rattle.lfs_script.specs.declared.plan.Act.TheVariants.{Pass};
 ghost use Rattle.lfs_volume.specs.Cleanings.{cleaner_of};
+ghost use Rattle.lfs_volume.specs.Journals.{AtPresent, Begins};
 ghost use Rattle.lfs_volume.specs.Seen.{Seen};
 ghost use Rattle.lfs_live.specs.Held.{HasRoom, IsHandedOut, Moves, Takes, closed, course_of, drained, sink_of};
 ghost use Rattle.lfs_live.specs.Steps.{HasTidied};
@@ -21,7 +22,10 @@ use lfs_script::plan::{Act, Step};
 use lfs_settle::entries::CLEANER;
 use lfs_sinks::sink::{JournalSink, SinkFault};
 use lfs_sinks::totals::Totals;
+use lfs_types::answer::{Answer, Served};
 use lfs_types::cleaned::CleanedStore;
+use lfs_types::level::Level;
+use lfs_types::request::Request;
 use lfs_types::store::FileStore;
 use lfs_volume::volume::Volume;
 use lfs_words::caller::first_caller;
@@ -246,9 +250,67 @@ impl<F: CleanedStore + Drop, J: JournalSink + Drop, V: Drop> Tended<F, J, V> {
     }
 }
 
+impl<F: FileStore + Drop, J: JournalSink + Drop, V: Drop> Tended<F, J, V> {
+    /// Writes what waits in the store, by a Sync of the superuser as session 0, behind a talk: the sink gets its entry, and
+    /// entries that no sink takes are let go before, so that there is room. Whether nothing waits any more. The tree and the
+    /// securelevel stay.
+    ///
+    /// # Errors
+    ///
+    /// There was no memory for the room.
+    pub fn settle<D: Write>(&mut self, alloc: Global, teller: &mut D) -> Result<bool, AllocError>
+        ensures settled { IfOk result (λ done. done ≡ true → F.is_settled self.new.volume.store) }
+        ensures shown { OnOk result (AtPresent F.state self.old.volume
+            (Begins (F.state self.new.volume.store) self.new.volume.level)) }
+    {
+        if !self.is_open {
+            self.let_go(alloc)?;
+        }
+        Ok(self.sync(teller))
+    }
+
+    /// Lets the entries of the journal go. The volume goes on from the present tree.
+    fn let_go(&mut self, alloc: Global) -> Result<(), AllocError>
+        ensures gone { OnOk result (self.new ≡ record self.old { volume = drained self.old.volume }) }
+        ensures begins { OnOk result (AtPresent F.state self.old.volume
+            (Begins (F.state self.new.volume.since) self.new.volume.since_level)) }
+    {
+        let limit = self.volume.journal_limit() as usize;
+        let room = Vec::with_capacity(alloc, limit)?;
+        drop(self.volume.drain(room));
+        Ok(())
+    }
+
+    /// Makes a Sync of the superuser as session 0, and moves on. Whether it was served.
+    fn sync<D: Write>(&mut self, teller: &mut D) -> bool
+        ensures settled { result ≡ true → F.is_settled self.new.volume.store }
+        ensures shown { AtPresent F.state self.old.volume
+            (Begins (F.state self.new.volume.store) self.new.volume.level) }
+    {
+        let before = self.volume.journal().len();
+        let answer = self.volume.call(0, &first_caller(), Request::Sync);
+        self.move_on(teller, before);
+        matches!(answer, Answer::Served(Served::Done))
+    }
+
+    /// The store, to be read.
+    pub fn store(&self) -> &F
+        ensures { result.now ≡ self.now.volume.store }
+    {
+        self.volume.store()
+    }
+
+    /// The securelevel.
+    pub fn level(&self) -> Level
+        ensures { result ≡ self.now.volume.level }
+    {
+        self.volume.level()
+    }
+}
+
 impl<F: FileStore + Drop, J: JournalSink + Drop, V: Watch<F> + Drop> Tended<F, J, V> {
     /// Shows the one who watches the store, behind a line of which this was told.
-    pub(crate) fn show(&mut self, alloc: Global, line: &[u8], told: &[u8]) -> Result<(), AllocError>
+    pub fn show(&mut self, alloc: Global, line: &[u8], told: &[u8]) -> Result<(), AllocError>
         ensures { self.new ≡ self.old }
     {
         self.watch.watch(alloc, line, told, self.volume.store())
