@@ -86,6 +86,9 @@ pub enum KeepFault {
     /// The image is not saved.
     #[error("image not saved")]
     Save,
+    /// There are fewer frames than 32, or more than 1,024.
+    #[error("frames out of range")]
+    Frames,
     /// A growth was refused.
     #[error("no memory")]
     Memory,

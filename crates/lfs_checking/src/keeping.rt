@@ -1,8 +1,7 @@
 //! A volume in a file: loaded from its image, and kept as one.
 
-ghost use Rattle.std.specs.Prelude.{◌≤◌, IfOk, IfSome, OnOk};
+ghost use Rattle.std.specs.Prelude.{IfOk, IfSome, OnOk};
 ghost use Rattle.lfs_staging.specs.Store.{IsSettled};
-ghost use Rattle.lfs_types.specs.Ranges.{least_frames, most_frames};
 ghost use Rattle.lfs_checking.specs.Files.{HasImage, IsLoaded};
 
 use crate::fault::{CheckFault, KeepFault};
@@ -11,6 +10,7 @@ use crate::saving::save_volume;
 use crate::volume::load_volume;
 use lfs_logstore::LogStore;
 use lfs_types::level::Level;
+use lfs_types::limits::{LEAST_FRAMES, MOST_FRAMES};
 use std::alloc::Global;
 use std::fs::{self, File, OpenFile, OpenOptions};
 use std::io::ErrorKind;
@@ -25,17 +25,18 @@ const OWNERS: u32 = 0o600;
 ///
 /// # Errors
 ///
-/// `Read` where the file can't be read, `Image` where what it has is the image of no volume; `Memory`.
+/// `Frames`; `Read` where the file can't be read, `Image` where what it has is the image of no volume; `Memory`.
 pub fn load_file<S: Files>(
     files: &S,
     alloc: Global,
     path: &str,
     frames: u32,
 ) -> Result<Option<(LogStore, Level)>, KeepFault>
-    requires at_least { least_frames ≤ frames }
-    requires at_most { frames ≤ most_frames }
     ensures { IfOk result (λ found. IfSome found (λ both. IsLoaded frames both.0 both.1)) }
 {
+    if frames < LEAST_FRAMES || frames > MOST_FRAMES {
+        return Err(KeepFault::Frames);
+    }
     match bytes_in(files, alloc, path)? {
         Some(bytes) => {
             let both = load_volume(alloc, bytes.as_slice(), frames)?;

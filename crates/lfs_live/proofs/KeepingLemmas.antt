@@ -138,7 +138,7 @@ pub on_opened : {F : Type 0} (now after : Course F) → MovesOn now after → af
 on_opened {F} now after moves taking = left_opened now after moves.left taking
 
 -- the store is what it was
-pub left_store : {F : Type 0} (now after : Course F) → (after ≡ now) ⊎ (IsHanded now after ⊎ IsShut now after)
+left_store : {F : Type 0} (now after : Course F) → (after ≡ now) ⊎ (IsHanded now after ⊎ IsShut now after)
     → after.volume.store ≡ now.volume.store
 left_store {F} now after (inl stays) = ap (λ (c : Course F). c.volume.store) stays
 left_store {F} now after (inr (inl out)) = ap (λ (c : Course F). c.volume.store) out.is

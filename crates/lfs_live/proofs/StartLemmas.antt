@@ -43,7 +43,7 @@ begun volume sink manner = record {
 }
 
 -- a talk over a volume that begins so, with its end
-pub begun_talk : {J : Type 0} (sink : Sink J) (begins : Seen Parts → Type 0) (volume : Seen Parts) (j : J)
+abbrev pub begun_talk : {J : Type 0} (sink : Sink J) (begins : Seen Parts → Type 0) (volume : Seen Parts) (j : J)
     (manner : Manner) (old new : Held Parts J) (known left start out : Option (List ℕ))
     → old ≡ begun volume j manner → begins volume → volume.journal ≡ []
     → (HasBegun old → IsKeptTalk log_talker sink old new known left start out)

@@ -1,6 +1,6 @@
 //! A talk over a fresh volume.
 
-ghost use Rattle.std.specs.Prelude.{◌≡◌, false, IfErr, IfOk, OnOk};
+ghost use Rattle.std.specs.Prelude.{◌≡◌, false, true, IfErr, IfOk, OnOk};
 ghost use Rattle.lfs_server.specs.Serving.{IsInRange};
 ghost use Rattle.lfs_audit.specs.declared.fault.RunFault.TheVariants.{Read as Failed};
 ghost use Rattle.lfs_live.specs.Faults.{IsTalkFault};
@@ -86,6 +86,7 @@ pub fn run_over<J: JournalSink + Drop, V: Watch<LogStore> + Drop, R: Read, W: Wr
     ensures so_far { IfErr result (λ fault. fault ≡ Failed → HasBegun tended.old → HasKeptSoFar log_talker
         (sink_of J.contents J.next) tended.old tended.new (R.remaining reader.old) (R.remaining reader.new)
         (W.contents writer.old) (W.contents writer.new)) }
+    ensures opened { OnOk result (tended.new.is_open ≡ true → tended.old.is_open ≡ true) }
     ensures silent { OnOk result (tended.new.is_open ≡ tended.old.is_open → teller.new ≡ teller.old) }
     ensures fault { IfErr result IsTalkFault }
 {

@@ -64,6 +64,7 @@ pub fn talk<
         F.map_text F.segment_text F.space_text) (sink_of J.contents J.next)
         tended.old tended.new (R.remaining reader.old) (R.remaining reader.new)
         (W.contents writer.old) (W.contents writer.new)) }
+    ensures opened { OnOk result (tended.new.is_open ≡ true → tended.old.is_open ≡ true) }
     ensures silent { OnOk result (tended.new.is_open ≡ tended.old.is_open → teller.new ≡ teller.old) }
     ensures fault { IfErr result IsTalkFault }
 {

@@ -251,22 +251,21 @@ impl<F: CleanedStore + Drop, J: JournalSink + Drop, V: Drop> Tended<F, J, V> {
 }
 
 impl<F: FileStore + Drop, J: JournalSink + Drop, V: Drop> Tended<F, J, V> {
-    /// Writes what waits in the store, by a Sync of the superuser as session 0, behind a talk: the sink gets its entry, and
-    /// entries that no sink takes are let go before, so that there is room. Whether nothing waits any more. The tree and the
-    /// securelevel stay.
+    /// Writes what waits in the store behind a talk, by a Sync of the superuser as session 0. The entries are let go before,
+    /// so that there is room; the sink doesn't get that of the Sync, which is no line's. Whether nothing waits any more. The
+    /// tree and the securelevel stay.
     ///
     /// # Errors
     ///
     /// There was no memory for the room.
-    pub fn settle<D: Write>(&mut self, alloc: Global, teller: &mut D) -> Result<bool, AllocError>
+    pub fn settle(&mut self, alloc: Global) -> Result<bool, AllocError>
         ensures settled { IfOk result (λ done. done ≡ true → F.is_settled self.new.volume.store) }
         ensures shown { OnOk result (AtPresent F.state self.old.volume
             (Begins (F.state self.new.volume.store) self.new.volume.level)) }
+        ensures same { self.new ≡ record self.old { volume = self.new.volume } }
     {
-        if !self.is_open {
-            self.let_go(alloc)?;
-        }
-        Ok(self.sync(teller))
+        self.let_go(alloc)?;
+        Ok(self.sync())
     }
 
     /// Lets the entries of the journal go. The volume goes on from the present tree.
@@ -274,6 +273,7 @@ impl<F: FileStore + Drop, J: JournalSink + Drop, V: Drop> Tended<F, J, V> {
         ensures gone { OnOk result (self.new ≡ record self.old { volume = drained self.old.volume }) }
         ensures begins { OnOk result (AtPresent F.state self.old.volume
             (Begins (F.state self.new.volume.since) self.new.volume.since_level)) }
+        ensures failed { OnErr result (self.new ≡ self.old) }
     {
         let limit = self.volume.journal_limit() as usize;
         let room = Vec::with_capacity(alloc, limit)?;
@@ -281,15 +281,14 @@ impl<F: FileStore + Drop, J: JournalSink + Drop, V: Drop> Tended<F, J, V> {
         Ok(())
     }
 
-    /// Makes a Sync of the superuser as session 0, and moves on. Whether it was served.
-    fn sync<D: Write>(&mut self, teller: &mut D) -> bool
+    /// Makes a Sync of the superuser as session 0. Whether it was served.
+    fn sync(&mut self) -> bool
         ensures settled { result ≡ true → F.is_settled self.new.volume.store }
         ensures shown { AtPresent F.state self.old.volume
             (Begins (F.state self.new.volume.store) self.new.volume.level) }
+        ensures same { self.new ≡ record self.old { volume = self.new.volume } }
     {
-        let before = self.volume.journal().len();
         let answer = self.volume.call(0, &first_caller(), Request::Sync);
-        self.move_on(teller, before);
         matches!(answer, Answer::Served(Served::Done))
     }
 

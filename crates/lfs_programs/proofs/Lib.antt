@@ -1,2 +1,3 @@
 pub mod ServerLemmas
 pub mod ShellLemmas
+pub mod VolumeLemmas

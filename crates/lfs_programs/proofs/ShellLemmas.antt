@@ -1,13 +1,17 @@
 -- How `lfs_shell` ends, by how its talk did.
-use Rattle.std.proofs.Common.{◌≡◌, ℕ, Bool, true, false, List, Option, Result, Ok, Err, IfErr, IfOk, IsSome, inr, is_some, refl, sym}
+use Rattle.std.proofs.Common.{◌≡◌, ℕ, Bool, true, false, List, Option, Result, Ok, Err, IfErr, IfOk, IsSome, inl, inr, is_some, refl, sym}
 use Rattle.std.proofs.Common.{subst, ◌∙◌, arith}
 use Rattle.std.specs.Prelude.{MatchResult}
 use Rattle.lfs_audit.specs.declared.fault.RunFault.{RunFault}
 use Rattle.lfs_audit.specs.declared.fault.RunFault.TheVariants.{Read}
+use Rattle.lfs_audit.specs.declared.fault.RunFault.TheVariants as run
+use Rattle.lfs_live.specs.Faults.{IsTalkFault}
 use Rattle.lfs_live.specs.Scripts.{IsLogFault}
 use Rattle.lfs_programs.specs.Talks.{EndsShell, EndsTalk, Finishes, HasBrokenOff, HasTalked, HasTalkedSoFar, IsShellFault}
 use Rattle.lfs_programs.specs.declared.fault.ShellFault.{ShellFault}
-use Rattle.lfs_programs.specs.declared.fault.ShellFault.TheVariants.{Film, Journal, Line, Talk}
+use Rattle.lfs_programs.specs.declared.fault.ShellFault.TheVariants.{Film, Image, Journal, Line, Talk}
+use Rattle.lfs_programs.specs.declared.fault.ShellFault.TheVariants.{Unsaved}
+use Rattle.lfs_programs.specs.Volumes.{IsUnbegun}
 use Rattle.lfs_programs.specs.declared.filming.Heard.{Heard}
 use Rattle.lfs_programs.specs.declared.options.ShellOptions.{ShellOptions}
 
@@ -37,74 +41,160 @@ broken_talk contents options known start out fault told is so_far cause = record
   so_far = λ read. let same : fault ≡ Read = cc in so_far same;
   answered = λ why film. absurd (cc);
   unkept = λ journal. absurd (cc);
+  unsaved = λ image. absurd (cc);
   faulty = λ line. absurd (cc);
 }
+
+-- a talk that has no volume to begin with
+unbegun_cause : (options : ShellOptions) (fault : ShellFault) → IsUnbegun options fault → IsShellFault options fault
+unbegun_cause options (Talk (run.Format fault)) cause = cause
+unbegun_cause options (Talk run.Memory) cause = tt
+unbegun_cause options (Talk run.Read) cause = absurd cause
+unbegun_cause options (Talk run.TooLong) cause = absurd cause
+unbegun_cause options (Talk run.Write) cause = absurd cause
+unbegun_cause options (Talk (run.Script fault)) cause = absurd cause
+unbegun_cause options (Image fault) cause = cause
+unbegun_cause options (Film fault) cause = absurd cause
+unbegun_cause options Journal cause = absurd cause
+unbegun_cause options Unsaved cause = absurd cause
+unbegun_cause options Line cause = absurd cause
+
+unbegun_other : (options : ShellOptions) (fault other : ShellFault) → IsUnbegun options fault → fault ≡ other
+    → IsUnbegun options other
+unbegun_other options fault other cause same = subst (IsUnbegun options) same cause
+
+pub ends_unbegun : {R W D F : Type 0} (contents : F → Option (List ℕ)) (options : ShellOptions)
+    (known start out : Option (List ℕ)) (status : ℕ) (in_before in_after : R) (out_before out_after : W)
+    (err_before err_after : D) (fault : ShellFault) → IsUnbegun options fault → status ≡ 1
+    → EndsTalk contents options known start out status in_before in_after out_before out_after err_before err_after
+ends_unbegun contents options known start out status in_before in_after out_before out_after err_before err_after fault
+    cause is =
+    ends_broken contents options known start out status in_before in_after out_before out_after err_before err_after is
+    (record {
+      fault = fault;
+      cause = unbegun_cause options fault cause;
+      so_far = λ read. absurd (unbegun_other options fault (Talk Read) cause read);
+      answered = λ why film. absurd (unbegun_other options fault (Film why) cause film);
+      unkept = λ journal. absurd (unbegun_other options fault Journal cause journal);
+      unsaved = λ image. absurd (unbegun_other options fault Unsaved cause image);
+      faulty = λ line. absurd (unbegun_other options fault Line cause line);
+    })
+
+-- the fault of a talk is one of a talk over a volume that is laid out
+talk_cause : (options : ShellOptions) (fault : RunFault) → IsTalkFault fault
+    → IsLogFault options.params.segments options.params.inodes options.params.frames fault
+talk_cause options run.Read cause = cause
+talk_cause options run.TooLong cause = cause
+talk_cause options (run.Script fault) cause = cause
+talk_cause options (run.Format fault) cause = absurd cause
+talk_cause options run.Memory cause = cause
+talk_cause options run.Write cause = cause
+
+-- the file of the journal has each entry, and the volume is kept
+whole : {F : Type 0} (contents : F → Option (List ℕ)) (options : ShellOptions) (known start out : Option (List ℕ))
+    (heard : Heard) → heard.is_kept ≡ true → heard.is_saved ≡ true
+    → HasTalked contents options heard.is_kept heard.is_saved known start out
+    → HasTalked contents options true true known start out
+whole contents options known start out heard kept saved talked =
+    subst (λ (b : Bool). HasTalked contents options b true known start out) kept
+    (subst (λ (b : Bool). HasTalked contents options heard.is_kept b known start out) saved talked)
 
 -- a talk, what it has besides, and the status that is told of it
 pub ends_talk : {R W D F : Type 0} (contents : F → Option (List ℕ)) (options : ShellOptions)
     (known start out : Option (List ℕ)) (status : ℕ) (in_before in_after : R) (out_before out_after : W)
     (err_before err_between err_after : D) (heard : Result Heard RunFault) (outcome : Result (Unit {0}) ShellFault)
-    → IfOk heard (λ h. HasTalked contents options h.is_kept known start out)
-    → IfOk heard (λ h. h.is_kept ≡ true → err_between ≡ err_before)
+    → IfOk heard (λ h. HasTalked contents options h.is_kept h.is_saved known start out)
+    → IfOk heard (λ h. h.is_kept ≡ true → h.is_saved ≡ true → err_between ≡ err_before)
     → IfOk heard (λ h. h.is_kept ≡ false → IsSome options.journal_out)
+    → IfOk heard (λ h. h.is_saved ≡ false → IsSome options.image)
     → IfErr heard (λ fault. fault ≡ Read → HasTalkedSoFar options known start out)
-    → IfErr heard (IsLogFault options.params.segments options.params.inodes options.params.frames)
+    → IfErr heard IsTalkFault
     → Finishes contents options heard outcome
     → MatchResult outcome (λ _. status ≡ 0) (λ _. status ≡ 1) → IfOk outcome (λ _. err_after ≡ err_between)
     → EndsTalk contents options known start out status in_before in_after out_before out_after err_before err_after
 ends_talk contents options known start out status in_before in_after out_before out_after err_before err_between
-    err_after (Err fault) (Ok done) talked silent kept so_far cause finishes is untold = absurd (cc)
+    err_after (Err fault) (Ok done) talked silent kept saved so_far cause finishes is untold = absurd (cc)
 ends_talk contents options known start out status in_before in_after out_before out_after err_before err_between
-    err_after (Err fault) (Err told) talked silent kept so_far cause finishes is untold =
+    err_after (Err fault) (Err told) talked silent kept saved so_far cause finishes is untold =
     let same : told ≡ Talk fault = cc in
     ends_broken contents options known start out status in_before in_after out_before out_after err_before err_after is
-    (broken_talk contents options known start out fault told same so_far cause)
+    (broken_talk contents options known start out fault told same so_far (talk_cause options fault cause))
 ends_talk contents options known start out status in_before in_after out_before out_after err_before err_between
-    err_after (Ok heard) (Ok done) talked silent kept so_far cause finishes is untold = record {
+    err_after (Ok heard) (Ok done) talked silent kept saved so_far cause finishes is untold = record {
       either = omega (arith, is);
       done = λ _. (
-        subst (λ (b : Bool). HasTalked contents options b known start out) finishes.0 talked,
-        untold ∙ silent finishes.0,
+        whole contents options known start out heard finishes.0 finishes.1 talked,
+        untold ∙ silent finishes.0 finishes.1,
       );
-      filmed = λ _. finishes.1;
+      filmed = λ _. finishes.2;
       failed = λ one. absurd (omega (arith, is, one));
       unmade = λ two. absurd (omega (arith, is, two));
     }
 ends_talk contents options known start out status in_before in_after out_before out_after err_before err_between
-    err_after (Ok heard) (Err (Talk fault)) talked silent kept so_far cause finishes is untold = absurd finishes
+    err_after (Ok heard) (Err (Talk fault)) talked silent kept saved so_far cause finishes is untold = absurd finishes
 ends_talk contents options known start out status in_before in_after out_before out_after err_before err_between
-    err_after (Ok heard) (Err (Film why)) talked silent kept so_far cause finishes is untold =
+    err_after (Ok heard) (Err (Image fault)) talked silent kept saved so_far cause finishes is untold = absurd finishes
+ends_talk contents options known start out status in_before in_after out_before out_after err_before err_between
+    err_after (Ok heard) (Err (Film why)) talked silent kept saved so_far cause finishes is untold =
     ends_broken contents options known start out status in_before in_after out_before out_after err_before err_after is
     (record {
       fault = Film why;
       cause = finishes;
       so_far = λ talk. absurd (cc);
-      answered = λ _ _. (heard.is_kept, talked);
+      answered = λ _ _. (heard.is_kept, heard.is_saved, talked);
       unkept = λ journal. absurd (cc);
+      unsaved = λ image. absurd (cc);
       faulty = λ line. absurd (cc);
     })
 ends_talk contents options known start out status in_before in_after out_before out_after err_before err_between
-    err_after (Ok heard) (Err Journal) talked silent kept so_far cause finishes is untold =
+    err_after (Ok heard) (Err Journal) talked silent kept saved so_far cause finishes is untold =
     ends_broken contents options known start out status in_before in_after out_before out_after err_before err_after is
     (record {
       fault = Journal;
       cause = kept finishes;
       so_far = λ talk. absurd (cc);
       answered = λ why film. absurd (cc);
-      unkept = λ _. subst (λ (b : Bool). HasTalked contents options b known start out) finishes talked;
+      unkept = λ _. (heard.is_saved, subst (λ (b : Bool). HasTalked contents options b heard.is_saved known start out) finishes talked);
+      unsaved = λ image. absurd (cc);
       faulty = λ line. absurd (cc);
     })
 ends_talk contents options known start out status in_before in_after out_before out_after err_before err_between
-    err_after (Ok heard) (Err Line) talked silent kept so_far cause finishes is untold =
+    err_after (Ok heard) (Err Unsaved) talked silent kept saved so_far cause finishes is untold =
     ends_broken contents options known start out status in_before in_after out_before out_after err_before err_after is
     (record {
-      fault = Line;
-      cause = finishes.1;
+      fault = Unsaved;
+      cause = saved finishes.1;
       so_far = λ talk. absurd (cc);
       answered = λ why film. absurd (cc);
       unkept = λ journal. absurd (cc);
-      faulty = λ _. subst (λ (b : Bool). HasTalked contents options b known start out) finishes.0 talked;
+      unsaved = λ _. subst (λ (b : Bool). HasTalked contents options b false known start out) finishes.0 (subst (λ (b : Bool). HasTalked contents options heard.is_kept b known start out) finishes.1 talked);
+      faulty = λ line. absurd (cc);
     })
+ends_talk contents options known start out status in_before in_after out_before out_after err_before err_between
+    err_after (Ok heard) (Err Line) talked silent kept saved so_far cause finishes is untold =
+    ends_broken contents options known start out status in_before in_after out_before out_after err_before err_after is
+    (record {
+      fault = Line;
+      cause = finishes.2;
+      so_far = λ talk. absurd (cc);
+      answered = λ why film. absurd (cc);
+      unkept = λ journal. absurd (cc);
+      unsaved = λ image. absurd (cc);
+      faulty = λ _. whole contents options known start out heard finishes.0 finishes.1 talked;
+    })
+
+-- a talk whose journal's file is not made
+pub ends_unmade : {R W D F : Type 0} (contents : F → Option (List ℕ)) (options : ShellOptions)
+    (known start out : Option (List ℕ)) (status : ℕ) (here : R) (there : W) (err_before err_after : D)
+    → status ≡ 2 → IsSome options.journal_out
+    → EndsTalk contents options known start out status here here there there err_before err_after
+ends_unmade contents options known start out status here there err_before err_after is named = record {
+  either = omega (arith, is);
+  done = λ none. absurd (omega (arith, is, none));
+  filmed = λ none. absurd (omega (arith, is, none));
+  failed = λ one. absurd (omega (arith, is, one));
+  unmade = λ _. (inl named, refl, refl);
+}
 
 -- a talk over another reader, of which nothing is told
 pub ends_elsewhere : {R S W D F : Type 0} (contents : F → Option (List ℕ)) (options : ShellOptions)

@@ -1,4 +1,5 @@
-pub mod Ranges
 pub mod Asked
 pub mod Ends
+pub mod Ranges
 pub mod Talks
+pub mod Volumes

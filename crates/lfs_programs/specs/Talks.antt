@@ -9,43 +9,64 @@ use Rattle.lfs_programs.specs.Ranges.{IsInRange}
 use Rattle.lfs_programs.specs.declared.options.ShellOptions.{ShellOptions}
 use Rattle.lfs_audit.specs.declared.fault.RunFault.{RunFault}
 use Rattle.lfs_audit.specs.declared.fault.RunFault.TheVariants.{Read}
-use Rattle.lfs_live.specs.Scripts.{HasHeardOfLog, IsKeptLogTalk, IsLogFault, IsLogTalk, Manner}
+use Rattle.lfs_live.specs.Held.{Held, Sink}
+use Rattle.lfs_live.specs.Scripts.{HasHeardOver, IsKeptTalkOver, IsLogFault, IsTalkOver, Manner, log_talker}
+use Rattle.lfs_live.specs.Talking.{IsKeptTalk}
+use Rattle.lfs_programs.specs.Volumes.{IsBegun, IsSaved}
+use Rattle.lfs_staging.specs.declared.parts.Parts.{Parts}
+use Rattle.lfs_volume.specs.Seen.{Seen}
 use Rattle.lfs_programs.specs.Ends.{EndsUnasked}
 use Rattle.lfs_programs.specs.declared.fault.FilmFault.{FilmFault}
 use Rattle.lfs_programs.specs.declared.fault.ShellFault.{ShellFault}
 use Rattle.lfs_programs.specs.declared.filming.Heard.{Heard}
-use Rattle.lfs_programs.specs.declared.fault.ShellFault.TheVariants.{Film, Journal, Line, Talk}
+use Rattle.lfs_programs.specs.declared.fault.ShellFault.TheVariants.{Film, Image, Journal, Line, Talk}
+use Rattle.lfs_programs.specs.declared.fault.ShellFault.TheVariants.{Unsaved}
 
 -- how a talk goes: with a sink that takes the entries of its journal or without one, and with passes unasked where they
 -- are asked for
 abbrev pub manner_of : ShellOptions → Bool → Manner
 manner_of options is_open = record { is_open = is_open; cleans = options.cleans }
 
--- A file's bytes, where they are known, grew by the lines of all entries of a talk, numbered from 1 on, where it took
--- them to the end.
-pub record HasFiled {F : Type 0} (contents : F → Option (List ℕ)) (options : ShellOptions) (is_kept : Bool)
+-- the volume that a talk left is kept in a file, where an image is asked for
+abbrev pub IsKept : {F : Type 0} → (F → Option (List ℕ)) → ShellOptions → Bool → Seen Parts → Type 0
+IsKept contents options is_saved left = is_saved ≡ true → IfSome options.image (λ _. IsSaved contents left)
+
+-- A volume was talked about, with its sink, up to the end, and kept behind that.
+pub record HasHeard {F J : Type 0} (contents : F → Option (List ℕ)) (sink : Sink J) (options : ShellOptions)
+    (is_saved : Bool) (old new : Held Parts J) (known left start out : Option (List ℕ)) : Type 0 where
+  pub after : Held Parts J
+  pub talk : IsKeptTalk log_talker sink old after known left start out
+  pub saved : IsKept contents options is_saved after.volume
+  pub same : new ≡ record after { volume = new.volume }
+
+-- The bytes of a reader were talked about up to the end of the talk, with all entries in memory, and the volume was kept.
+pub record HasAnswered {F : Type 0} (contents : F → Option (List ℕ)) (options : ShellOptions) (is_saved : Bool)
+    (known left start out : Option (List ℕ)) : Type 0 where
+  pub talk : IsTalkOver (IsBegun options) (manner_of options false) known left start out
+  pub saved : IsKept contents options is_saved talk.new.volume
+
+-- The same, and a file's bytes, where they are known, grew by the lines of all entries of the talk, numbered from 1 on,
+-- where it took them to the end.
+pub record HasFiled {F : Type 0} (contents : F → Option (List ℕ)) (options : ShellOptions) (is_kept is_saved : Bool)
     (known left start out : Option (List ℕ)) : Type 0 where
   pub before : F
   pub after : F
-  pub talk : let p = options.params in
-      IsKeptLogTalk p.segments p.inodes p.frames p.journal (manner_of options true) is_kept 1
-      (contents before) (contents after) known left start out
+  pub talk : IsKeptTalkOver (IsBegun options) (manner_of options true) is_kept 1 (contents before) (contents after)
+      known left start out
+  pub saved : IsKept contents options is_saved talk.talk.new.volume
 
 -- The bytes of a reader were talked about up to the end of the talk: with all entries in memory, or with a file of the
 -- journal, where one is asked for.
-pub record HasTalked {F : Type 0} (contents : F → Option (List ℕ)) (options : ShellOptions) (is_kept : Bool)
+pub record HasTalked {F : Type 0} (contents : F → Option (List ℕ)) (options : ShellOptions) (is_kept is_saved : Bool)
     (known start out : Option (List ℕ)) : Type 0 where
   pub left : Option (List ℕ)
-  pub alone : is_some options.journal_out ≡ false → let p = options.params in
-      IsLogTalk p.segments p.inodes p.frames p.journal (manner_of options false) known left start out
-  pub filed : is_some options.journal_out ≡ true → HasFiled contents options is_kept known left start out
+  pub alone : is_some options.journal_out ≡ false → HasAnswered contents options is_saved known left start out
+  pub filed : is_some options.journal_out ≡ true → HasFiled contents options is_kept is_saved known left start out
 
 -- the same up to a read that failed
-abbrev pub HasTalkedSoFar : ShellOptions → Option (List ℕ) → Option (List ℕ) → Option (List ℕ) → Type 0
-HasTalkedSoFar options known start out =
-    let p = options.params in
-    (left : Option (List ℕ)) × HasHeardOfLog p.segments p.inodes p.frames p.journal
-    (manner_of options (is_some options.journal_out)) known left start out
+pub record HasTalkedSoFar (options : ShellOptions) (known start out : Option (List ℕ)) : Type 0 where
+  pub left : Option (List ℕ)
+  pub heard : HasHeardOver (IsBegun options) (manner_of options (is_some options.journal_out)) known left start out
 
 -- a file, whose bytes these are where they are known, got the page of a film
 pub record HasPage {F : Type 0} (contents : F → Option (List ℕ)) (reel : Reel) : Type 0 where
@@ -57,51 +78,59 @@ pub record HasPage {F : Type 0} (contents : F → Option (List ℕ)) (reel : Ree
 abbrev pub IsFilmed : {F : Type 0} → (F → Option (List ℕ)) → Type 0
 IsFilmed contents = (reel : Reel) × HasPage contents reel
 
--- a talk may end in this fault, which is a film's or a journal's only where one is asked for, and a line's only where
--- that is asked for
+-- a talk may end in this fault: that of the talk or of its beginning; one of a film, a journal or an image only where such
+-- a file is asked for; and one of a line only where that is asked for
 abbrev pub IsShellFault : ShellOptions → ShellFault → Type 0
 IsShellFault options (Talk fault) = IsLogFault options.params.segments options.params.inodes options.params.frames fault
 IsShellFault options (Film fault) = IsSome options.film
 IsShellFault options Journal = IsSome options.journal_out
+IsShellFault options (Image fault) = IsSome options.image
+IsShellFault options Unsaved = IsSome options.image
 IsShellFault options Line = options.strict ≡ true
 
 -- A talk's outcome, with what it has besides: the talk's fault; or its film's, which is written where it is done; or that
--- the file of its journal has not each entry; or that a line had a fault, where that is asked for.
+-- the file of its journal has not each entry, or the volume is not kept; or that a line had a fault, where that is asked
+-- for.
 abbrev pub Finishes : {F : Type 0} → (F → Option (List ℕ)) → ShellOptions → Result Heard RunFault
     → Result (Unit {0}) ShellFault → Type 0
 Finishes contents options (Err fault) outcome = outcome ≡ Err (Talk fault)
 Finishes contents options (Ok heard) (Ok done) =
-    (heard.is_kept ≡ true) × IfSome options.film (λ _. IsFilmed contents)
+    (heard.is_kept ≡ true) × (heard.is_saved ≡ true) × IfSome options.film (λ _. IsFilmed contents)
     × (options.strict ≡ true → heard.has_fault ≡ false)
 Finishes contents options (Ok heard) (Err (Talk fault)) = ⊥
+Finishes contents options (Ok heard) (Err (Image fault)) = ⊥
 Finishes contents options (Ok heard) (Err (Film fault)) = IsSome options.film
 Finishes contents options (Ok heard) (Err Journal) = heard.is_kept ≡ false
+Finishes contents options (Ok heard) (Err Unsaved) = (heard.is_kept ≡ true) × (heard.is_saved ≡ false)
 Finishes contents options (Ok heard) (Err Line) =
-    (heard.is_kept ≡ true) × (options.strict ≡ true) × (heard.has_fault ≡ true)
+    (heard.is_kept ≡ true) × (heard.is_saved ≡ true) × (options.strict ≡ true) × (heard.has_fault ≡ true)
 
 -- A talk ended in a fault, which has its cause. Where a read failed, each line that was read by then is answered; where
--- a film was not written, the file of the journal took no more, or a line had a fault, all is.
+-- a film was not written, the file of the journal took no more, the volume was not kept, or a line had a fault, all is.
 pub record HasBrokenOff {F : Type 0} (contents : F → Option (List ℕ)) (options : ShellOptions)
     (known start out : Option (List ℕ)) : Type 0 where
   pub fault : ShellFault
   pub cause : IsShellFault options fault
   pub so_far : fault ≡ Talk Read → HasTalkedSoFar options known start out
-  pub answered : (why : FilmFault) → fault ≡ Film why → (is_kept : Bool) × HasTalked contents options is_kept known start out
-  pub unkept : fault ≡ Journal → HasTalked contents options false known start out
-  pub faulty : fault ≡ Line → HasTalked contents options true known start out
+  pub answered : (why : FilmFault) → fault ≡ Film why
+      → (is_kept : Bool) × (is_saved : Bool) × HasTalked contents options is_kept is_saved known start out
+  pub unkept : fault ≡ Journal → (is_saved : Bool) × HasTalked contents options false is_saved known start out
+  pub unsaved : fault ≡ Unsaved → HasTalked contents options true false known start out
+  pub faulty : fault ≡ Line → HasTalked contents options true true known start out
 
 -- a file is needed before anything is answered: that of the journal, or that of the lines
 abbrev pub NeedsFile : ShellOptions → Type 0
 NeedsFile options = IsSome options.journal_out ⊎ IsSome options.script
 
 -- A program that was asked for a talk ends with this status: 0 where it has its end, a file of the journal that is
--- asked for has each entry, a film that is asked for is written to a file, and nothing is told; 2 where a file that is
+-- asked for has each entry, the volume is kept in a file where an image is asked for, a film that is asked for is written to a
+-- file, and nothing is told; 2 where a file that is
 -- needed before could not be opened, and then nothing is read; else 1.
 pub record EndsTalk {R W D F : Type 0} (contents : F → Option (List ℕ)) (options : ShellOptions)
     (known start out : Option (List ℕ)) (status : ℕ) (in_before in_after : R) (out_before out_after : W)
     (err_before err_after : D) : Type 0 where
   pub either : status ≤ 2
-  pub done : status ≡ 0 → HasTalked contents options true known start out × (err_after ≡ err_before)
+  pub done : status ≡ 0 → HasTalked contents options true true known start out × (err_after ≡ err_before)
   pub filmed : status ≡ 0 → IfSome options.film (λ _. IsFilmed contents)
   pub failed : status ≡ 1 → HasBrokenOff contents options known start out
   pub unmade : status ≡ 2 → NeedsFile options × (in_after ≡ in_before) × (out_after ≡ out_before)

@@ -1,6 +1,7 @@
 //! Why a program doesn't begin, and why `lfs_shell` ends with status 1.
 
 use lfs_audit::fault::RunFault;
+use lfs_checking::fault::KeepFault;
 use std::io::ErrorKind;
 use thiserror::Error;
 
@@ -16,6 +17,12 @@ pub enum ShellFault {
     /// All was answered, and the file of the journal took no more entries, which was told by then.
     #[error("journal not written")]
     Journal,
+    /// No volume was loaded from the image's file, and nothing is read.
+    #[error("{0}")]
+    Image(KeepFault),
+    /// All was answered, and the volume is not kept in the image's file, which was told by then.
+    #[error("image not saved")]
+    Unsaved,
     /// All was answered, and a line has a fault, which was told as its answer.
     #[error("a line has a fault")]
     Line,

@@ -9,4 +9,5 @@ mod script;
 pub mod server;
 pub mod shell;
 mod telling;
+mod volume;
 mod words;

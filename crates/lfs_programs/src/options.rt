@@ -85,6 +85,9 @@ const STRICT: &str = "strict";
 /// The version of the programs, as `CHANGELOG.md` has it.
 const VERSION: &str = "1.0";
 
+/// The option of `lfs_shell` that takes the file of an image.
+const IMAGE: &str = "image";
+
 /// The option of `lfs_shell` that takes the file of a film.
 const FILM: &str = "film";
 
@@ -169,6 +172,8 @@ pub struct ShellOptions<'a> {
     pub journal_out: Option<&'a str>,
     /// The file of the lines, where they are not those of standard input.
     pub script: Option<&'a str>,
+    /// The file that the volume is loaded from, where there is one, and in which it is kept at the end.
+    pub image: Option<&'a str>,
     /// Whether the status is 1 where a line has a fault.
     pub strict: bool,
 }
@@ -200,6 +205,7 @@ pub fn shell_options_of<'a, S: AsStr>(
                 film,
                 journal_out,
                 script: matches.get_str(SCRIPT),
+                image: matches.get_str(IMAGE),
                 strict: matches.get_flag(STRICT),
             })
         }
@@ -311,6 +317,7 @@ fn shell_command<'a>(alloc: Global) -> Result<Command<'a>, AllocError> {
         .arg(FRAMES.arg(alloc))?
         .arg(SHELL_JOURNAL.arg(alloc))?
         .arg(journal_out(alloc))?
+        .arg(image(alloc))?
         .arg(clean(alloc))?
         .arg(film(alloc))?
         .arg(strict(alloc))?
@@ -325,6 +332,17 @@ fn journal_out<'a>(alloc: Global) -> Arg<'a> {
         .action(ArgAction::Set)
         .help(
             "Writes each entry of the journal to FILE, which may not exist; --journal is then how many are kept in memory",
+        )
+}
+
+/// The option for an image.
+fn image<'a>(alloc: Global) -> Arg<'a> {
+    Arg::new(alloc, IMAGE)
+        .long(IMAGE)
+        .value_name("FILE")
+        .action(ArgAction::Set)
+        .help(
+            "Loads the volume from FILE where there is one, with its segments and numbers, and saves it there at the end",
         )
 }
 

@@ -4,19 +4,23 @@ ghost use Rattle.std.specs.Prelude.{◌≡◌, false, true, IfErr, IfOk, IsSome,
 ghost use Rattle.clap.specs.Values.{kind_of};
 ghost use Rattle.lfs_programs.specs.Ranges.{IsInRange};
 ghost use Rattle.lfs_audit.specs.declared.fault.RunFault.TheVariants.{Read as Failed};
-ghost use Rattle.lfs_live.specs.Scripts.{IsLogFault};
+ghost use Rattle.lfs_live.specs.Faults.{IsTalkFault};
+ghost use Rattle.lfs_programs.specs.Volumes.{IsBegun};
 ghost use Rattle.lfs_programs.specs.Ends.{EndsUnasked};
 ghost use Rattle.lfs_programs.specs.Talks.{EndsShell, EndsTalk, HasTalked, HasTalkedSoFar, IsShellEnd};
 
 use crate::fault::{OpenFault, ShellFault};
-use crate::filming::{Heard, NAME, finish, hear};
+use crate::filming::{Heard, NAME, Outset, finish, hear};
 use crate::options::{ShellOptions, shell_not_utf8, shell_options_of};
 use crate::refusing::refuse;
 use crate::script::open_script;
+use crate::volume::begin;
 use crate::words::{NoWords, words};
 use clap::Error;
 use lfs_audit::fault::RunFault;
 use lfs_audit::tell::{end, tell};
+use lfs_logstore::LogStore;
+use lfs_volume::volume::Volume;
 use std::alloc::{AllocError, Global};
 use std::env::Env;
 use std::fs::OpenOptions;
@@ -114,9 +118,36 @@ where
         (R.remaining reader.old) (W.contents stdout.old) (W.contents stdout.new)
         result reader.old reader.new stdout.old stdout.new stderr.old stderr.new }
 {
+    match begin(files, alloc, options) {
+        Ok(volume) => talk_on(files, alloc, options, volume, reader, stdout, stderr),
+        Err(fault) => end_talk(stderr, Err(fault)),
+    }
+}
+
+/// The same on a volume.
+fn talk_on<F, R, W, D>(
+    files: &F,
+    alloc: Global,
+    options: &ShellOptions<'_>,
+    volume: Volume<LogStore>,
+    reader: &mut R,
+    stdout: &mut W,
+    stderr: &mut D,
+) -> u8
+where
+    F: Files,
+    R: Read,
+    W: Write,
+    D: Write,
+    requires { IsBegun options.now volume }
+    ensures { EndsTalk F.File.contents options.now
+        (R.remaining reader.old) (W.contents stdout.old) (W.contents stdout.new)
+        result reader.old reader.new stdout.old stdout.new stderr.old stderr.new }
+{
     match open_journal(files, options.journal_out) {
         Ok(journal) => {
-            let heard = run(alloc, reader, stdout, stderr, journal, options);
+            let outset = Outset { volume, journal };
+            let heard = run(files, alloc, reader, stdout, stderr, outset, options);
             let outcome = finish(files, alloc, options, heard);
             end_talk(stderr, outcome)
         }
@@ -148,13 +179,13 @@ fn open_journal<F: Files>(files: &F, path: Option<&str>) -> Result<Option<F::Fil
     }
 }
 
-/// The status of a talk, whose fault is told, but for one of the journal's file, which was told by then.
+/// The status of a talk, whose fault is told, but for one of the journal's or the image's file, which was told by then.
 fn end_talk<D: Write>(stderr: &mut D, outcome: Result<(), ShellFault>) -> u8
     ensures status { MatchResult outcome (λ _. result ≡ 0) (λ _. result ≡ 1) }
     ensures silent { IfOk outcome (λ _. stderr.new ≡ stderr.old) }
 {
     match outcome {
-        Err(ShellFault::Journal) => 1,
+        Err(ShellFault::Journal | ShellFault::Unsaved) => 1,
         outcome => end(stderr, NAME, outcome),
     }
 }
@@ -164,25 +195,28 @@ fn end_talk<D: Write>(stderr: &mut D, outcome: Result<(), ShellFault>) -> u8
 /// # Errors
 ///
 /// The talk's fault; `Memory` where there is none for the pieces.
-fn run<F: Write + Drop, R: Read, W: Write, D: Write>(
+fn run<F: Files, R: Read, W: Write, D: Write>(
+    files: &F,
     alloc: Global,
     reader: &mut R,
     stdout: &mut W,
     stderr: &mut D,
-    journal: Option<F>,
+    outset: Outset<F::File>,
     options: &ShellOptions<'_>,
 ) -> Result<Heard, RunFault>
-    requires { is_some journal ≡ is_some options.now.journal_out }
-    ensures talked { IfOk result (λ heard. HasTalked F.contents options.now heard.is_kept
+    requires begun { IsBegun options.now outset.volume }
+    requires filed { is_some outset.journal ≡ is_some options.now.journal_out }
+    ensures talked { IfOk result (λ heard. HasTalked F.File.contents options.now heard.is_kept heard.is_saved
         (R.remaining reader.old) (W.contents stdout.old) (W.contents stdout.new)) }
-    ensures silent { IfOk result (λ heard. heard.is_kept ≡ true → stderr.new ≡ stderr.old) }
+    ensures silent { IfOk result (λ heard. heard.is_kept ≡ true → heard.is_saved ≡ true → stderr.new ≡ stderr.old) }
     ensures kept { IfOk result (λ heard. heard.is_kept ≡ false → IsSome options.now.journal_out) }
+    ensures saved { IfOk result (λ heard. heard.is_saved ≡ false → IsSome options.now.image) }
     ensures so_far { IfErr result (λ fault. fault ≡ Failed → HasTalkedSoFar options.now
         (R.remaining reader.old) (W.contents stdout.old) (W.contents stdout.new)) }
-    ensures fault { let p = options.now.params in IfErr result (IsLogFault p.segments p.inodes p.frames) }
+    ensures fault { IfErr result IsTalkFault }
 {
     match BufReader::new(alloc, reader) {
-        Ok(mut pieces) => hear(alloc, &mut pieces, stdout, stderr, journal, options),
+        Ok(mut pieces) => hear(files, alloc, &mut pieces, stdout, stderr, outset, options),
         Err(_) => Err(RunFault::Memory),
     }
 }

@@ -1,23 +1,59 @@
-use Rattle.std.proofs.Common.{◌≡◌, ℕ, false, true, refl, sym, ◌∙◌, subst, is_some}
-use Rattle.lfs_live.specs.Scripts.{IsKeptLogTalk}
-use Rattle.lfs_programs.specs.Talks.{manner_of}
+use Rattle.std.proofs.Common.{ap, false, is_some, refl, sym, true, ◌∙◌}
+use Rattle.std.proofs.lemmas.Result.{err_from_is_err_and}
+use Rattle.lfs_live.specs.Held.{sink_of}
+use Rattle.lfs_programs.proofs.VolumeLemmas.{still_closed, talked_alone, talked_filed, talked_so_far}
 use Rattle.lfs_programs.proofs.filming.hear.Goals as goal
 
-pub returns-in-Ok-run_kept-clause-talked : goal.returns-in-Ok-run_kept-clause-talked
-returns-in-Ok-run_kept-clause-talked c = λ c'. let p = c'.args.options.now.params in record {
-  left = c.R.Read.remaining c'.run_kept.new.reader;
-  alone = λ none. let has : is_some c'.args.journal ≡ true = subst (λ j. is_some j ≡ true) (sym c'.in-Some.is) refl in
-      let e : true ≡ false = sym has ∙ (c'.requires ∙ none) in absurd (cc);
-  filed = λ some. record {
-    before = c'.new.result.writer;
-    after = c'.in-Ok-run_kept.after.sink.writer;
-    talk = subst
-        (λ (number : ℕ). IsKeptLogTalk p.segments p.inodes p.frames p.journal
-        (manner_of c'.args.options.now true) c'.in-Ok-run_kept.after.is_open
-        number
-        (c.F.Write.contents c'.new.result.writer) (c.F.Write.contents c'.in-Ok-run_kept.after.sink.writer)
-        (c.R.Read.remaining c'.args.reader.now) (c.R.Read.remaining c'.run_kept.new.reader)
-        (c.W.Write.contents c'.args.writer.now) (c.W.Write.contents c'.run_kept.new.writer))
-        c'.new.ensures.first c'.in-Ok-run_kept.ensures.written;
-  };
-}
+pub returns-in_err-is_saved-clause-so_far : goal.returns-in_err-is_saved-clause-so_far
+returns-in_err-is_saved-clause-so_far g c =
+    let exit = err_from_is_err_and c.from_residual.result c.from_residual.ensures.1 in
+    rw (exit.1, exit.2)
+    (λ is. talked_so_far _ c.args.options.now false c.args.outset.volume _ _ c.hear_over.new.tended
+    _ (g.R.Read.remaining c.hear_over.new.reader) _ _
+    (sym (ap is_some c.in_default.is) ∙ c.requires.filed) c.new-tended.ensures c.requires.begun
+    (c.in_err-is_saved.ensures.so_far is))
+
+pub returns-in_err-is_saved-clause-fault : goal.returns-in_err-is_saved-clause-fault
+returns-in_err-is_saved-clause-fault g c =
+    let exit = err_from_is_err_and c.from_residual.result c.from_residual.ensures.1 in
+    rw (exit.1, exit.2) c.in_err-is_saved.ensures.fault
+
+pub returns-in_default-clause-talked : goal.returns-in_default-clause-talked
+returns-in_default-clause-talked g c =
+    rw c.heard.ensures.saved (talked_alone g.F.File.Write.contents _ c.args.options.now c.heard.result.is_kept
+    c.in_ok-is_saved.is_saved c.args.outset.volume _ _ c.hear_over.new.tended
+    _ (g.R.Read.remaining c.hear_over.new.reader) _ _
+    (sym c.requires.filed ∙ ap is_some c.in_default.is) c.new-tended.ensures c.requires.begun
+    c.in_ok-is_saved.ensures.heard)
+
+pub returns-in_default-clause-silent : goal.returns-in_default-clause-silent
+returns-in_default-clause-silent g c = λ kept saved.
+    let closed = ap (λ h. h.is_open) c.new-tended.ensures in
+    c.in_ok-is_saved.ensures.silent
+    (still_closed _ c.hear_over.new.tended.is_open closed c.in_ok-is_saved.ensures.opened)
+    (sym c.heard.ensures.saved ∙ saved)
+
+pub returns-in_err-is_saved-2-clause-so_far : goal.returns-in_err-is_saved-2-clause-so_far
+returns-in_err-is_saved-2-clause-so_far g c =
+    let residual = c.from_residual-in_err-is_saved-2 in
+    let exit = err_from_is_err_and residual.result residual.ensures.1 in
+    rw (exit.1, exit.2)
+    (λ is. talked_so_far _ c.args.options.now true c.args.outset.volume _ _ c.hear_over-2.new.tended
+    _ (g.R.Read.remaining c.hear_over-2.new.reader) _ _
+    (sym (ap is_some c.in-Some.is) ∙ c.requires.filed) c.new-tended-2.ensures c.requires.begun
+    (c.in_err-is_saved-2.ensures.so_far is))
+
+pub returns-in_err-is_saved-2-clause-fault : goal.returns-in_err-is_saved-2-clause-fault
+returns-in_err-is_saved-2-clause-fault g c =
+    let residual = c.from_residual-in_err-is_saved-2 in
+    let exit = err_from_is_err_and residual.result residual.ensures.1 in
+    rw (exit.1, exit.2) c.in_err-is_saved-2.ensures.fault
+
+pub returns-clause-talked : goal.returns-clause-talked
+returns-clause-talked g c =
+    rw c.heard-2.ensures.saved (talked_filed g.F.File.Write.contents _ (λ k. k.writer) c.args.options.now
+    c.heard-2.result.is_kept c.in_ok-is_saved-2.is_saved c.args.outset.volume c.new.result _ c.hear_over-2.new.tended
+    _ (g.R.Read.remaining c.hear_over-2.new.reader) _ _
+    (sym c.requires.filed ∙ ap is_some c.in-Some.is) (λ k. refl) c.new.ensures.first
+    (c.heard-2.ensures.kept ∙ c.into_witnesses-after-2.ensures.is_open) c.new-tended-2.ensures c.requires.begun
+    c.in_ok-is_saved-2.ensures.heard)

@@ -1,9 +1,6 @@
-use Rattle.lfs_programs.proofs.ShellLemmas.{ends_talk}
+use Rattle.lfs_programs.proofs.ShellLemmas.{ends_unbegun}
 use Rattle.lfs_programs.proofs.shell.talk_over.Goals as goal
 
-pub returns-in-Ok : goal.returns-in-Ok
-returns-in-Ok g c = ends_talk g.F.File.Write.contents c.args.options.now
-    _ _ _ _ c.args.reader.now c.run-heard.new.reader c.args.stdout.now c.run-heard.new.stdout _ _ _
-    c.run-heard.result c.finish-outcome.result
-    c.run-heard.ensures.talked c.run-heard.ensures.silent c.run-heard.ensures.kept c.run-heard.ensures.so_far
-    c.run-heard.ensures.fault c.finish-outcome.ensures c.end_talk.ensures.status c.end_talk.ensures.silent
+pub returns-in-Err : goal.returns-in-Err
+returns-in-Err g c = ends_unbegun g.F.File.Write.contents c.args.options.now _ _ _ _ c.args.reader.now c.args.reader.now
+    c.args.stdout.now c.args.stdout.now _ _ c.in-Err.fault c.in-Err.ensures.fault c.end_talk.ensures.status

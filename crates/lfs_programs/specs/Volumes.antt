@@ -1,0 +1,42 @@
+-- The volume that a talk begins with, and the file in which it is kept.
+use Rattle.std.specs.Prelude.{◌≡◌, ◌⊎◌, ℕ, List, [], Option, IsSome}
+use Rattle.lfs_staging.specs.declared.parts.Parts.{Parts}
+use Rattle.lfs_logstore.specs.States.{state_of}
+use Rattle.lfs_volume.specs.Journals.{AtPresent, Begins}
+use Rattle.lfs_volume.specs.Seen.{Seen}
+use Rattle.lfs_server.specs.Fresh.{IsFormatFault}
+use Rattle.lfs_checking.specs.Files.{HasImage, IsLoaded}
+use Rattle.lfs_audit.specs.declared.fault.RunFault.TheVariants as run
+use Rattle.lfs_live.specs.Scripts.{IsFresh}
+use Rattle.lfs_programs.specs.declared.fault.ShellFault.{ShellFault}
+use Rattle.lfs_programs.specs.declared.fault.ShellFault.TheVariants.{Talk, Image}
+use Rattle.lfs_programs.specs.declared.options.ShellOptions.{ShellOptions}
+
+-- a volume is that of an image, with the frames and the journal's limit that are asked for, and its journal begins there
+pub record IsOfImage (options : ShellOptions) (v : Seen Parts) : Type 0 where
+  pub loaded : IsLoaded options.params.frames v.store v.level
+  pub empty : v.journal ≡ []
+  pub room : v.limit ≡ options.params.journal
+  pub since : v.since ≡ v.store
+  pub since_level : v.since_level ≡ v.level
+
+-- a volume is fresh, with the numbers that are asked for; or, where an image is asked for, it may be that of one
+abbrev pub IsBegun : ShellOptions → Seen Parts → Type 0
+IsBegun options v =
+    let p = options.params in
+    IsFresh p.segments p.inodes p.frames p.journal v ⊎ (IsSome options.image × IsOfImage options v)
+
+-- a talk has no volume to begin with, for this fault
+abbrev pub IsUnbegun : ShellOptions → ShellFault → Type 0
+IsUnbegun options (Talk (run.Format fault)) =
+    IsFormatFault options.params.segments options.params.inodes options.params.frames fault
+IsUnbegun options (Talk run.Memory) = Unit {0}
+IsUnbegun options (Image fault) = IsSome options.image
+IsUnbegun options fault = ⊥
+
+-- a file got the image of what a talk left of a volume: a store of which nothing waits, and a level, that show the tree
+-- that the journal led to
+pub record IsSaved {F : Type 0} (contents : F → Option (List ℕ)) (left : Seen Parts) : Type 0 where
+  pub saved : Seen Parts
+  pub shown : AtPresent state_of left (Begins (state_of saved.store) saved.level)
+  pub image : HasImage contents saved.store.log saved.level

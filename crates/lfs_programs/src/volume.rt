@@ -1,0 +1,116 @@
+//! The volume of a talk: fresh, or that of an image's file, in which it is kept at the end.
+
+ghost use Rattle.std.specs.Prelude.{◌≡◌, false, true, IfErr, IfOk, IfSome, IsSome, OnOk};
+ghost use Rattle.lfs_checking.specs.Files.{IsLoaded};
+ghost use Rattle.lfs_programs.specs.Volumes.{IsBegun, IsSaved, IsUnbegun};
+
+use crate::fault::ShellFault;
+use crate::filming::NAME;
+use crate::options::ShellOptions;
+use lfs_audit::fault::RunFault;
+use lfs_checking::fault::KeepFault;
+use lfs_checking::keeping::{load_file, save_file};
+use lfs_io::tell::tell;
+use lfs_live::tended::Tended;
+use lfs_logstore::LogStore;
+use lfs_server::fresh::fresh_volume;
+use lfs_sinks::sink::JournalSink;
+use lfs_types::level::Level;
+use lfs_volume::volume::Volume;
+use std::alloc::{AllocError, Global};
+use std::io::Write;
+use std::rt::Files;
+
+/// The volume that a talk begins with: that of the image's file, where one is asked for and there is such a file, and else a
+/// fresh one.
+///
+/// # Errors
+///
+/// `Talk` with a fault of the format, or `Memory`; `Image` of a file that can't be read, or is the image of no volume.
+pub(crate) fn begin<F: Files>(
+    files: &F,
+    alloc: Global,
+    options: &ShellOptions<'_>,
+) -> Result<Volume<LogStore>, ShellFault>
+    ensures begun { IfOk result (IsBegun options.now) }
+    ensures fault { IfErr result (IsUnbegun options.now) }
+{
+    let Some(path) = options.image else {
+        return fresh(alloc, options);
+    };
+    match load_file(files, alloc, path, options.params.frames) {
+        Ok(Some((store, level))) => over(alloc, store, level, options),
+        Ok(None) => fresh(alloc, options),
+        Err(fault) => Err(ShellFault::Image(fault)),
+    }
+}
+
+/// A fresh volume.
+fn fresh(alloc: Global, options: &ShellOptions<'_>) -> Result<Volume<LogStore>, ShellFault>
+    ensures begun { IfOk result (IsBegun options.now) }
+    ensures fault { IfErr result (IsUnbegun options.now) }
+{
+    match fresh_volume(alloc, options.params) {
+        Ok(volume) => Ok(volume),
+        Err(fault) => Err(ShellFault::Talk(RunFault::Format(fault))),
+    }
+}
+
+/// A volume over the store of an image.
+fn over(
+    alloc: Global,
+    store: LogStore,
+    level: Level,
+    options: &ShellOptions<'_>,
+) -> Result<Volume<LogStore>, ShellFault>
+    requires image { IsSome options.now.image }
+    requires loaded { IsLoaded options.now.params.frames store level }
+    ensures begun { IfOk result (IsBegun options.now) }
+    ensures fault { IfErr result (IsUnbegun options.now) }
+{
+    match Volume::over(alloc, store, level, options.params.journal) {
+        Ok(volume) => Ok(volume),
+        Err(AllocError) => Err(ShellFault::Talk(RunFault::Memory)),
+    }
+}
+
+/// Keeps the volume that a talk left in the image's file, where one is asked for. Whether it is kept there; why not is told.
+pub(crate) fn keep<F: Files, J: JournalSink + Drop, V: Drop, D: Write>(
+    files: &F,
+    alloc: Global,
+    teller: &mut D,
+    tended: &mut Tended<LogStore, J, V>,
+    options: &ShellOptions<'_>,
+) -> bool
+    ensures saved { result ≡ true → IfSome options.now.image (λ _. IsSaved F.File.contents tended.old.volume) }
+    ensures silent { result ≡ true → teller.new ≡ teller.old }
+    ensures asked { result ≡ false → IsSome options.now.image }
+    ensures same { tended.new ≡ record tended.old { volume = tended.new.volume } }
+{
+    let Some(path) = options.image else {
+        return true;
+    };
+    match save(files, alloc, tended, path) {
+        Ok(()) => true,
+        Err(fault) => {
+            let _ = tell(teller, NAME, &fault);
+            false
+        }
+    }
+}
+
+/// Writes what waits, and saves the volume in a file.
+fn save<F: Files, J: JournalSink + Drop, V: Drop>(
+    files: &F,
+    alloc: Global,
+    tended: &mut Tended<LogStore, J, V>,
+    path: &str,
+) -> Result<(), KeepFault>
+    ensures saved { OnOk result (IsSaved F.File.contents tended.old.volume) }
+    ensures same { tended.new ≡ record tended.old { volume = tended.new.volume } }
+{
+    if !tended.settle(alloc)? {
+        return Err(KeepFault::Save);
+    }
+    save_file(files, alloc, tended.store(), tended.level(), path)
+}
