@@ -1,5 +1,6 @@
 -- How `lfs_shell` ends, by how its talk did.
-use Rattle.std.proofs.Common.{◌≡◌, ℕ, Bool, true, false, List, Option, Result, Ok, Err, IfErr, IfOk, IsSome, inl, inr, is_some, refl, sym}
+use Rattle.std.proofs.Common.{◌≡◌, ℕ, Bool, true, false, List, Option, Result, Ok, Err, IfErr, IfOk, IsSome, inl, inr}
+use Rattle.std.proofs.Common.{is_some, refl, sym}
 use Rattle.std.proofs.Common.{subst, ◌∙◌, arith}
 use Rattle.std.specs.Prelude.{MatchResult}
 use Rattle.lfs_audit.specs.declared.fault.RunFault.{RunFault}
@@ -7,7 +8,8 @@ use Rattle.lfs_audit.specs.declared.fault.RunFault.TheVariants.{Read}
 use Rattle.lfs_audit.specs.declared.fault.RunFault.TheVariants as run
 use Rattle.lfs_live.specs.Faults.{IsTalkFault}
 use Rattle.lfs_live.specs.Scripts.{IsLogFault}
-use Rattle.lfs_programs.specs.Talks.{EndsShell, EndsTalk, Finishes, HasBrokenOff, HasTalked, HasTalkedSoFar, IsShellFault}
+use Rattle.lfs_programs.specs.Talks.{EndsShell, EndsTalk, Finishes, HasBrokenOff, HasTalked, HasTalkedSoFar}
+use Rattle.lfs_programs.specs.Talks.{IsShellFault}
 use Rattle.lfs_programs.specs.declared.fault.ShellFault.{ShellFault}
 use Rattle.lfs_programs.specs.declared.fault.ShellFault.TheVariants.{Film, Image, Journal, Line, Talk}
 use Rattle.lfs_programs.specs.declared.fault.ShellFault.TheVariants.{Unsaved}
@@ -154,7 +156,11 @@ ends_talk contents options known start out status in_before in_after out_before 
       cause = kept finishes;
       so_far = λ talk. absurd (cc);
       answered = λ why film. absurd (cc);
-      unkept = λ _. (heard.is_saved, subst (λ (b : Bool). HasTalked contents options b heard.is_saved known start out) finishes talked);
+      unkept = λ _. (
+        heard.is_saved,
+        subst (λ (b : Bool). HasTalked contents options b heard.is_saved known start out)
+            finishes talked,
+      );
       unsaved = λ image. absurd (cc);
       faulty = λ line. absurd (cc);
     })
@@ -167,7 +173,8 @@ ends_talk contents options known start out status in_before in_after out_before 
       so_far = λ talk. absurd (cc);
       answered = λ why film. absurd (cc);
       unkept = λ journal. absurd (cc);
-      unsaved = λ _. subst (λ (b : Bool). HasTalked contents options b false known start out) finishes.0 (subst (λ (b : Bool). HasTalked contents options heard.is_kept b known start out) finishes.1 talked);
+      unsaved = λ _. subst (λ (b : Bool). HasTalked contents options b false known start out) finishes.0
+          (subst (λ (b : Bool). HasTalked contents options heard.is_kept b known start out) finishes.1 talked);
       faulty = λ line. absurd (cc);
     })
 ends_talk contents options known start out status in_before in_after out_before out_after err_before err_between
@@ -200,7 +207,8 @@ ends_unmade contents options known start out status here there err_before err_af
 pub ends_elsewhere : {R S W D F : Type 0} (contents : F → Option (List ℕ)) (options : ShellOptions)
     (known start out : Option (List ℕ)) (status : ℕ) (there_before there_after : S) (here : R)
     (out_before out_after : W) (err_before err_after : D)
-    → EndsTalk contents options known start out status there_before there_after out_before out_after err_before err_after
+    → EndsTalk contents options known start out status there_before there_after out_before out_after err_before
+    err_after
     → EndsTalk contents options known start out status here here out_before out_after err_before err_after
 ends_elsewhere contents options known start out status there_before there_after here out_before out_after err_before
     err_after ends = record {
@@ -218,9 +226,11 @@ pub ends_file : {R S W D F : Type 0} (contents : F → Option (List ℕ)) (optio
     (known start out : Option (List ℕ)) (status : ℕ) (there_before there_after : S) (here : R)
     (out_before out_after : W) (err_before err_after : D) (bytes : Option (List ℕ))
     → true ≡ is_some options.script
-    → EndsTalk contents options bytes start out status there_before there_after out_before out_after err_before err_after
+    → EndsTalk contents options bytes start out status there_before there_after out_before out_after err_before
+    err_after
     → EndsShell contents options known start out status here here out_before out_after err_before err_after
-ends_file contents options known start out status there_before there_after here out_before out_after err_before err_after
+ends_file contents options known start out status there_before there_after here out_before out_after err_before
+    err_after
     bytes named ends = record {
       bytes = bytes;
       own = λ none. let other : true ≡ false = rw none at named in absurd (cc);

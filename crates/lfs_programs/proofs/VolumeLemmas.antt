@@ -1,5 +1,6 @@
 -- Talks over the volume that was asked for.
-use Rattle.std.proofs.Common.{◌≡◌, ℕ, ◌⊎◌, Bool, true, false, List, [], ◌++◌, Option, None, Some, inl, inr, refl, sym, ap}
+use Rattle.std.proofs.Common.{◌≡◌, ℕ, ◌⊎◌, Bool, true, false, List, [], ◌++◌, Option, None, Some, inl, inr, refl, sym}
+use Rattle.std.proofs.Common.{ap}
 use Rattle.std.proofs.Common.{subst, ◌∙◌, ◌==◌, is_some}
 use Rattle.std.specs.Io.Buffered.{reader_buffer, reader_capacity, reader_inner, reader_remaining}
 use Rattle.std.proofs.KnownBytes.{prepend_known-nil}
@@ -79,8 +80,10 @@ talked_filed {F} {J} contents sink of options is_kept is_saved volume j old new 
         talk = record {
           talk = talk.talk;
           kept = λ taking. subst (λ (n : ℕ). IsJournalOf n (contents (of j)) (contents (of h.after.sink)) entries) first
-              (subst (λ (b : Option (List ℕ)). IsJournalOf (sink.next j) b (contents (of h.after.sink)) entries) (holds j)
-              (subst (λ (b : Option (List ℕ)). IsJournalOf (sink.next j) (sink.contents j) b entries) (holds h.after.sink)
+              (subst (λ (b : Option (List ℕ)). IsJournalOf (sink.next j) b (contents (of h.after.sink)) entries)
+              (holds j)
+              (subst (λ (b : Option (List ℕ)). IsJournalOf (sink.next j) (sink.contents j) b entries)
+              (holds h.after.sink)
               (talk.kept (sym taking_on ∙ taking))));
         };
         saved = h.saved;

@@ -39,7 +39,8 @@ pub record HasHeard {F J : Type 0} (contents : F → Option (List ℕ)) (sink : 
   pub saved : IsKept contents options is_saved after.volume
   pub same : new ≡ record after { volume = new.volume }
 
--- The bytes of a reader were talked about up to the end of the talk, with all entries in memory, and the volume was kept.
+-- The bytes of a reader were talked about up to the end of the talk, with all entries in memory, and the volume was
+-- kept.
 pub record HasAnswered {F : Type 0} (contents : F → Option (List ℕ)) (options : ShellOptions) (is_saved : Bool)
     (known left start out : Option (List ℕ)) : Type 0 where
   pub talk : IsTalkOver (IsBegun options) (manner_of options false) known left start out
@@ -78,8 +79,8 @@ pub record HasPage {F : Type 0} (contents : F → Option (List ℕ)) (reel : Ree
 abbrev pub IsFilmed : {F : Type 0} → (F → Option (List ℕ)) → Type 0
 IsFilmed contents = (reel : Reel) × HasPage contents reel
 
--- a talk may end in this fault: that of the talk or of its beginning; one of a film, a journal or an image only where such
--- a file is asked for; and one of a line only where that is asked for
+-- a talk may end in this fault: that of the talk or of its beginning; one of a film, a journal or an image only where
+-- such a file is asked for; and one of a line only where that is asked for
 abbrev pub IsShellFault : ShellOptions → ShellFault → Type 0
 IsShellFault options (Talk fault) = IsLogFault options.params.segments options.params.inodes options.params.frames fault
 IsShellFault options (Film fault) = IsSome options.film
@@ -88,9 +89,9 @@ IsShellFault options (Image fault) = IsSome options.image
 IsShellFault options Unsaved = IsSome options.image
 IsShellFault options Line = options.strict ≡ true
 
--- A talk's outcome, with what it has besides: the talk's fault; or its film's, which is written where it is done; or that
--- the file of its journal has not each entry, or the volume is not kept; or that a line had a fault, where that is asked
--- for.
+-- A talk's outcome, with what it has besides: the talk's fault; or its film's, which is written where it is done; or
+-- that the file of its journal has not each entry, or the volume is not kept; or that a line had a fault, where that is
+-- asked for.
 abbrev pub Finishes : {F : Type 0} → (F → Option (List ℕ)) → ShellOptions → Result Heard RunFault
     → Result (Unit {0}) ShellFault → Type 0
 Finishes contents options (Err fault) outcome = outcome ≡ Err (Talk fault)
@@ -123,9 +124,9 @@ abbrev pub NeedsFile : ShellOptions → Type 0
 NeedsFile options = IsSome options.journal_out ⊎ IsSome options.script
 
 -- A program that was asked for a talk ends with this status: 0 where it has its end, a file of the journal that is
--- asked for has each entry, the volume is kept in a file where an image is asked for, a film that is asked for is written to a
--- file, and nothing is told; 2 where a file that is
--- needed before could not be opened, and then nothing is read; else 1.
+-- asked for has each entry, the volume is kept in a file where an image is asked for, a film that is asked for is
+-- written to a file, and nothing is told; 2 where a file that is needed before could not be opened, and then nothing is
+-- read; else 1.
 pub record EndsTalk {R W D F : Type 0} (contents : F → Option (List ℕ)) (options : ShellOptions)
     (known start out : Option (List ℕ)) (status : ℕ) (in_before in_after : R) (out_before out_after : W)
     (err_before err_after : D) : Type 0 where
@@ -141,7 +142,8 @@ pub record EndsShell {R W D F : Type 0} (contents : F → Option (List ℕ)) (op
     (err_before err_after : D) : Type 0 where
   pub bytes : Option (List ℕ)
   pub own : options.script ≡ None → bytes ≡ known
-  pub talk : EndsTalk contents options bytes start out status in_before in_after out_before out_after err_before err_after
+  pub talk : EndsTalk contents options bytes start out status in_before in_after out_before out_after err_before
+      err_after
 
 -- `lfs_shell` ends with this status by what it was asked for: options whose numbers are in their ranges, as a talk
 -- ends, or else nothing is read

@@ -12,7 +12,8 @@ use Rattle.lfs_programs.specs.declared.fault.ShellFault.{ShellFault}
 use Rattle.lfs_programs.specs.declared.fault.ShellFault.TheVariants.{Talk, Image}
 use Rattle.lfs_programs.specs.declared.options.ShellOptions.{ShellOptions}
 
--- a volume is that of an image, with the frames and the journal's limit that are asked for, and its journal begins there
+-- a volume is that of an image, with the frames and the journal's limit that are asked for, and its journal begins
+-- there
 pub record IsOfImage (options : ShellOptions) (v : Seen Parts) : Type 0 where
   pub loaded : IsLoaded options.params.frames v.store v.level
   pub empty : v.journal ≡ []
