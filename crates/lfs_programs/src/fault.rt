@@ -34,6 +34,9 @@ pub enum FilmFault {
     /// The file beside it, in which it is written first, could not be made.
     #[error("{0}")]
     Unmade(ErrorKind),
+    /// What has the film's name is no file: a directory or a device.
+    #[error("not a file")]
+    Special,
     /// The page was not written.
     #[error("write failed")]
     Unwritten,

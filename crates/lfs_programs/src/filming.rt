@@ -227,7 +227,8 @@ pub(crate) fn finish<F: Files>(
 ///
 /// # Errors
 ///
-/// The file could not be made, written or named so; there is no film; or memory ran out.
+/// What has this path is no file, as a device, which would be replaced; the file could not be made, written or named so; there is
+/// no film; or memory ran out.
 fn write_film<F: Files>(
     files: &F,
     alloc: Global,
@@ -239,6 +240,9 @@ fn write_film<F: Files>(
     let Some(film) = film else {
         return Err(FilmFault::Unwritten);
     };
+    if is_special(files, path) {
+        return Err(FilmFault::Special);
+    }
     let Ok(part) = format!(in alloc; "{path}{PART}") else {
         return Err(FilmFault::Memory);
     };
@@ -246,6 +250,14 @@ fn write_film<F: Files>(
     match fs::rename(files, part.as_str(), path) {
         Ok(()) => Ok(()),
         Err(error) => Err(FilmFault::Unnamed(error.kind())),
+    }
+}
+
+/// Whether what has this path is known to be something else than a file.
+fn is_special<F: Files>(files: &F, path: &str) -> bool {
+    match fs::metadata(files, path) {
+        Ok(found) => !found.is_file(),
+        Err(_) => false,
     }
 }
 
