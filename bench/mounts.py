@@ -1,0 +1,208 @@
+#!/usr/bin/env python3
+"""Sets a mount of `lfs_fuse` beside libfuse's passthrough_ll over a tmpfs, which keeps no names and attributes either.
+
+mounts.py PROGRAM [--rounds N] [--calls N] [--seconds N] [--write], as root, with /dev/fuse, gcc, pkg-config and Debian's
+libfuse3-dev, in whose examples passthrough_ll.c stands. PROGRAM is a built `lfs_fuse`. Both are mounted, and the same calls
+are made on them by turns, by a process of user 7, whose groups `lfs_fuse` has to learn from /proc; no round begins after
+the seconds. Prints a table: of the best round the calls a second, or MiB a second, of both, and the least processor time
+of the server for a call or a MiB. With --write it goes to docs/speed/mounts.csv.
+"""
+import argparse
+import os
+import signal
+import subprocess
+import sys
+import tempfile
+import time
+from pathlib import Path
+
+from beside import machine
+
+TABLE = Path(__file__).resolve().parent.parent / "docs" / "speed" / "mounts.csv"
+EXAMPLE = Path("/usr/share/doc/libfuse3-dev/examples/passthrough_ll.c")
+PIECE = bytes(range(256)) * 512
+PIECES, PASSES = 64, 8
+USER = 7
+
+
+def create(names):
+    for name in names:
+        os.close(os.open(name, os.O_CREAT | os.O_EXCL | os.O_WRONLY, 0o644))
+
+
+def look(names):
+    for name in names:
+        os.stat(name)
+
+
+def open_and_read(names):
+    for name in names:
+        file = os.open(name, os.O_RDONLY)
+        os.read(file, 4096)
+        os.close(file)
+
+
+def rename(names):
+    for name in names:
+        os.rename(name, f"{name}-")
+    for name in names:
+        os.rename(f"{name}-", name)
+
+
+def remove(names):
+    for name in names:
+        os.unlink(name)
+
+
+def write(_):
+    for _ in range(PASSES):
+        file = os.open("large", os.O_CREAT | os.O_TRUNC | os.O_WRONLY, 0o644)
+        for place in range(PIECES):
+            os.pwrite(file, PIECE, place * len(PIECE))
+        os.close(file)
+
+
+def read(_):
+    for _ in range(PASSES):
+        file = os.open("large", os.O_RDONLY)
+        for place in range(PIECES):
+            os.pread(file, len(PIECE), place * len(PIECE))
+        os.close(file)
+
+
+# What is timed, in order, and how many units a round has for each name, or in MiB.
+MEBIBYTES = PASSES * PIECES * len(PIECE) / 2**20
+LOADS = [("create", create, 1), ("stat", look, 1), ("open-read-close", open_and_read, 1), ("rename", rename, 2), ("remove", remove, 1),
+         ("write 128 KiB", write, 0), ("read 128 KiB", read, 0)]
+
+
+class Mount:
+    """A mounted folder and the process that serves it."""
+
+    def __init__(self, folder, server):
+        self.folder, self.server = folder, server
+        end = time.monotonic() + 10
+        while not os.path.ismount(folder) and time.monotonic() < end:
+            time.sleep(0.05)
+        os.chmod(folder, 0o777)
+
+    def processor(self):
+        """The server's processor time until now, in seconds."""
+        return sum(int(it.read_text().split()[0]) for it in Path(f"/proc/{self.server.pid}/task").glob("*/schedstat")) / 1e9
+
+    def end(self):
+        subprocess.run(["umount", "-l", self.folder], check=False)
+        try:
+            self.server.wait(timeout=10)
+        except subprocess.TimeoutExpired:
+            self.server.send_signal(signal.SIGKILL)
+
+
+def proved(program, folder):
+    """Mounts by the program: its standard input and output are the open device."""
+    device = os.open("/dev/fuse", os.O_RDWR)
+    options = f"fd={device},rootmode=40000,user_id=0,group_id=0,allow_other"
+    subprocess.run(["mount", "-i", "-t", "fuse", "-o", options, "lfs", folder], check=True, pass_fds=[device])
+    server = subprocess.Popen([program], stdin=device, stdout=device)
+    os.close(device)
+    return Mount(folder, server)
+
+
+def passthrough(program, source, folder):
+    """Mounts a folder of a tmpfs by libfuse's example."""
+    words = [program, "-f", "-o", f"source={source},timeout=0,cache=never,allow_other", folder]
+    return Mount(folder, subprocess.Popen(words))
+
+
+def in_child(action):
+    """The seconds that an action takes in a process of the user's."""
+    come, go = os.pipe()
+    child = os.fork()
+    if not child:
+        try:
+            os.setgroups([USER, 70, 71])
+            os.setresgid(USER, USER, USER)
+            os.setresuid(USER, USER, USER)
+            start = time.perf_counter()
+            action()
+            os.write(go, str(time.perf_counter() - start).encode())
+        finally:
+            os._exit(0)
+    os.close(go)
+    with os.fdopen(come) as told:
+        seconds = told.read()
+    os.waitpid(child, 0)
+    return float(seconds)
+
+
+def measured(mount, load, names):
+    """The seconds of a load on a mount by the clock and by the server's processor."""
+    os.chdir(mount.folder)
+    before = mount.processor()
+    seconds = in_child(lambda: load(names))
+    used = mount.processor() - before
+    os.chdir("/")
+    return seconds, used
+
+
+def rounds(mounts, asked):
+    """The times of each load on each mount, by turns, in as many rounds as the seconds allow."""
+    names = [f"file-{it:05}" for it in range(asked.calls)]
+    found = {load[0]: [[] for _ in mounts] for load in LOADS}
+    end = time.monotonic() + asked.seconds
+    for turn in range(asked.rounds):
+        for name, load, _ in LOADS:
+            for it in (range(len(mounts)) if turn % 2 else reversed(range(len(mounts)))):
+                found[name][it].append(measured(mounts[it], load, names))
+        for mount in mounts:
+            os.unlink(f"{mount.folder}/large")
+        if time.monotonic() > end:
+            break
+    return found
+
+
+def table(found, asked):
+    """The table's lines."""
+    yield "Load,lfs_fuse a second,passthrough_ll a second,times as fast,lfs_fuse's processor us,passthrough_ll's,times as little"
+    for name, _, units in LOADS:
+        count = asked.calls * units or MEBIBYTES
+        wall = [count / min(seconds for seconds, _ in times) for times in found[name]]
+        used = [min(used for _, used in times) / count * 1e6 for times in found[name]]
+        yield f"{name},{wall[0]:.0f},{wall[1]:.0f},{wall[0] / wall[1]:.2f},{used[0]:.1f},{used[1]:.1f},{used[1] / used[0]:.2f}"
+
+
+def main():
+    parser = argparse.ArgumentParser()
+    parser.add_argument("program")
+    parser.add_argument("--rounds", type=int, default=9)
+    parser.add_argument("--calls", type=int, default=2000)
+    parser.add_argument("--seconds", type=int, default=180)
+    parser.add_argument("--write", action="store_true")
+    asked = parser.parse_args()
+    with tempfile.TemporaryDirectory() as room:
+        folders = {name: os.path.join(room, name) for name in ("source", "ours", "theirs")}
+        for folder in folders.values():
+            os.mkdir(folder)
+        os.chmod(room, 0o755)
+        flags = subprocess.run(["pkg-config", "--cflags", "--libs", "fuse3"], check=True, capture_output=True, text=True).stdout.split()
+        built = os.path.join(room, "passthrough_ll")
+        subprocess.run(["gcc", "-O2", EXAMPLE, *flags, "-o", built], check=True)
+        subprocess.run(["mount", "-t", "tmpfs", "source", folders["source"]], check=True)
+        mounts = []
+        try:
+            mounts.append(proved(os.path.abspath(asked.program), folders["ours"]))
+            mounts.append(passthrough(built, folders["source"], folders["theirs"]))
+            lines = list(table(rounds(mounts, asked), asked))
+        finally:
+            os.chdir("/")
+            for mount in mounts:
+                mount.end()
+            subprocess.run(["umount", "-l", folders["source"]], check=True)
+    text = "\n".join([machine(), *lines]) + "\n"
+    print(text, end="")
+    if asked.write:
+        TABLE.write_text(text, encoding="utf-8")
+
+
+if __name__ == "__main__":
+    sys.exit(main())
