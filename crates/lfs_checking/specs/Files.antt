@@ -1,8 +1,10 @@
 -- Volumes that are kept in files.
 use Rattle.std.specs.Prelude.{◌≡◌, ℕ, List, Option}
 use Rattle.std.specs.Io.KnownBytes.{Appends}
+use Rattle.lfs_types.specs.StoreStates.{StoreState}
 use Rattle.lfs_types.specs.declared.level.Level.{Level}
 use Rattle.lfs_log.specs.Parts.{LogParts}
+use Rattle.lfs_staging.specs.Store.{IsSettled}
 use Rattle.lfs_staging.specs.declared.parts.Parts.{Parts}
 use Rattle.lfs_logstore.specs.States.{state_of}
 use Rattle.lfs_calls.specs.Volumes.{HasWorld}
@@ -22,3 +24,11 @@ pub record HasImage {F : Type 0} (contents : F → Option (List ℕ)) (log : Log
   pub before : F
   pub after : F
   pub written : Appends (contents before) (contents after) (image_bytes log level)
+
+-- a file got the image of a store of which nothing waits, and of a level, whose state and level these are
+pub record IsSaved {F : Type 0} (contents : F → Option (List ℕ)) (are : StoreState → Level → Type 0) : Type 0 where
+  pub store : Parts
+  pub level : Level
+  pub settled : IsSettled store
+  pub shown : are (state_of store) level
+  pub image : HasImage contents store.log level

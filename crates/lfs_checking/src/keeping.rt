@@ -56,8 +56,8 @@ fn bytes_in<S: Files>(files: &S, alloc: Global, path: &str) -> Result<Option<Vec
 }
 
 /// Keeps a volume, of whose store nothing waits, in the file of this path: its image is written up to the disk, to a file
-/// of this name with `.new` behind it, which its owner alone may read, and which then gets the name. So the file has the
-/// image that it had, or the whole new one.
+/// of this name with `.new` behind it, which is made anew, for its owner alone, and which then gets the name. So the file has
+/// the image that it had, or the whole new one.
 ///
 /// # Errors
 ///
@@ -80,8 +80,8 @@ pub fn save_file<S: Files>(
     }
 }
 
-/// Writes the image of a store and a securelevel to the file of this path, up to the disk. The file is made where there is
-/// none.
+/// Writes the image of a store and a securelevel to the file of this path, up to the disk. What has the name goes, and the
+/// file is made anew: so it is its owner's alone, and no link is followed.
 fn write<S: Files>(
     files: &S,
     alloc: Global,
@@ -92,8 +92,9 @@ fn write<S: Files>(
     requires { IsSettled store.now }
     ensures { OnOk result (HasImage S.File.contents store.now.log level) }
 {
+    let _ = fs::remove_file(files, path);
     let mut options = OpenOptions::new();
-    options.write(true).create(true).truncate(true).mode(OWNERS);
+    options.write(true).create_new(true).mode(OWNERS);
     let Ok(mut file) = options.open(files, path) else {
         return Err(KeepFault::Save);
     };
