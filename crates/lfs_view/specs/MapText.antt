@@ -68,11 +68,14 @@ rows_below p (suc n) = rows_below p n ++ row_text p n
 abbrev pub line_of : List ℕ → List (List ℕ) → List ℕ
 line_of first words = first ++ (spaced words ++ 10 ∷ [])
 
+-- the line of so many blocks and so many records that wait to be written
+abbrev pub waiting_line : ℕ → ℕ → List ℕ
+waiting_line blocks records =
+    line_of (codes "waiting") (decimal blocks ∷ codes "blocks" ∷ decimal records ∷ codes "records" ∷ [])
+
 -- how many blocks and how many records wait to be written
 abbrev pub waiting_text : Parts → List ℕ
-waiting_text p =
-    line_of (codes "waiting") (decimal (length p.cache.locked) ∷ codes "blocks" ∷ decimal (length p.waiting)
-    ∷ codes "records" ∷ [])
+waiting_text p = waiting_line (length p.cache.locked) (length p.waiting)
 
 -- what the signs say
 unfoldable pub legend : List ℕ

@@ -10,5 +10,5 @@ pub mod records;
 pub mod rows;
 mod segment;
 pub mod shows;
-mod space;
+pub mod space;
 pub mod walk;

@@ -2,7 +2,7 @@
 
 ghost use Rattle.std.specs.Prelude.{◌≡◌, ◌<◌, ◌∷◌, ◌++◌, [], map, OnOk};
 ghost use Rattle.lfs_staging.specs.Store.{IsStore};
-ghost use Rattle.lfs_view.specs.MapText.{block_sign, cell_sign, kind_sign, legend, life_sign, map_text, row_text, state_word, use_text, waiting_text};
+ghost use Rattle.lfs_view.specs.MapText.{block_sign, cell_sign, kind_sign, legend, life_sign, map_text, row_text, state_word, use_text, waiting_line, waiting_text};
 
 use crate::cells::{Cell, Kind, walked};
 use crate::life::Life;
@@ -29,10 +29,21 @@ pub(crate) fn push_map(alloc: Global, out: &mut Vec<u8>, parts: &Parts) -> Resul
 pub(crate) fn push_waiting(out: &mut Vec<u8>, parts: &Parts) -> Result<(), AllocError>
     ensures { OnOk result (out.new.items ≡ out.old.items ++ waiting_text parts.now) }
 {
+    push_waiting_line(out, parts.cache.locked_count(), parts.waiting.len())
+}
+
+/// Appends the line of so many blocks and so many records that wait to be written.
+pub(crate) fn push_waiting_line(
+    out: &mut Vec<u8>,
+    blocks: usize,
+    records: usize,
+) -> Result<(), AllocError>
+    ensures { OnOk result (out.new.items ≡ out.old.items ++ waiting_line blocks records) }
+{
     out.extend_from_slice(b"waiting")?;
-    push_number(out, parts.cache.locked_count() as u64)?;
+    push_number(out, blocks as u64)?;
     push_word(out, "blocks")?;
-    push_number(out, parts.waiting.len() as u64)?;
+    push_number(out, records as u64)?;
     push_word(out, "records")?;
     out.extend_from_slice(b"\n")
 }

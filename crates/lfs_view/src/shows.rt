@@ -1,10 +1,11 @@
 //! The trait of a store that shows its log.
 
 ghost use Rattle.std.specs.Prelude.{◌≡◌, ◌++◌, ℕ, List, OnOk};
+ghost use Rattle.lfs_view.specs.declared.space.Space.{Space};
 
 use crate::map::push_map;
 use crate::segment::push_segment;
-use crate::space::push_space;
+use crate::space::{Space, push_space, space_of};
 use lfs_logstore::LogStore;
 use std::alloc::{AllocError, Global};
 
@@ -15,6 +16,8 @@ pub trait ShowsLog {
     /// What stands in a segment.
     ghost segment_text: { Self → ℕ → List ℕ };
     /// How full it is.
+    ghost shown_space: { Self → Space };
+    /// The same as a text.
     ghost space_text: { Self → List ℕ };
 
     /// Appends the map of its log: a line for each segment, and what the signs say.
@@ -25,6 +28,10 @@ pub trait ShowsLog {
     fn push_segment(&self, alloc: Global, out: &mut Vec<u8>, segment: u64) -> Result<(), AllocError>
         ensures { OnOk result (out.new.items ≡ out.old.items ++ segment_text self.now segment) };
 
+    /// How full it is: clean segments, live bytes, numbers in use, and what waits to be written.
+    fn space(&self) -> Space
+        ensures { result ≡ shown_space self.now };
+
     /// Appends how full it is: clean segments, live bytes, numbers in use, and what waits to be written.
     fn push_space(&self, out: &mut Vec<u8>) -> Result<(), AllocError>
         ensures { OnOk result (out.new.items ≡ out.old.items ++ space_text self.now) };
@@ -33,11 +40,13 @@ pub trait ShowsLog {
 impl ShowsLog for LogStore {
     ghost use Rattle.lfs_view.specs.MapText.{map_text};
     ghost use Rattle.lfs_view.specs.SegmentText.{segment_text};
-    ghost use Rattle.lfs_view.specs.SpaceText.{space_text};
+    ghost use Rattle.lfs_view.specs.SpaceText.{space_of, space_text};
 
     ghost map_text = { map_text };
 
     ghost segment_text = { segment_text };
+
+    ghost shown_space = { space_of };
 
     ghost space_text = { space_text };
 
@@ -52,6 +61,10 @@ impl ShowsLog for LogStore {
         segment: u64,
     ) -> Result<(), AllocError> {
         push_segment(alloc, out, self.parts(), segment)
+    }
+
+    fn space(&self) -> Space {
+        space_of(self.parts())
     }
 
     fn push_space(&self, out: &mut Vec<u8>) -> Result<(), AllocError> {

@@ -3,24 +3,66 @@
 ghost use Rattle.std.specs.Prelude.{◌≡◌, ◌<◌, ◌++◌, ◌∷◌, [], codes, decimal, length, OnOk};
 ghost use Rattle.lfs_staging.specs.Store.{IsStore};
 ghost use Rattle.lfs_view.specs.MapText.{line_of};
-ghost use Rattle.lfs_view.specs.SpaceText.{live_below, one_used, share_line, space_text, used_below};
+ghost use Rattle.lfs_view.specs.SpaceText.{live_below, one_used, share_line, space_lines, space_of, space_text, used_below};
 
-use crate::map::push_waiting;
+use crate::map::push_waiting_line;
 use lfs_staging::parts::Parts;
 use lfs_words::append::{push_number, push_word};
 use std::alloc::AllocError;
+
+/// How full a log is.
+#[derive(Clone, Copy, PartialEq, Eq, Debug)]
+pub struct Space {
+    /// How many segments it has.
+    pub segments: u32,
+    /// How many of them are clean.
+    pub clean: u32,
+    /// How many of its bytes are live.
+    pub live: u64,
+    /// How many inode numbers it has.
+    pub numbers: u32,
+    /// How many of them are in use.
+    pub used: u32,
+    /// How many blocks wait to be written.
+    pub waiting_blocks: usize,
+    /// How many inode records wait to be written.
+    pub waiting_records: usize,
+}
+
+/// How full the log of a store is.
+pub(crate) fn space_of(parts: &Parts) -> Space
+    requires { IsStore parts.now }
+    ensures { result ≡ space_of parts.now }
+{
+    let segments = parts.log.segments();
+    let numbers = parts.log.inodes();
+    Space {
+        segments,
+        clean: parts.log.clean(),
+        live: live(parts, segments),
+        numbers,
+        used: used(parts, numbers),
+        waiting_blocks: parts.cache.locked_count(),
+        waiting_records: parts.waiting.len(),
+    }
+}
 
 /// Appends how many segments are clean, how many bytes are live, how many numbers are in use, and what waits.
 pub(crate) fn push_space(out: &mut Vec<u8>, parts: &Parts) -> Result<(), AllocError>
     requires { IsStore parts.now }
     ensures { OnOk result (out.new.items ≡ out.old.items ++ space_text parts.now) }
 {
-    let segments = parts.log.segments();
-    let numbers = parts.log.inodes();
-    push_share(out, "segments", parts.log.clean(), "clean", segments)?;
-    push_live(out, live(parts, segments))?;
-    push_share(out, "numbers", used(parts, numbers), "used", numbers)?;
-    push_waiting(out, parts)
+    push_lines(out, &space_of(parts))
+}
+
+/// Appends the lines of how full a log is.
+fn push_lines(out: &mut Vec<u8>, space: &Space) -> Result<(), AllocError>
+    ensures { OnOk result (out.new.items ≡ out.old.items ++ space_lines space.now) }
+{
+    push_share(out, "segments", space.clean, "clean", space.segments)?;
+    push_live(out, space.live)?;
+    push_share(out, "numbers", space.used, "used", space.numbers)?;
+    push_waiting_line(out, space.waiting_blocks, space.waiting_records)
 }
 
 /// Appends a line of a word, a number, and how many of how many.
