@@ -1,7 +1,7 @@
 -- What is told of a path decides as the rules do.
 use Rattle.std.proofs.Common.{◌≡◌, ℕ, ◌<◌, ◌≤◌, ◌||◌, zero, suc, Bool, true, false, List, [], ◌∷◌, length, take, refl}
 use Rattle.std.proofs.Common.{sym, ap, subst, ◌∙◌, arith}
-use Rattle.std.specs.Prelude.{slice_index_or}
+use Rattle.std.specs.Prelude.{Err, Ok, OnOk, Result, slice_index_or}
 use Rattle.std.specs.List.{list_any}
 use Rattle.lfs_types.specs.Caller.{Caller}
 use Rattle.lfs_types.specs.Tree.{World}
@@ -118,3 +118,9 @@ take_whole [] zero over = refl
 take_whole [] (suc n) over = refl
 take_whole (x ∷ xs) zero over = absurd (omega (arith, over))
 take_whole (x ∷ xs) (suc n) over = ap (λ l. x ∷ l) (take_whole xs n (omega (arith, over)))
+
+-- ---- what holds where nothing failed
+
+pub on_ok : {A E P Q : Type 0} (r : Result A E) → (P → Q) → OnOk r P → OnOk r Q
+on_ok (Ok x) so p = so p
+on_ok (Err e) so p = p

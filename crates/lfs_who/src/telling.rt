@@ -2,12 +2,16 @@
 
 ghost use Rattle.std.specs.Prelude.{◌≡◌, ◌++◌, ◌∷◌, [], codes, decimal, IfOk, OnOk};
 ghost use Rattle.std.specs.List.{flat_map};
+ghost use Rattle.lfs_types.specs.Tree.{World};
+ghost use Rattle.lfs_model.specs.World.{IsTree};
 ghost use Rattle.lfs_calls.specs.Volumes.{HasWorld, InWorld};
+ghost use Rattle.lfs_explain.specs.Trails.{IsTrail, first_names, second_names};
 ghost use Rattle.lfs_who.specs.WhoText.{IsWhoTold, act_text, decision, groups_text, lines_text, named_text, told_text, who_text};
 
 use crate::line::Line;
-use crate::who::{Named, Who, who_calls};
+use crate::who::{Named, Who, paths_of, who_along};
 use lfs_calls::tree::Tree;
+use lfs_explain::explain::Explanation;
 use lfs_print::print::push_answer;
 use lfs_types::answer::{Answer, Served};
 use lfs_types::level::Level;
@@ -17,9 +21,26 @@ use lfs_types::store::FileStore;
 use lfs_words::append::{push_number, push_word};
 use std::alloc::{AllocError, Global};
 
-/// The lines of who could make a call now, at this securelevel, over all callers: `user 7: ok`, `others in 20: ok`,
-/// `others not in 20: denied M1 EACCES 0 2`. Of a SetLevel only callers who aren't init are told. An error where memory runs
-/// out.
+/// The lines of who could make a call, at this securelevel, over all callers, where its paths lead through what an
+/// explanation of it has, as `who_along` tells: `user 7: ok`, `others in 20: ok`, `others not in 20: denied M1 EACCES 0 2`.
+/// An error where memory runs out.
+pub fn tell_who_along(
+    alloc: Global,
+    level: Level,
+    request: &Request,
+    explanation: &Explanation,
+) -> Result<Vec<u8>, AllocError>
+    ensures { IfOk result (λ text. (w : World) → IsTree w.rows → w.level ≡ level
+        → IsTrail w.rows (first_names request.now) explanation.now.first
+        → IsTrail w.rows (second_names request.now) explanation.now.second
+        → IsWhoTold w request.now text.items) }
+{
+    let who = who_along(alloc, level, request, explanation)?;
+    let text = text_of(alloc, &who)?;
+    Ok(text)
+}
+
+/// The lines of who could make a call now, by what its paths lead through now, as `tell_who_along`.
 pub fn tell_who<F: FileStore>(
     alloc: Global,
     tree: &mut Tree<F>,
@@ -31,8 +52,8 @@ pub fn tell_who<F: FileStore>(
         → IsWhoTold w request.now text.items)) }
     ensures state { F.state tree.new ≡ F.state tree.old }
 {
-    let who = who_calls(alloc, tree, level, request)?;
-    let text = text_of(alloc, &who)?;
+    let paths = paths_of(alloc, tree, level, request)?;
+    let text = tell_who_along(alloc, level, request, &paths)?;
     Ok(text)
 }
 

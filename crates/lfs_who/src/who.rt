@@ -1,15 +1,16 @@
 //! Who could act by a path.
 
-ghost use Rattle.std.specs.Prelude.{◌≡◌, ◌∷◌, [], ◌++◌, ◌==◌, ◌||◌, ◌≤◌, ℕ, List, IfOk, OnOk, true};
+ghost use Rattle.std.specs.Prelude.{◌≡◌, ◌∷◌, [], ◌++◌, ◌==◌, ◌||◌, ◌≤◌, ℕ, List, IfOk, OnOk, false, length, true};
 ghost use Rattle.lfs_types.specs.Caller.{Caller};
 ghost use Rattle.lfs_types.specs.Tree.{World};
 ghost use Rattle.lfs_types.specs.declared.path.TheConstants.{PATH_MAX};
+ghost use Rattle.lfs_model.specs.Rules.{decide, first_failing};
 ghost use Rattle.lfs_model.specs.World.{IsTree};
 ghost use Rattle.lfs_calls.specs.Volumes.{HasWorld, InWorld};
 ghost use Rattle.lfs_explain.specs.Trails.{IsTrail, first_names, second_names};
-ghost use Rattle.lfs_who.specs.Conditions.{has_part};
+ghost use Rattle.lfs_who.specs.Conditions.{all_posed, has_part};
 ghost use Rattle.lfs_who.specs.declared.condition.Question.{Question as Asked};
-ghost use Rattle.lfs_who.specs.Who.{AreNamed, IsToldTo, IsWho, IsWhoCalls, has_part_in, is_among, lines_for};
+ghost use Rattle.lfs_who.specs.Who.{AreNamed, IsToldTo, IsWho, IsWhoCalls, SetsLevel, has_part_in, is_among, lines_for};
 
 use crate::act::Act;
 use crate::asking::{push_call, push_leaving, push_search};
@@ -21,6 +22,7 @@ use lfs_explain::explain::{Explanation, explain, first_of, second_of};
 use lfs_explain::trail::Trail;
 use lfs_types::cred::Cred;
 use lfs_types::level::Level;
+use lfs_types::name::Name;
 use lfs_types::path::Path;
 use lfs_types::request::Request;
 use lfs_types::store::FileStore;
@@ -44,8 +46,57 @@ pub struct Who {
     pub others: Vec<Line>,
 }
 
-/// Who could make a call now, over all callers there can be, at this securelevel. Users and groups are told apart only
+/// Who could make a call, over all callers there can be, at this securelevel, where its paths lead through what an
+/// explanation of it has: of the same call, by whatever caller, on the tree of now. Users and groups are told apart only
 /// where the rules decide otherwise; of a SetLevel only callers who aren't init are told. An error where memory runs out.
+pub fn who_along(
+    alloc: Global,
+    level: Level,
+    request: &Request,
+    explanation: &Explanation,
+) -> Result<Who, AllocError>
+    ensures { IfOk result (λ who. (w : World) → IsTree w.rows → w.level ≡ level
+        → IsTrail w.rows (first_names request.now) explanation.now.first
+        → IsTrail w.rows (second_names request.now) explanation.now.second
+        → IsWhoCalls w request.now who) }
+{
+    let mut questions = Vec::new(alloc);
+    push_along(&mut questions, level, request, explanation)?;
+    let who = who_of(alloc, &questions)?;
+    Ok(who)
+}
+
+/// Puts what is asked of whoever makes a call, if its paths lead through what an explanation has, behind no questions.
+fn push_along(
+    questions: &mut Vec<Question>,
+    level: Level,
+    request: &Request,
+    explanation: &Explanation,
+) -> Result<(), AllocError>
+    requires { questions.old.items ≡ [] }
+    ensures { OnOk result ((w : World) → IsTree w.rows → w.level ≡ level
+        → IsTrail w.rows (first_names request.now) explanation.now.first
+        → IsTrail w.rows (second_names request.now) explanation.now.second
+        → (c : Caller) → (SetsLevel request.now → c.init ≡ false)
+        → first_failing (all_posed c questions.new.items) ≡ decide w c request.now) }
+{
+    let (first, second) = (&explanation.first, &explanation.second);
+    if !is_of(first, first_of(request)) || !is_of(second, second_of(request)) {
+        return Ok(());
+    }
+    push_call(questions, level, request, first, second)
+}
+
+/// Whether a trail has as many names as a path.
+fn is_of(trail: &Trail, names: &[Name]) -> bool
+    requires { length names.now ≤ PATH_MAX }
+    ensures within { result ≡ true → trail.now.names ≤ PATH_MAX }
+    ensures other { result ≡ false → trail.now.names ≡ length names.now → ⊥ }
+{
+    trail.names as usize == names.len()
+}
+
+/// Who could make a call now, as `who_along` tells, by what its paths lead through now.
 pub fn who_calls<F: FileStore>(
     alloc: Global,
     tree: &mut Tree<F>,
@@ -58,9 +109,7 @@ pub fn who_calls<F: FileStore>(
     ensures state { F.state tree.new ≡ F.state tree.old }
 {
     let paths = paths_of(alloc, tree, level, request)?;
-    let mut questions = Vec::new(alloc);
-    push_call(&mut questions, level, request, &paths.first, &paths.second)?;
-    let who = who_of(alloc, &questions)?;
+    let who = who_along(alloc, level, request, &paths)?;
     Ok(who)
 }
 
@@ -92,7 +141,7 @@ pub fn who_could<F: FileStore>(
 }
 
 /// What a call's paths lead through.
-fn paths_of<F: FileStore>(
+pub(crate) fn paths_of<F: FileStore>(
     alloc: Global,
     tree: &mut Tree<F>,
     level: Level,

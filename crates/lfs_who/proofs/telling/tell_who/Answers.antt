@@ -1,8 +1,5 @@
 use Rattle.lfs_who.proofs.telling.tell_who.Goals as goal
 
 pub returns-clause-told : goal.returns-clause-told
-returns-clause-told g c w v at = record {
-  who = c.in_ok-who.who;
-  is = c.in_ok-who.ensures.who w v at;
-  told = c.in_ok-text.ensures;
-}
+returns-clause-told g c w v at =
+    c.in_ok-text.ensures w v.tree at (c.in_ok-paths.ensures.first w v) (c.in_ok-paths.ensures.second w v)

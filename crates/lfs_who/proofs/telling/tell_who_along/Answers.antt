@@ -1,0 +1,8 @@
+use Rattle.lfs_who.proofs.telling.tell_who_along.Goals as goal
+
+pub returns : goal.returns
+returns c w tree at first second = record {
+  who = c.in_ok-who.who;
+  is = c.in_ok-who.ensures w tree at first second;
+  told = c.in_ok-text.ensures;
+}
