@@ -1,11 +1,11 @@
 #!/usr/bin/env python3
 """Sets a mount of `lfs_fuse` beside libfuse's passthrough_ll over a tmpfs, which keeps no names and attributes either.
 
-mounts.py PROGRAM [--rounds N] [--calls N] [--seconds N] [--write], as root, with /dev/fuse, gcc, pkg-config and Debian's
+mounts.py PROGRAM [--rounds N] [--names N] [--seconds N] [--write], as root, with /dev/fuse, gcc, pkg-config and Debian's
 libfuse3-dev, in whose examples passthrough_ll.c stands. PROGRAM is a built `lfs_fuse`. Both are mounted, and the same calls
-are made on them by turns, by a process of user 7, whose groups `lfs_fuse` has to learn from /proc; no round begins after
-the seconds. Prints a table: of the best round the calls a second, or MiB a second, of both, and the least processor time
-of the server for a call or a MiB. With --write it goes to docs/speed/mounts.csv.
+are made on them by turns, in twenty folders of N names, by a process of user 7, whose groups `lfs_fuse` learns from /proc,
+and by one of the superuser's; no round begins after the seconds. Prints a table: of the best round the calls or MiB a
+second of both, and the least processor time of the server for one. With --write it goes to docs/speed/mounts.csv.
 """
 import argparse
 import os
@@ -22,39 +22,38 @@ TABLE = Path(__file__).resolve().parent.parent / "docs" / "speed" / "mounts.csv"
 EXAMPLE = Path("/usr/share/doc/libfuse3-dev/examples/passthrough_ll.c")
 PIECE = bytes(range(256)) * 512
 PIECES, PASSES = 64, 8
-USER = 7
+FOLDERS = [f"folder-{it:02}" for it in range(20)]
+USERS = 7, 0
 
 
-def create(names):
-    for name in names:
-        os.close(os.open(name, os.O_CREAT | os.O_EXCL | os.O_WRONLY, 0o644))
+def create(name):
+    os.close(os.open(name, os.O_CREAT | os.O_EXCL | os.O_WRONLY, 0o644))
 
 
-def look(names):
-    for name in names:
-        os.stat(name)
+def open_and_read(name):
+    file = os.open(name, os.O_RDONLY)
+    os.read(file, 4096)
+    os.close(file)
 
 
-def open_and_read(names):
-    for name in names:
-        file = os.open(name, os.O_RDONLY)
-        os.read(file, 4096)
-        os.close(file)
+def rename(name):
+    os.rename(name, f"{name}-")
 
 
-def rename(names):
-    for name in names:
-        os.rename(name, f"{name}-")
-    for name in names:
-        os.rename(f"{name}-", name)
+def remove(name):
+    os.unlink(f"{name}-")
 
 
-def remove(names):
-    for name in names:
-        os.unlink(name)
+def of_names(call, names):
+    """Makes a call for each name in each folder."""
+    for folder in FOLDERS:
+        os.chdir(folder)
+        for name in names:
+            call(name)
+        os.chdir("..")
 
 
-def write(_):
+def write(_call, _names):
     for _ in range(PASSES):
         file = os.open("large", os.O_CREAT | os.O_TRUNC | os.O_WRONLY, 0o644)
         for place in range(PIECES):
@@ -62,7 +61,7 @@ def write(_):
         os.close(file)
 
 
-def read(_):
+def read(_call, _names):
     for _ in range(PASSES):
         file = os.open("large", os.O_RDONLY)
         for place in range(PIECES):
@@ -70,10 +69,10 @@ def read(_):
         os.close(file)
 
 
-# What is timed, in order, and how many units a round has for each name, or in MiB.
+# What is timed, in order.
 MEBIBYTES = PASSES * PIECES * len(PIECE) / 2**20
-LOADS = [("create", create, 1), ("stat", look, 1), ("open-read-close", open_and_read, 1), ("rename", rename, 2), ("remove", remove, 1),
-         ("write 128 KiB", write, 0), ("read 128 KiB", read, 0)]
+LOADS = {"create": (of_names, create), "stat": (of_names, os.stat), "open-read-close": (of_names, open_and_read), "rename": (of_names, rename),
+         "remove": (of_names, remove), "write 128 KiB": (write, None), "read 128 KiB": (read, None)}
 
 
 class Mount:
@@ -85,6 +84,9 @@ class Mount:
         while not os.path.ismount(folder) and time.monotonic() < end:
             time.sleep(0.05)
         os.chmod(folder, 0o777)
+        for name in FOLDERS:
+            os.mkdir(f"{folder}/{name}")
+            os.chmod(f"{folder}/{name}", 0o777)
 
     def processor(self):
         """The server's processor time until now, in seconds."""
@@ -114,15 +116,15 @@ def passthrough(program, source, folder):
     return Mount(folder, subprocess.Popen(words))
 
 
-def in_child(action):
-    """The seconds that an action takes in a process of the user's."""
+def in_child(user, action):
+    """The seconds that an action takes in a process of a user's."""
     come, go = os.pipe()
     child = os.fork()
     if not child:
         try:
-            os.setgroups([USER, 70, 71])
-            os.setresgid(USER, USER, USER)
-            os.setresuid(USER, USER, USER)
+            os.setgroups([user, 70, 71])
+            os.setresgid(user, user, user)
+            os.setresuid(user, user, user)
             start = time.perf_counter()
             action()
             os.write(go, str(time.perf_counter() - start).encode())
@@ -135,27 +137,25 @@ def in_child(action):
     return float(seconds)
 
 
-def measured(mount, load, names):
+def measured(mount, load, names, user):
     """The seconds of a load on a mount by the clock and by the server's processor."""
     os.chdir(mount.folder)
     before = mount.processor()
-    seconds = in_child(lambda: load(names))
+    seconds = in_child(user, lambda: load[0](load[1], names))
     used = mount.processor() - before
     os.chdir("/")
     return seconds, used
 
 
 def rounds(mounts, asked):
-    """The times of each load on each mount, by turns, in as many rounds as the seconds allow."""
-    names = [f"file-{it:05}" for it in range(asked.calls)]
-    found = {load[0]: [[] for _ in mounts] for load in LOADS}
+    """The times of each load of each user on each mount, by turns, in as many rounds as the seconds allow."""
+    names = [f"file-{it:05}" for it in range(asked.names)]
+    found = {(name, user): [[] for _ in mounts] for user in USERS for name in LOADS}
     end = time.monotonic() + asked.seconds
     for turn in range(asked.rounds):
-        for name, load, _ in LOADS:
+        for name, user in found:
             for it in (range(len(mounts)) if turn % 2 else reversed(range(len(mounts)))):
-                found[name][it].append(measured(mounts[it], load, names))
-        for mount in mounts:
-            os.unlink(f"{mount.folder}/large")
+                found[name, user][it].append(measured(mounts[it], LOADS[name], names, user))
         if time.monotonic() > end:
             break
     return found
@@ -163,42 +163,46 @@ def rounds(mounts, asked):
 
 def table(found, asked):
     """The table's lines."""
-    yield "Load,lfs_fuse a second,passthrough_ll a second,times as fast,lfs_fuse's processor us,passthrough_ll's,times as little"
-    for name, _, units in LOADS:
-        count = asked.calls * units or MEBIBYTES
-        wall = [count / min(seconds for seconds, _ in times) for times in found[name]]
-        used = [min(used for _, used in times) / count * 1e6 for times in found[name]]
-        yield f"{name},{wall[0]:.0f},{wall[1]:.0f},{wall[0] / wall[1]:.2f},{used[0]:.1f},{used[1]:.1f},{used[1] / used[0]:.2f}"
+    yield "Load,user,lfs_fuse a second,passthrough_ll a second,times as fast,lfs_fuse's processor us,passthrough_ll's,times as little"
+    for (name, user), of_mounts in found.items():
+        count = asked.names * len(FOLDERS) if LOADS[name][0] is of_names else MEBIBYTES
+        wall = [count / min(seconds for seconds, _ in times) for times in of_mounts]
+        used = [min(used for _, used in times) / count * 1e6 for times in of_mounts]
+        yield f"{name},{user},{wall[0]:.0f},{wall[1]:.0f},{wall[0] / wall[1]:.2f},{used[0]:.1f},{used[1]:.1f},{used[1] / used[0]:.2f}"
+
+
+def compared(asked, room):
+    """Builds and mounts both, and gives the table's lines."""
+    source, ours, theirs = (os.path.join(room, name) for name in ("source", "ours", "theirs"))
+    for folder in (source, ours, theirs):
+        os.mkdir(folder)
+    flags = subprocess.run(["pkg-config", "--cflags", "--libs", "fuse3"], check=True, capture_output=True, text=True).stdout.split()
+    built = os.path.join(room, "passthrough_ll")
+    subprocess.run(["gcc", "-O2", EXAMPLE, *flags, "-o", built], check=True)
+    subprocess.run(["mount", "-t", "tmpfs", "source", source], check=True)
+    mounts = []
+    try:
+        mounts.append(proved(os.path.abspath(asked.program), ours))
+        mounts.append(passthrough(built, source, theirs))
+        return list(table(rounds(mounts, asked), asked))
+    finally:
+        os.chdir("/")
+        for mount in mounts:
+            mount.end()
+        subprocess.run(["umount", "-l", source], check=True)
 
 
 def main():
-    parser = argparse.ArgumentParser()
+    parser = argparse.ArgumentParser(description=__doc__.split("\n")[0])
     parser.add_argument("program")
     parser.add_argument("--rounds", type=int, default=9)
-    parser.add_argument("--calls", type=int, default=2000)
+    parser.add_argument("--names", type=int, default=100)
     parser.add_argument("--seconds", type=int, default=180)
     parser.add_argument("--write", action="store_true")
     asked = parser.parse_args()
     with tempfile.TemporaryDirectory() as room:
-        folders = {name: os.path.join(room, name) for name in ("source", "ours", "theirs")}
-        for folder in folders.values():
-            os.mkdir(folder)
         os.chmod(room, 0o755)
-        flags = subprocess.run(["pkg-config", "--cflags", "--libs", "fuse3"], check=True, capture_output=True, text=True).stdout.split()
-        built = os.path.join(room, "passthrough_ll")
-        subprocess.run(["gcc", "-O2", EXAMPLE, *flags, "-o", built], check=True)
-        subprocess.run(["mount", "-t", "tmpfs", "source", folders["source"]], check=True)
-        mounts = []
-        try:
-            mounts.append(proved(os.path.abspath(asked.program), folders["ours"]))
-            mounts.append(passthrough(built, folders["source"], folders["theirs"]))
-            lines = list(table(rounds(mounts, asked), asked))
-        finally:
-            os.chdir("/")
-            for mount in mounts:
-                mount.end()
-            subprocess.run(["umount", "-l", folders["source"]], check=True)
-    text = "\n".join([machine(), *lines]) + "\n"
+        text = "\n".join([machine(), *compared(asked, room)]) + "\n"
     print(text, end="")
     if asked.write:
         TABLE.write_text(text, encoding="utf-8")

@@ -271,7 +271,7 @@ def users_lines(script):
             caller.user, caller.groups = int(words[1]), [int(it) for it in words[2].split(",")]
         elif words[0] == "session":
             caller.session = int(words[1])
-        elif line and words[0] not in CLEANER and not line.startswith("#"):
+        elif line and words[0] not in CLEANER and not line.startswith(("#", ".")):
             yield number, line, words, caller
 
 
