@@ -2,8 +2,9 @@
 
 ghost use Rattle.std.specs.Prelude.{◌≡◌, IfOk, option_copied};
 ghost use Rattle.lfs_nodes.specs.Maps.{node_at};
+ghost use Rattle.lfs_nodes.specs.Nodes.{known};
 ghost use Rattle.lfs_nodes.specs.Reads.{hang_in};
-ghost use Rattle.lfs_fuse_calls.specs.Paths.{IsPathOf};
+ghost use Rattle.lfs_fuse_calls.specs.Paths.{IsPathOf, LeadsToRow};
 
 use lfs_fuse_reply::errno::Errno;
 use lfs_nodes::{NodeId, Nodes, PathFault};
@@ -48,7 +49,10 @@ fn names_of(
     node: u64,
     name: Option<&[u8]>,
 ) -> Result<Vec<Name>, Errno>
-    ensures { IfOk result (λ names. IsPathOf (λ q. hang_in (node_at nodes.now.table q)) node (option_copied name.entry) names.items) }
+    ensures path { IfOk result (λ names. IsPathOf (λ q. hang_in (node_at nodes.now.table q)) node
+        (option_copied name.entry) names.items) }
+    ensures row { IfOk result (λ names. LeadsToRow (known nodes.now) node
+        (option_copied name.entry) names.items) }
 {
     let mut names = match nodes.names(alloc, NodeId(node)) {
         Ok(names) => names,
@@ -65,7 +69,10 @@ fn names_of(
 
 /// The path of a node, or of a name in it.
 pub fn path_of(alloc: Global, nodes: &Nodes, node: u64, name: Option<&[u8]>) -> Result<Path, Errno>
-    ensures { IfOk result (λ path. IsPathOf (λ q. hang_in (node_at nodes.now.table q)) node (option_copied name.entry) path) }
+    ensures path { IfOk result (λ path. IsPathOf (λ q. hang_in (node_at nodes.now.table q)) node
+        (option_copied name.entry) path) }
+    ensures row { IfOk result (λ path. LeadsToRow (known nodes.now) node
+        (option_copied name.entry) path) }
 {
     match Path::from_names(names_of(alloc, nodes, node, name)?) {
         Some(path) => Ok(path),

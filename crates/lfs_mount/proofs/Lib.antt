@@ -1,3 +1,7 @@
 pub mod HandledLemmas
+pub mod JudgedLemmas
 pub mod MakingLemmas
 pub mod RoomLemmas
+pub mod ShownLemmas
+pub mod StayLemmas
+pub mod TreeLemmas

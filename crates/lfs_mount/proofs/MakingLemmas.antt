@@ -8,13 +8,13 @@ use Rattle.lfs_types.specs.declared.request.Request.{Request}
 use Rattle.lfs_model.specs.declared.journal.Entry.{Entry}
 use Rattle.lfs_model.specs.Runs.{kept, kept_entry}
 use Rattle.lfs_model.proofs.RunLemmas.{kept-append}
-use Rattle.std.proofs.Common.{append_assoc, suc}
+use Rattle.std.proofs.Common.{append_assoc, suc, ◌≤◌}
 use Rattle.lfs_volume.specs.CallRuns.{AreAnswers, IsCallMade}
-use Rattle.lfs_volume.specs.Journals.{Begins, Since}
+use Rattle.lfs_volume.specs.Journals.{Begins, IsJournal, Since}
 use Rattle.lfs_volume.specs.Seen.{Seen}
 use Rattle.lfs_volume.proofs.CallLemmas.{AreAnswers-append}
 use Rattle.lfs_fuse_calls.specs.Shown.{is_full, wanted_by}
-use Rattle.lfs_mount.specs.Making.{AreMade, EndsOr, GoUpTo, call_as, calls_as}
+use Rattle.lfs_mount.specs.Making.{AreMade, EndsOr, GoUpTo, OnAny, call_as, calls_as}
 
 pub calls_as-append : (caller : Caller) (requests : List Request) (request : Request)
     → calls_as caller (requests ++ request ∷ []) ≡ calls_as caller requests ++ call_as caller request ∷ []
@@ -88,6 +88,22 @@ one_more {F} state is_settled caller old before next done answers request answer
     (subst (λ j. IsCallMade state is_settled before.limit from j before.store caller request answer next.store) entered
     (made from here))))
 
+-- no call was made
+pub none_made : (P : Type 0) (answers : List Answer) → answers ≡ [] → OnAny answers P
+none_made P answers none = subst (λ l. OnAny l P) (sym none) tt
+
+-- a call that was made left the journal within its limit
+pub within_limit : {F : Type 0} (state : F → StoreState) (old next : Seen F) (answers : List Answer)
+    → Since (state next.since) next.since_level
+    (λ from. IsJournal from (state next.store) next.level next.journal next.limit)
+    → next.since ≡ old.since → next.since_level ≡ old.since_level
+    → OnAny answers (Since (state old.since) old.since_level (λ from. length next.journal ≤ next.limit))
+within_limit state old next [] legal since since_level = tt
+within_limit {F} state old next (answer ∷ answers) legal since since_level =
+    λ from begins.
+    (legal from (subst (λ l. Begins (state next.since) l from) (sym since_level)
+    (subst (λ (s : F). Begins (state s) old.since_level from) (sym since) begins))).within
+
 -- what was entered, with one more
 pub entered_more : (caller : Caller) (old before next : List Entry) (done : List Request) (answers : List Answer)
     (request : Request) (answer : Answer)
@@ -110,11 +126,13 @@ pub are_made : {F : Type 0} (state : F → StoreState) (is_settled : F → Type 
     → Since (state old.since) old.since_level
     (λ from. AreAnswers state is_settled old.limit from old.journal old.store
     (calls_as caller done) answers new.store)
-    → new.journal ≡ old.journal ++ kept (calls_as caller done) answers → GoUpTo requests answers
+    → new.journal ≡ old.journal ++ kept (calls_as caller done) answers
+    → OnAny answers (Since (state old.since) old.since_level (λ from. length new.journal ≤ new.limit))
+    → GoUpTo requests answers
     → new.since ≡ old.since → new.since_level ≡ old.since_level → new.limit ≡ old.limit
     → AreMade state is_settled caller requests answers old new
-are_made state is_settled caller requests done rest answers old new all count each entered up_to since since_level
-    limit =
+are_made state is_settled caller requests done rest answers old new all count each entered within up_to since
+    since_level limit =
     let made : take (length answers) requests ≡ done =
     ap (λ n. take n requests) count ∙ ap (take (length done)) (sym all) ∙ take-append_seam done rest in
     record {
@@ -122,6 +140,7 @@ are_made state is_settled caller requests done rest answers old new all count ea
           (λ from. AreAnswers state is_settled old.limit from old.journal old.store
           (calls_as caller l) answers new.store)) (sym made) each;
       entered = entered ∙ ap (λ l. old.journal ++ kept (calls_as caller l) answers) (sym made);
+      within = within;
       up_to = up_to;
       since = since;
       since_level = since_level;

@@ -5,3 +5,4 @@ pub mod Loans
 pub mod Making
 pub mod Room
 pub mod Tending
+pub mod Trees

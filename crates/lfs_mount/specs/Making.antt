@@ -1,5 +1,5 @@
 -- Calls of a message, made on a volume one after another.
-use Rattle.std.specs.Prelude.{◌≡◌, Bool, true, false, List, [], ◌∷◌, ◌++◌, length, take, map}
+use Rattle.std.specs.Prelude.{◌≡◌, ◌≤◌, Bool, true, false, List, [], ◌∷◌, ◌++◌, length, take, map}
 use Rattle.lfs_types.specs.Caller.{Caller}
 use Rattle.lfs_types.specs.StoreStates.{StoreState}
 use Rattle.lfs_types.specs.declared.answer.Answer.{Answer}
@@ -32,15 +32,21 @@ GoUpTo (request ∷ requests) [] = ⊥
 GoUpTo (request ∷ requests) (answer ∷ answers) =
     EndsOr (is_full (wanted_by request) answer) (GoUpTo requests answers) answers
 
+-- what holds where a call was answered
+abbrev pub OnAny : List Answer → Type 0 → Type 0
+OnAny [] P = Unit {0}
+OnAny (answer ∷ answers) P = P
+
 -- The calls that were made of those that were asked for: as many as have answers, all as one caller, each answered as a
--- call of the volume is, on the store that the one before it left, and each entered; up to the first that isn't served
--- in full.
+-- call of the volume is, on the store that the one before it left, and each entered, for which the journal had room; up
+-- to the first that isn't served in full.
 pub record AreMade {F : Type 0} (state : F → StoreState) (is_settled : F → Type 0) (caller : Caller)
     (requests : List Request) (answers : List Answer) (old new : Seen F) : Type 0 where
   pub each : Since (state old.since) old.since_level
       (λ from. AreAnswers state is_settled old.limit from old.journal old.store
       (calls_as caller (take (length answers) requests)) answers new.store)
   pub entered : new.journal ≡ old.journal ++ kept (calls_as caller (take (length answers) requests)) answers
+  pub within : OnAny answers (Since (state old.since) old.since_level (λ from. length new.journal ≤ new.limit))
   pub up_to : GoUpTo requests answers
   pub since : new.since ≡ old.since
   pub since_level : new.since_level ≡ old.since_level

@@ -4,6 +4,7 @@ ghost use Rattle.std.specs.Prelude.{◌≡◌, OnOk};
 ghost use Rattle.lfs_fuse_wire.specs.Said.{said};
 ghost use Rattle.lfs_fuse_wire.specs.Views.{view};
 ghost use Rattle.lfs_mount.specs.Answered.{IsAnswered, IsHeard, IsToldDated, live_in, replied};
+ghost use Rattle.lfs_mount.specs.Trees.{StayTrue};
 
 use crate::loans::with_handle;
 use crate::mount::Mount;
@@ -44,6 +45,8 @@ impl<F: FileStore + Drop> Mount<F> {
         ensures told { IsToldDated F.state F.is_settled self.old.sizes now cred.now self.old.tree.nodes node
             (view message.now) result self.old.tree.volume self.new.tree.volume
             self.old.beside self.new.beside }
+        ensures stay { StayTrue F.state self.old.tree.volume self.old.tree.nodes
+            self.new.tree.volume self.new.tree.nodes }
         ensures sizes { self.new.sizes ≡ self.old.sizes }
     {
         let row = self.tree.nodes.row(NodeId(node));
@@ -80,6 +83,8 @@ impl<F: FileStore + Drop> Mount<F> {
         ensures heard { IsHeard F.state F.is_settled self.old.sizes now cred.now self.old.tree.nodes
             header.now.node (said bytes.now) result.0 result.1 self.old.tree.volume self.new.tree.volume
             self.old.beside self.new.beside }
+        ensures stay { StayTrue F.state self.old.tree.volume self.old.tree.nodes
+            self.new.tree.volume self.new.tree.nodes }
         ensures sizes { self.new.sizes ≡ self.old.sizes }
     {
         match Message::decode(bytes) {
@@ -93,6 +98,7 @@ impl<F: FileStore + Drop> Mount<F> {
 
     /// Answers one message, which comes now: its calls are made as the caller that its header tells, with the other
     /// groups of its process, and its reply is added, if it wants one. Nothing is done of bytes that have no header.
+    /// Nodes that were true of the tree that the volume showed are true of the one that it shows then.
     ///
     /// # Errors
     ///
@@ -108,6 +114,8 @@ impl<F: FileStore + Drop> Mount<F> {
         ensures answered { OnOk result (IsAnswered F.state F.is_settled self.old.sizes now self.old.tree.nodes
             others.now bytes.now out.old.items out.new.items self.old.tree.volume self.new.tree.volume
             self.old.beside self.new.beside) }
+        ensures stay { StayTrue F.state self.old.tree.volume self.old.tree.nodes
+            self.new.tree.volume self.new.tree.nodes }
         ensures sizes { self.new.sizes ≡ self.old.sizes }
     {
         let Some(header) = Header::decode(bytes) else {

@@ -2,8 +2,9 @@
 
 ghost use Rattle.std.specs.Prelude.{◌≡◌, IfOk, IfErr};
 ghost use Rattle.lfs_fuse_wire.specs.Views.{view};
-ghost use Rattle.lfs_fuse_calls.specs.Telling.{SaysServed};
+ghost use Rattle.lfs_fuse_calls.specs.Telling.{SaysServed, named_in, seen_in};
 ghost use Rattle.lfs_mount.specs.Handled.{AreAskedAndMade, IsHandled, hangs_in};
+ghost use Rattle.lfs_mount.specs.Trees.{AreLedAndMade, LeavesNodes, StayTrue};
 
 use crate::making::make;
 use crate::tree::Tree;
@@ -32,6 +33,8 @@ impl<F: FileStore + Drop> Tree<F> {
     ) -> Result<Vec<Answer>, Errno>
         ensures made { IfOk result (λ answers. AreAskedAndMade F.state F.is_settled cred.now (hangs_in self.old.nodes)
             node (view message.now) answers.items self.old.volume self.new.volume) }
+        ensures led { IfOk result (λ answers. AreLedAndMade F.state F.is_settled cred.now self.old.nodes node
+            (view message.now) answers.items self.old.volume self.new.volume) }
         ensures none { IfErr result (λ _. self.new.volume ≡ self.old.volume) }
         ensures nodes { self.new.nodes ≡ self.old.nodes }
     {
@@ -56,6 +59,8 @@ impl<F: FileStore + Drop> Tree<F> {
         answers: Vec<Answer>,
     ) -> Told
         ensures says { SaysServed cred.now (view message.now) answers.items result }
+        ensures nodes { name ≡ named_in (view message.now) → LeavesNodes (view message.now) node
+            (seen_in answers.items) self.old.nodes self.new.nodes }
         ensures volume { self.new.volume ≡ self.old.volume }
     {
         match message {
@@ -88,8 +93,9 @@ impl<F: FileStore + Drop> Tree<F> {
         message: &Message<'_>,
         cred: &Cred,
     ) -> Told
-        ensures { IsHandled F.state F.is_settled cred.now (hangs_in self.old.nodes) node (view message.now)
+        ensures told { IsHandled F.state F.is_settled cred.now (hangs_in self.old.nodes) node (view message.now)
             result self.old.volume self.new.volume }
+        ensures stay { StayTrue F.state self.old.volume self.old.nodes self.new.volume self.new.nodes }
     {
         let name = match named_in(message) {
             Some(bytes) => match name_of(alloc, bytes) {

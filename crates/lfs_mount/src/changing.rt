@@ -1,10 +1,13 @@
 //! Messages whose calls depend on what a first call shows, and those that speak of two names or of none.
 
-ghost use Rattle.std.specs.Prelude.{◌≡◌, ◌∷◌, [], ◌<◌, IfOk, IfErr};
+ghost use Rattle.std.specs.Prelude.{◌≡◌, ◌∷◌, [], ◌<◌, Some, IfOk, IfErr};
+ghost use Rattle.lfs_fuse_calls.specs.Paths.{LeadsToRow};
 ghost use Rattle.lfs_fuse_calls.specs.Telling.{SaysOr, attr_told, refusal_in, seen_in};
 ghost use Rattle.lfs_nodes.specs.Maps.{room_in};
+ghost use Rattle.lfs_nodes.specs.Nodes.{known};
 ghost use Rattle.lfs_mount.specs.Handled.{IsDone, IsGivenOrNot, IsReleased, IsRenamed, IsRenamedToFree, is_missing, IsSet, IsSetAttr, IsSetJudged, IsSynced, SaysDone, hangs_in};
 ghost use Rattle.lfs_mount.specs.Making.{AreMade};
+ghost use Rattle.lfs_mount.specs.Trees.{MovesRow, StayTrue, UnlessRefused};
 
 use crate::making::make;
 use crate::tree::Tree;
@@ -66,7 +69,10 @@ struct RenameNames {
 }
 
 /// The names that these bytes are.
-fn names_of(alloc: Global, from: &Spot<'_>, to: &Spot<'_>) -> Result<RenameNames, Errno> {
+fn names_of(alloc: Global, from: &Spot<'_>, to: &Spot<'_>) -> Result<RenameNames, Errno>
+    ensures name { IfOk result (λ names. names.name ≡ from.now.name.now) }
+    ensures new_name { IfOk result (λ names. names.new_name ≡ to.now.name.now) }
+{
     let name = name_of(alloc, from.name)?;
     let new_name = name_of(alloc, to.name)?;
     let copy = name_of(alloc, to.name)?;
@@ -109,7 +115,8 @@ impl<F: FileStore + Drop> Tree<F> {
 
     /// Writes what waits to be written.
     pub(crate) fn synced(&mut self, alloc: Global, cred: &Cred) -> Told
-        ensures { IsSynced F.state F.is_settled cred.now result self.old.volume self.new.volume }
+        ensures told { IsSynced F.state F.is_settled cred.now result self.old.volume self.new.volume }
+        ensures nodes { self.new.nodes ≡ self.old.nodes }
     {
         match self.one(alloc, cred, Request::Sync) {
             Ok(answers) => done_told(answers.as_slice()),
@@ -126,8 +133,9 @@ impl<F: FileStore + Drop> Tree<F> {
         present: &Attrs,
         cred: &Cred,
     ) -> Told
-        ensures { IsSet F.state F.is_settled cred.now (hangs_in self.old.nodes) node fields.now
+        ensures told { IsSet F.state F.is_settled cred.now (hangs_in self.old.nodes) node fields.now
             result self.old.volume self.new.volume present.now }
+        ensures nodes { self.new.nodes ≡ self.old.nodes }
     {
         let path = match path_of(alloc, &self.nodes, node, None) {
             Ok(path) => path,
@@ -151,8 +159,9 @@ impl<F: FileStore + Drop> Tree<F> {
         present: &Attrs,
         cred: &Cred,
     ) -> Told
-        ensures { IsSetJudged F.state F.is_settled cred.now (hangs_in self.old.nodes) node fields.now
+        ensures told { IsSetJudged F.state F.is_settled cred.now (hangs_in self.old.nodes) node fields.now
             result self.old.volume self.new.volume present.now }
+        ensures nodes { self.new.nodes ≡ self.old.nodes }
     {
         match dating_refusal(cred, fields, present) {
             Some(errno) => Told::Error(errno),
@@ -168,8 +177,9 @@ impl<F: FileStore + Drop> Tree<F> {
         fields: &SetAttr,
         cred: &Cred,
     ) -> Told
-        ensures { IsSetAttr F.state F.is_settled cred.now (hangs_in self.old.nodes) node fields.now
+        ensures told { IsSetAttr F.state F.is_settled cred.now (hangs_in self.old.nodes) node fields.now
             result self.old.volume self.new.volume }
+        ensures nodes { self.new.nodes ≡ self.old.nodes }
     {
         let message = Message::SetAttr(*fields);
         let answers = match self.calls(alloc, node, &message, cred) {
@@ -187,8 +197,9 @@ impl<F: FileStore + Drop> Tree<F> {
 
     /// Gives a node's file a mode, where it has a path and there is memory for that.
     fn give(&mut self, alloc: Global, node: u64, mode: Mode, cred: &Cred)
-        ensures { IsGivenOrNot F.state F.is_settled cred.now (hangs_in self.old.nodes) node mode
+        ensures given { IsGivenOrNot F.state F.is_settled cred.now (hangs_in self.old.nodes) node mode
             self.old.volume self.new.volume }
+        ensures nodes { self.new.nodes ≡ self.old.nodes }
     {
         let Ok(path) = path_of(alloc, &self.nodes, node, None) else {
             return;
@@ -204,8 +215,9 @@ impl<F: FileStore + Drop> Tree<F> {
         due: Option<Mode>,
         cred: &Cred,
     ) -> Told
-        ensures { IsReleased F.state F.is_settled cred.now (hangs_in self.old.nodes) node due
+        ensures told { IsReleased F.state F.is_settled cred.now (hangs_in self.old.nodes) node due
             result self.old.volume self.new.volume }
+        ensures nodes { self.new.nodes ≡ self.old.nodes }
     {
         if let Some(mode) = due {
             self.give(alloc, node, mode, cred);
@@ -217,6 +229,9 @@ impl<F: FileStore + Drop> Tree<F> {
     fn moved(&mut self, from: u64, to: u64, names: RenameNames, answers: &[Answer]) -> Told
         requires { 0 < room_in self.old.nodes.index }
         ensures says { SaysDone result answers.now }
+        ensures nodes { UnlessRefused (refusal_in answers.now)
+            (MovesRow from names.name to names.new_name self.old.nodes self.new.nodes)
+            self.old.nodes self.new.nodes }
         ensures volume { self.new.volume ≡ self.old.volume }
     {
         if let Some(errno) = refusal_in(answers) {
@@ -241,8 +256,11 @@ impl<F: FileStore + Drop> Tree<F> {
         paths: (Path, Path),
         cred: &Cred,
     ) -> Told
-        ensures { IsDone F.state F.is_settled cred.now (Request.Rename paths.0 paths.1)
+        ensures told { IsDone F.state F.is_settled cred.now (Request.Rename paths.0 paths.1)
             result self.old.volume self.new.volume }
+        ensures stay { LeadsToRow (known self.old.nodes) spots.0 (Some names.name) paths.0
+            → LeadsToRow (known self.old.nodes) spots.1 (Some names.new_name) paths.1
+            → StayTrue F.state self.old.volume self.old.nodes self.new.volume self.new.nodes }
     {
         if self.nodes.make_room().is_err() {
             return Told::Error(Errno::ENOMEM);
@@ -262,8 +280,9 @@ impl<F: FileStore + Drop> Tree<F> {
         to: &Spot<'_>,
         cred: &Cred,
     ) -> Told
-        ensures { IsRenamed F.state F.is_settled cred.now (hangs_in self.old.nodes) from.now.node from.now.name.now
+        ensures told { IsRenamed F.state F.is_settled cred.now (hangs_in self.old.nodes) from.now.node from.now.name.now
             to.now.node to.now.name.now result self.old.volume self.new.volume }
+        ensures stay { StayTrue F.state self.old.volume self.old.nodes self.new.volume self.new.nodes }
     {
         let names = match names_of(alloc, from, to) {
             Ok(names) => names,
@@ -288,8 +307,9 @@ impl<F: FileStore + Drop> Tree<F> {
         to: &Spot<'_>,
         cred: &Cred,
     ) -> Told
-        ensures { IsRenamedToFree F.state F.is_settled cred.now (hangs_in self.old.nodes) from.now.node from.now.name.now
+        ensures told { IsRenamedToFree F.state F.is_settled cred.now (hangs_in self.old.nodes) from.now.node from.now.name.now
             to.now.node to.now.name.now result self.old.volume self.new.volume }
+        ensures stay { StayTrue F.state self.old.volume self.old.nodes self.new.volume self.new.nodes }
     {
         let path = match path_of(alloc, &self.nodes, to.node, Some(to.name)) {
             Ok(path) => path,

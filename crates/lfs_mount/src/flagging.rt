@@ -88,8 +88,9 @@ impl<F: FileStore + Drop> Tree<F> {
         bits: u32,
         cred: &Cred,
     ) -> Told
-        ensures { IsFlagsSet F.state F.is_settled cred.now (hangs_in self.old.nodes) node bits
+        ensures told { IsFlagsSet F.state F.is_settled cred.now (hangs_in self.old.nodes) node bits
             result self.old.volume self.new.volume present }
+        ensures nodes { self.new.nodes ≡ self.old.nodes }
     {
         let Some(flags) = flags_wanted(present, bits) else {
             return Told::Error(Errno::EOPNOTSUPP);
@@ -113,8 +114,9 @@ impl<F: FileStore + Drop> Tree<F> {
         present: FileFlags,
         cred: &Cred,
     ) -> Told
-        ensures { GoesOnFlags F.state F.is_settled cred.now (hangs_in self.old.nodes) node command
+        ensures told { GoesOnFlags F.state F.is_settled cred.now (hangs_in self.old.nodes) node command
             result self.old.volume self.new.volume present }
+        ensures nodes { self.new.nodes ≡ self.old.nodes }
     {
         match command {
             Command::GetFlags => Told::Flags(flags_shown(present, 0x10, 0x20, 0x40)),
@@ -126,8 +128,9 @@ impl<F: FileStore + Drop> Tree<F> {
 
     /// Answers a control call, behind a look at the flags that there are.
     pub(crate) fn flagged(&mut self, alloc: Global, node: u64, fields: &Ioctl, cred: &Cred) -> Told
-        ensures { IsFlagged F.state F.is_settled cred.now (hangs_in self.old.nodes) node fields.now
+        ensures told { IsFlagged F.state F.is_settled cred.now (hangs_in self.old.nodes) node fields.now
             result self.old.volume self.new.volume }
+        ensures nodes { self.new.nodes ≡ self.old.nodes }
     {
         let message = Message::Ioctl(*fields);
         let answers = match self.calls(alloc, node, &message, cred) {

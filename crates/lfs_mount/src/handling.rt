@@ -2,7 +2,10 @@
 
 ghost use Rattle.std.specs.Prelude.{◌≡◌};
 ghost use Rattle.lfs_fuse_wire.specs.Views.{view};
+ghost use Rattle.lfs_model.specs.World.{Rows};
+ghost use Rattle.lfs_nodes.specs.Nodes.{AreNodes, known};
 ghost use Rattle.lfs_mount.specs.Handled.{IsHandled, IsMade, IsRename, IsRenamed, IsRenamedToFree, IsTold, error_of_unserved, hangs_in};
+ghost use Rattle.lfs_mount.specs.Trees.{StayTrue};
 
 use crate::changing::Spot;
 use crate::mount::Sizes;
@@ -35,7 +38,9 @@ fn error_of_unserved(kind: Unserved) -> Errno
 }
 
 /// The kernel forgets the nodes of a batch.
-fn forget_all(nodes: &mut Nodes, forgets: &Forgets<'_>) {
+fn forget_all(nodes: &mut Nodes, forgets: &Forgets<'_>)
+    ensures { (rows : Rows) → AreNodes rows (known nodes.old) → AreNodes rows (known nodes.new) }
+{
     for index in 0..forgets.len() {
         if let Some(forget) = forgets.get(index) {
             nodes.forget(NodeId(forget.node), forget.lookups);
@@ -53,12 +58,13 @@ impl<F: FileStore + Drop> Tree<F> {
         to: &Spot<'_>,
         cred: &Cred,
     ) -> Told
-        ensures { IsRename mode
+        ensures told { IsRename mode
             (IsRenamed F.state F.is_settled cred.now (hangs_in self.old.nodes) from.now.node from.now.name.now
             to.now.node to.now.name.now result self.old.volume self.new.volume)
             (IsRenamedToFree F.state F.is_settled cred.now (hangs_in self.old.nodes) from.now.node from.now.name.now
             to.now.node to.now.name.now result self.old.volume self.new.volume)
             result self.old.volume self.new.volume }
+        ensures stay { StayTrue F.state self.old.volume self.old.nodes self.new.volume self.new.nodes }
     {
         match mode {
             RenameMode::Replace => self.renamed(alloc, from, to, cred),
@@ -76,8 +82,9 @@ impl<F: FileStore + Drop> Tree<F> {
         message: &Message<'_>,
         cred: &Cred,
     ) -> Told
-        ensures { IsMade kind (IsHandled F.state F.is_settled cred.now (hangs_in self.old.nodes) node (view message.now)
+        ensures told { IsMade kind (IsHandled F.state F.is_settled cred.now (hangs_in self.old.nodes) node (view message.now)
             result self.old.volume self.new.volume) result self.old.volume self.new.volume }
+        ensures stay { StayTrue F.state self.old.volume self.old.nodes self.new.volume self.new.nodes }
     {
         match kind {
             Some(FileKind::Regular) => self.once(alloc, node, message, cred),
@@ -95,8 +102,9 @@ impl<F: FileStore + Drop> Tree<F> {
         message: &Message<'_>,
         cred: &Cred,
     ) -> Told
-        ensures { IsTold F.state F.is_settled sizes due cred.now (hangs_in self.old.nodes) node (view message.now)
+        ensures told { IsTold F.state F.is_settled sizes due cred.now (hangs_in self.old.nodes) node (view message.now)
             result self.old.volume self.new.volume }
+        ensures stay { StayTrue F.state self.old.volume self.old.nodes self.new.volume self.new.nodes }
     {
         match message {
             Message::Lookup(_)

@@ -8,6 +8,7 @@ mod changing;
 mod flagging;
 mod handling;
 mod keeping;
+pub mod laws;
 mod listing;
 mod loans;
 mod making;

@@ -2,6 +2,7 @@
 
 ghost use Rattle.std.specs.Prelude.{◌≡◌, IfOk, replicate};
 ghost use Rattle.lfs_stamps.specs.Stamps.{born};
+ghost use Rattle.lfs_mount.specs.Trees.{AreTrue};
 
 use crate::listing::Listings;
 use crate::loans::Loans;
@@ -38,7 +39,8 @@ pub struct Mount<F: FileStore + Drop> {
 }
 
 impl<F: FileStore + Drop> Mount<F> {
-    /// A mount of a volume, of which the kernel knows the root alone. Each file has the present time.
+    /// A mount of a volume, of which the kernel knows the root alone. Each file has the present time. Its nodes are
+    /// true of the tree that the volume shows.
     pub fn new(
         alloc: Global,
         volume: Volume<F>,
@@ -46,6 +48,7 @@ impl<F: FileStore + Drop> Mount<F> {
         now: Time,
     ) -> Result<Mount<F>, AllocError>
         ensures volume { IfOk result (λ mount. mount.tree.volume ≡ volume) }
+        ensures nodes { IfOk result (λ mount. AreTrue F.state mount.tree.volume mount.tree.nodes) }
         ensures sizes { IfOk result (λ mount. mount.sizes ≡ sizes) }
         ensures times { IfOk result (λ mount. mount.beside.times.stamps.items ≡ replicate sizes.inodes (born now)) }
     {

@@ -1,9 +1,10 @@
 //! Nodes of entries that were found, made, moved or removed.
 
-ghost use Rattle.std.specs.Prelude.{◌≡◌, IfOk, IfErr};
+ghost use Rattle.std.specs.Prelude.{◌≡◌, Some, IfOk, IfErr};
 ghost use Rattle.lfs_fuse_calls.specs.Attrs.{attr_of};
 ghost use Rattle.lfs_fuse_calls.specs.Telling.{TellsEntry, TellsCreated};
 ghost use Rattle.lfs_mount.specs.Handled.{IsNodeFault};
+ghost use Rattle.lfs_mount.specs.Trees.{FindsRow, LosesRow};
 
 use crate::tree::Tree;
 use lfs_fuse_calls::attr::attr;
@@ -38,6 +39,7 @@ impl<F: FileStore + Drop> Tree<F> {
     ) -> Result<Entry, Errno>
         ensures entry { IfOk result (λ entry. entry.attr ≡ attr_of seen.now.number seen.now.attrs) }
         ensures fault { IfErr result IsNodeFault }
+        ensures nodes { FindsRow name (Some seen.now) directory self.old.nodes self.new.nodes }
         ensures volume { self.new.volume ≡ self.old.volume }
     {
         let Some(name) = name else {
@@ -65,6 +67,7 @@ impl<F: FileStore + Drop> Tree<F> {
         seen: Option<Seen>,
     ) -> Told
         ensures told { TellsEntry seen result }
+        ensures nodes { FindsRow name seen directory self.old.nodes self.new.nodes }
         ensures volume { self.new.volume ≡ self.old.volume }
     {
         let Some(seen) = seen else {
@@ -85,6 +88,7 @@ impl<F: FileStore + Drop> Tree<F> {
         seen: Option<Seen>,
     ) -> Told
         ensures told { TellsCreated seen result }
+        ensures nodes { FindsRow name seen directory self.old.nodes self.new.nodes }
         ensures volume { self.new.volume ≡ self.old.volume }
     {
         let Some(seen) = seen else {
@@ -99,6 +103,7 @@ impl<F: FileStore + Drop> Tree<F> {
     /// A file or a directory was removed: its node is gone.
     pub(crate) fn removed_told(&mut self, directory: u64, name: Option<Name>) -> Told
         ensures told { result ≡ Told.Done }
+        ensures nodes { LosesRow name directory self.old.nodes self.new.nodes }
         ensures volume { self.new.volume ≡ self.old.volume }
     {
         if let Some(name) = name {

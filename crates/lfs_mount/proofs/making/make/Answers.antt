@@ -7,12 +7,12 @@ use Rattle.lfs_volume.specs.Journals.{Since}
 use Rattle.lfs_volume.proofs.CallLemmas.{call_made}
 use Rattle.lfs_fuse_calls.specs.Shown.{is_full, wanted_by}
 use Rattle.lfs_mount.specs.Making.{GoUpTo, calls_as}
-use Rattle.lfs_mount.proofs.MakingLemmas.{AllFull, AllFull-append, are_made, entered_more, one_more, up_to_all}
-use Rattle.lfs_mount.proofs.MakingLemmas.{up_to_one}
+use Rattle.lfs_mount.proofs.MakingLemmas.{AllFull, AllFull-append, are_made, entered_more, none_made, one_more}
+use Rattle.lfs_mount.proofs.MakingLemmas.{up_to_all, up_to_one, within_limit}
 use Rattle.lfs_mount.proofs.making.make.Goals as goal
 
 pub loop-request-init : goal.loop-request-init
-loop-request-init g c = search rules
+loop-request-init g c = search (rules, none_made)
 
 pub loop-request-preserved : goal.loop-request-preserved
 loop-request-preserved g c =
@@ -44,6 +44,8 @@ loop-request-preserved g c =
       entered = subst (λ l. next.journal ≡ old.journal ++ kept (calls_as caller (done ++ request ∷ [])) l) (sym pushed)
           (entered_more caller old.journal before.journal next.journal done answers request answer i.count i.entered
           made.entered);
+      within = within_limit state old next c.push_within.new.items.items made.legal (made.since ∙ i.since)
+          (made.since_level ∙ i.since_level);
       full = subst (λ l. AllFull (done ++ request ∷ []) l) (sym pushed)
           (AllFull-append done answers request answer i.full full);
       all = append_assoc done (request ∷ []) c.next.new.self.rest.items ∙ ap (λ l. done ++ l) (sym stepped) ∙ i.all;
@@ -91,6 +93,8 @@ returns-then-not-goes_on-clause-made g c =
     (subst (λ l. next.journal ≡ old.journal ++ kept (calls_as caller (done ++ request ∷ [])) l) (sym pushed)
     (entered_more caller old.journal before.journal next.journal done answers request answer i.count i.entered
     made.entered))
+    (within_limit state old next c.push_within.new.items.items made.legal (made.since ∙ i.since)
+    (made.since_level ∙ i.since_level))
     (subst (λ l. GoUpTo l c.push_within.new.items.items) whole
     (subst (λ l. GoUpTo (done ++ request ∷ rest) l) (sym pushed)
     (up_to_one done rest answers request answer i.full halts)))
@@ -106,7 +110,7 @@ returns-clause-made g c =
     let all : done ++ [] ≡ c.args.requests.items = ap (λ l. done ++ l) (sym ended) ∙ i.all in
     are_made g.F.FileStore.state g.F.FileStore.is_settled c.args.cred.now c.args.requests.items done []
     c.loop-request.answers.items c.args.volume.now c.loop-request.volume
-    all i.count i.each i.entered
+    all i.count i.each i.entered i.within
     (subst (λ l. GoUpTo l c.loop-request.answers.items) (sym (append-nil done) ∙ all)
     (up_to_all done c.loop-request.answers.items i.full))
     i.since i.since_level i.limit

@@ -2,7 +2,7 @@ use Rattle.std.proofs.Common.{◌≡◌, ◌++◌, ◌≤◌, length, vec_capaci
 use Rattle.lfs_model.specs.Runs.{kept}
 use Rattle.lfs_volume.specs.CallRuns.{AreAnswers}
 use Rattle.lfs_volume.specs.Journals.{Since}
-use Rattle.lfs_mount.specs.Making.{calls_as}
+use Rattle.lfs_mount.specs.Making.{OnAny, calls_as}
 use Rattle.lfs_mount.proofs.MakingLemmas.{AllFull}
 use Rattle.lfs_mount.proofs.making.make.Given as goal
 
@@ -12,6 +12,8 @@ invariant-loop-request g l = record {
       (λ from. AreAnswers g.F.FileStore.state g.F.FileStore.is_settled l.fn.volume.limit from l.fn.volume.journal
       l.fn.volume.store (calls_as l.cred l.yielded) l.answers.items l.volume.store);
   entered : l.volume.journal ≡ l.fn.volume.journal ++ kept (calls_as l.cred l.yielded) l.answers.items;
+  within : OnAny l.answers.items (Since (g.F.FileStore.state l.fn.volume.since) l.fn.volume.since_level
+      (λ from. length l.volume.journal ≤ l.volume.limit));
   full : AllFull l.yielded l.answers.items;
   all : l.yielded ++ l.request-iterator.rest.items ≡ l.fn.requests.items;
   count : length l.answers.items ≡ length l.yielded;

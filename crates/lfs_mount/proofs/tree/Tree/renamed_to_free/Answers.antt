@@ -5,10 +5,11 @@ use Rattle.lfs_fuse_calls.specs.Telling.{refusal_in}
 use Rattle.lfs_fuse_calls.specs.declared.told.Told.TheVariants.{Error}
 use Rattle.lfs_mount.specs.Handled.{IsRenamed, hangs_in, is_missing}
 use Rattle.lfs_mount.proofs.HandledLemmas.{sought_free, sought_refused, sought_there}
+use Rattle.lfs_mount.proofs.StayLemmas.{stat_stay}
 use Rattle.lfs_mount.proofs.tree.Tree.renamed_to_free.Goals as goal
 
-pub returns-in-None : goal.returns-in-None
-returns-in-None g c =
+pub returns-in-None-clause-told : goal.returns-in-None-clause-told
+returns-in-None-clause-told g c =
     let state = g.F.FileStore.state in
     let settled = g.F.FileStore.is_settled in
     let hangs = hangs_in c.args.self.now.nodes in
@@ -16,15 +17,15 @@ returns-in-None g c =
     let to = c.args.to.now in
     let leads : IsPathOf hangs to.node (Some to.name.now) c.in-Ok.path =
     subst (λ r. IfOk r (λ (path : List (List ℕ)). IsPathOf hangs to.node (Some to.name.now) path)) c.in-Ok.is
-    c.path_of.ensures in
+    c.path_of.ensures.path in
     let served : refusal_in c.in-Ok-one.answers.items ≡ None =
     sym (ap refusal_in c.as_slice.ensures.value) ∙ sym c.refusal_in.ensures ∙ c.in-None.is in
     inl (sought_there state settled c.args.cred.now hangs from.node from.name.now to.node to.name.now
     (Error EEXIST) c.args.self.now.volume c.one.new.self.volume
     c.in-Ok.path c.in-Ok-one.answers.items leads c.in-Ok-one.ensures.made served refl)
 
-pub returns-then-is_missing : goal.returns-then-is_missing
-returns-then-is_missing g c =
+pub returns-then-is_missing-clause-told : goal.returns-then-is_missing-clause-told
+returns-then-is_missing-clause-told g c =
     let state = g.F.FileStore.state in
     let settled = g.F.FileStore.is_settled in
     let hangs = hangs_in c.args.self.now.nodes in
@@ -34,7 +35,7 @@ returns-then-is_missing g c =
     let new = c.renamed.new.self.volume in
     let leads : IsPathOf hangs to.node (Some to.name.now) c.in-Ok.path =
     subst (λ r. IfOk r (λ (path : List (List ℕ)). IsPathOf hangs to.node (Some to.name.now) path)) c.in-Ok.is
-    c.path_of.ensures in
+    c.path_of.ensures.path in
     let refused : refusal_in c.in-Ok-one.answers.items ≡ Some c.in-Some.errno =
     sym (ap refusal_in c.as_slice.ensures.value) ∙ sym c.refusal_in.ensures ∙ c.in-Some.is in
     let missing : is_missing c.in-Some.errno ≡ true = sym c.is_missing.ensures ∙ c.if-is_missing.true in
@@ -43,10 +44,10 @@ returns-then-is_missing g c =
     c.in-Ok.path c.in-Ok-one.answers.items c.in-Some.errno leads c.in-Ok-one.ensures.made refused missing
     (subst (λ n. IsRenamed state settled c.args.cred.now
     (hangs_in n) from.node from.name.now to.node to.name.now c.renamed.result between new) c.one.ensures.nodes
-    c.renamed.ensures))
+    c.renamed.ensures.told))
 
-pub returns : goal.returns
-returns g c =
+pub returns-clause-told : goal.returns-clause-told
+returns-clause-told g c =
     let state = g.F.FileStore.state in
     let settled = g.F.FileStore.is_settled in
     let hangs = hangs_in c.args.self.now.nodes in
@@ -54,10 +55,29 @@ returns g c =
     let to = c.args.to.now in
     let leads : IsPathOf hangs to.node (Some to.name.now) c.in-Ok.path =
     subst (λ r. IfOk r (λ (path : List (List ℕ)). IsPathOf hangs to.node (Some to.name.now) path)) c.in-Ok.is
-    c.path_of.ensures in
+    c.path_of.ensures.path in
     let refused : refusal_in c.in-Ok-one.answers.items ≡ Some c.in-Some.errno =
     sym (ap refusal_in c.as_slice.ensures.value) ∙ sym c.refusal_in.ensures ∙ c.in-Some.is in
     let other : is_missing c.in-Some.errno ≡ false = sym c.is_missing.ensures ∙ c.if-is_missing.false in
     inl (sought_refused state settled c.args.cred.now hangs from.node from.name.now to.node to.name.now
     (Error c.in-Some.errno) c.args.self.now.volume c.one.new.self.volume
     c.in-Ok.path c.in-Ok-one.answers.items c.in-Some.errno leads c.in-Ok-one.ensures.made refused other refl)
+
+pub returns-in-None-clause-stay : goal.returns-in-None-clause-stay
+returns-in-None-clause-stay g c =
+    stat_stay g.F.FileStore.state g.F.FileStore.is_settled c.args.cred.now c.in-Ok.path c.in-Ok-one.answers.items
+    c.args.self.now.volume c.one.new.self.volume c.args.self.now.nodes c.one.new.self.nodes c.in-Ok-one.ensures.made
+    c.one.ensures.nodes
+
+pub returns-then-is_missing-clause-stay : goal.returns-then-is_missing-clause-stay
+returns-then-is_missing-clause-stay g c = λ are.
+    c.renamed.ensures.stay
+    (stat_stay g.F.FileStore.state g.F.FileStore.is_settled c.args.cred.now c.in-Ok.path c.in-Ok-one.answers.items
+    c.args.self.now.volume c.one.new.self.volume c.args.self.now.nodes c.one.new.self.nodes c.in-Ok-one.ensures.made
+    c.one.ensures.nodes are)
+
+pub returns-clause-stay : goal.returns-clause-stay
+returns-clause-stay g c =
+    stat_stay g.F.FileStore.state g.F.FileStore.is_settled c.args.cred.now c.in-Ok.path c.in-Ok-one.answers.items
+    c.args.self.now.volume c.one.new.self.volume c.args.self.now.nodes c.one.new.self.nodes c.in-Ok-one.ensures.made
+    c.one.ensures.nodes

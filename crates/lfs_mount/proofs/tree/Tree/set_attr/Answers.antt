@@ -9,8 +9,8 @@ use Rattle.lfs_mount.specs.Handled.{IsSetJudged, hangs_in}
 use Rattle.lfs_mount.proofs.HandledLemmas.{looked_on, looked_refused, looked_unseen}
 use Rattle.lfs_mount.proofs.tree.Tree.set_attr.Goals as goal
 
-pub returns-in-Some : goal.returns-in-Some
-returns-in-Some g c =
+pub returns-in-Some-clause-told : goal.returns-in-Some-clause-told
+returns-in-Some-clause-told g c =
     let state = g.F.FileStore.state in
     let settled = g.F.FileStore.is_settled in
     let hangs = hangs_in c.args.self.now.nodes in
@@ -24,8 +24,8 @@ returns-in-Some g c =
     between new present)
     c.in-Ok.answers.items c.in-Some.errno c.in-Ok.ensures.made refused refl)
 
-pub returns-in-Some-seen_in : goal.returns-in-Some-seen_in
-returns-in-Some-seen_in g c =
+pub returns-in-Some-seen_in-clause-told : goal.returns-in-Some-seen_in-clause-told
+returns-in-Some-seen_in-clause-told g c =
     let state = g.F.FileStore.state in
     let settled = g.F.FileStore.is_settled in
     let hangs = hangs_in c.args.self.now.nodes in
@@ -43,10 +43,10 @@ returns-in-Some-seen_in g c =
     c.in-Ok.answers.items seen c.in-Ok.ensures.made served was
     (subst (λ n. IsSetJudged state settled c.args.cred.now
     (hangs_in n) c.args.node c.args.fields.now reply between new seen.attrs) c.calls.ensures.nodes
-    c.set_judged.ensures))
+    c.set_judged.ensures.told))
 
-pub returns : goal.returns
-returns g c =
+pub returns-clause-told : goal.returns-clause-told
+returns-clause-told g c =
     let state = g.F.FileStore.state in
     let settled = g.F.FileStore.is_settled in
     let hangs = hangs_in c.args.self.now.nodes in

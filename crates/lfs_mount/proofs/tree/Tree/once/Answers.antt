@@ -1,0 +1,42 @@
+use Rattle.std.proofs.Common.{◌≡◌, None, Some, sym, ap, subst, ◌∙◌}
+use Rattle.std.specs.Prelude.{option_copied}
+use Rattle.lfs_nodes.specs.declared.parts.Parts.{Parts}
+use Rattle.lfs_fuse_wire.specs.Views.{view}
+use Rattle.lfs_fuse_calls.specs.Telling.{named_in, refusal_told, seen_in}
+use Rattle.lfs_mount.specs.Trees.{LeavesNodes, StayTrue}
+use Rattle.lfs_mount.proofs.StayLemmas.{handled_stay}
+use Rattle.lfs_mount.proofs.tree.Tree.once.Goals.{in-Some+in-Ok, in-None}
+use Rattle.lfs_mount.proofs.tree.Tree.once.Goals as goal
+
+pub returns-in-Some-refusal_told-clause-stay : goal.returns-in-Some-refusal_told-clause-stay
+returns-in-Some-refusal_told-clause-stay g c =
+    let message = view c.args.message.now in
+    let answers = c.in-Ok-calls.answers.items in
+    let refusal : refusal_told message answers ≡ Some c.in-Some-refusal_told.errno =
+    sym (ap (refusal_told message) c.as_slice.ensures.value) ∙ sym c.refusal_told.ensures
+    ∙ c.in-Some-refusal_told.is in
+    handled_stay g.F.FileStore.state g.F.FileStore.is_settled c.args.cred.now c.args.node message answers
+    c.args.self.now.volume c.calls.new.self.volume c.args.self.now.nodes c.calls.new.self.nodes _
+    c.in-Ok-calls.ensures.led refusal c.in-Ok-calls.ensures.nodes
+
+pub returns-in-None-refusal_told-clause-stay : goal.returns-in-None-refusal_told-clause-stay
+returns-in-None-refusal_told-clause-stay g c =
+    let state = g.F.FileStore.state in
+    let message = view c.args.message.now in
+    let answers = c.in-Ok-calls.answers.items in
+    let before = c.args.self.now.nodes in
+    let after = c.served_told.new.self.nodes in
+    let served : refusal_told message answers ≡ None =
+    sym (ap (refusal_told message) c.as_slice.ensures.value) ∙ sym c.refusal_told.ensures
+    ∙ c.in-None-refusal_told.is in
+    let named : c.match-named_in.name ≡ named_in message = elim c.match-named_in.branch [
+      | in-Some+in-Ok w ↦ w.name-is ∙ ap Some w.in-Ok.ensures ∙ sym (ap option_copied w.in-Some.is)
+          ∙ c.named_in.ensures
+      | in-None w ↦ w.name-is ∙ sym (ap option_copied w.in-None.is) ∙ c.named_in.ensures
+    ] in
+    let leaves : LeavesNodes message c.args.node (seen_in answers) before after =
+    subst (λ (n : Parts). LeavesNodes message c.args.node (seen_in answers) n after) c.in-Ok-calls.ensures.nodes
+    (c.served_told.ensures.nodes named) in
+    subst (λ v. StayTrue state c.args.self.now.volume before v after) (sym c.served_told.ensures.volume)
+    (handled_stay state g.F.FileStore.is_settled c.args.cred.now c.args.node message answers
+    c.args.self.now.volume c.calls.new.self.volume before after None c.in-Ok-calls.ensures.led served leaves)

@@ -1,0 +1,54 @@
+use Rattle.std.proofs.Common.{◌≡◌, ℕ, List, Option, sym, ap, subst, ◌∙◌, ⊎_elim}
+use Rattle.lfs_fuse_wire.specs.Said.{Said, create}
+use Rattle.lfs_fuse_wire.specs.Views.{view}
+use Rattle.lfs_fuse_calls.specs.Telling.{named_in, seen_in}
+use Rattle.lfs_fuse_calls.specs.declared.telling.Seen.{Seen as Sight}
+use Rattle.lfs_mount.specs.Trees.{FindsRow, LeavesNodes, LosesRow}
+use Rattle.lfs_mount.proofs.tree.Tree.served_told.Goals as goal
+
+pub returns-in-Create-clause-nodes : goal.returns-in-Create-clause-nodes
+returns-in-Create-clause-nodes g c =
+    let node = c.args.node in
+    let seen = seen_in c.args.answers.items in
+    let before = c.args.self.now.nodes in
+    let after = c.created_told.new.self.nodes in
+    let said : view c.args.message.now ≡ create c.in-Create.field-0 c.in-Create.field-1.now = ap view c.in-Create.is in
+    let shown : c.seen_in-seen.result ≡ seen = c.seen_in-seen.ensures ∙ ap seen_in c.as_slice.ensures.value in
+    subst (λ m. c.args.name ≡ named_in m → LeavesNodes m node seen before after) (sym said)
+    (λ named. subst (λ (n : Option (List ℕ)). FindsRow n seen node before after) named
+    (subst (λ (s : Option Sight). FindsRow c.args.name s node before after) shown c.created_told.ensures.nodes))
+
+pub returns-in-Unlink-clause-nodes : goal.returns-in-Unlink-clause-nodes
+returns-in-Unlink-clause-nodes g c =
+    let node = c.args.node in
+    let seen = seen_in c.args.answers.items in
+    let before = c.args.self.now.nodes in
+    let after = c.removed_told.new.self.nodes in
+    let leaves : Said → Type 0 = λ m. c.args.name ≡ named_in m → LeavesNodes m node seen before after in
+    ⊎_elim
+    (λ h. subst leaves (sym (ap view h.1))
+    (λ named. subst (λ (n : Option (List ℕ)). LosesRow n node before after) named c.removed_told.ensures.nodes))
+    (λ h. subst leaves (sym (ap view h.1))
+    (λ named. subst (λ (n : Option (List ℕ)). LosesRow n node before after) named c.removed_told.ensures.nodes))
+    c.in-Unlink.is
+
+pub returns-in-Lookup-clause-nodes : goal.returns-in-Lookup-clause-nodes
+returns-in-Lookup-clause-nodes g c =
+    let node = c.args.node in
+    let seen = seen_in c.args.answers.items in
+    let before = c.args.self.now.nodes in
+    let after = c.entry_told.new.self.nodes in
+    let leaves : Said → Type 0 = λ m. c.args.name ≡ named_in m → LeavesNodes m node seen before after in
+    let shown : c.seen_in-seen-in-Lookup.result ≡ seen =
+    c.seen_in-seen-in-Lookup.ensures ∙ ap seen_in c.as_slice-in-Lookup.ensures.value in
+    let finds = subst (λ (s : Option Sight). FindsRow c.args.name s node before after) shown
+    c.entry_told.ensures.nodes in
+    ⊎_elim
+    (λ h. subst leaves (sym (ap view h.1))
+    (λ named. subst (λ (n : Option (List ℕ)). FindsRow n seen node before after) named finds))
+    (⊎_elim
+    (λ h. subst leaves (sym (ap view h.2))
+    (λ named. subst (λ (n : Option (List ℕ)). FindsRow n seen node before after) named finds))
+    (λ h. subst leaves (sym (ap view h.2))
+    (λ named. subst (λ (n : Option (List ℕ)). FindsRow n seen node before after) named finds)))
+    c.in-Lookup.is
