@@ -1,3 +1,4 @@
 pub mod HandledLemmas
 pub mod MakingLemmas
 pub mod RoomLemmas
+pub mod SettleLemmas
