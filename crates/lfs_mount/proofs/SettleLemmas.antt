@@ -52,7 +52,9 @@ sync_shown {F} state old made session caller answer entered legal since since_le
 pub volume_shown : {F : Type 0} (state : F → StoreState) (v : Seen F)
     → Since (state v.since) v.since_level (λ from. IsJournal from (state v.store) v.level v.journal v.limit)
     → AtPresent state v (Begins (state v.store) v.level)
-volume_shown state v legal = λ from begins. let j = legal from begins in record { shown = j.shown; at_level = j.at_level }
+volume_shown state v legal = λ from begins.
+    let j = legal from begins in
+    record { shown = j.shown; at_level = j.at_level }
 
 -- a Sync, where the entries may have been let go before
 pub let_go_shown : {F : Type 0} (state : F → StoreState) (did : Bool) (old between new : Seen F)

@@ -12,9 +12,9 @@ use lfs_types::store::FileStore;
 use std::alloc::{AllocError, Global};
 
 impl<F: FileStore + Drop> Mount<F> {
-    /// Writes what waits in the store, by a Sync of the superuser as session 0, and says whether nothing waits any more. Where
-    /// the journal has no room for its entry, the entries are let go before. The tree and the securelevel stay, and what is
-    /// beside the volume.
+    /// Writes what waits in the store, by a Sync of the superuser as session 0, and says whether nothing waits any
+    /// more. Where the journal has no room for its entry, the entries are let go before. The tree and the securelevel
+    /// stay, and what is beside the volume.
     ///
     /// # Errors
     ///
