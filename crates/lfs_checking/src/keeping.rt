@@ -55,9 +55,9 @@ fn bytes_in<S: Files>(files: &S, alloc: Global, path: &str) -> Result<Option<Vec
     }
 }
 
-/// Keeps a volume, of whose store nothing waits, in the file of this path: its image is written up to the disk, to a file
-/// of this name with `.new` behind it, which is made anew, for its owner alone, and which then gets the name. So the file has
-/// the image that it had, or the whole new one.
+/// Keeps a volume, of whose store nothing waits, in the file of this path: its image is written up to the disk, to a
+/// file of this name with `.new` behind it, which is made anew, for its owner alone, and which then gets the name. So
+/// the file has the image that it had, or the whole new one.
 ///
 /// # Errors
 ///
@@ -80,8 +80,8 @@ pub fn save_file<S: Files>(
     }
 }
 
-/// Writes the image of a store and a securelevel to the file of this path, up to the disk. What has the name goes, and the
-/// file is made anew: so it is its owner's alone, and no link is followed.
+/// Writes the image of a store and a securelevel to the file of this path, up to the disk. What has the name goes,
+/// and the file is made anew: so it is its owner's alone, and no link is followed.
 fn write<S: Files>(
     files: &S,
     alloc: Global,

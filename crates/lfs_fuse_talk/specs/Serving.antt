@@ -1,9 +1,11 @@
 -- A mount that answers messages, as the world outside tells.
-use Rattle.std.specs.Prelude.{◌≡◌, ℕ, ◌==◌, ◌&&◌, not, Bool, true, false, List, [], ◌∷◌, Option, None, Some}
+use Rattle.std.specs.Prelude.{◌≡◌, ℕ, ◌==◌, ◌&&◌, not, Bool, true, false, List, [], ◌∷◌, Option, None, Some, IfSome}
 use Rattle.std.specs.List.{list_any}
 use Rattle.lfs_types.specs.StoreStates.{StoreState}
 use Rattle.lfs_volume.specs.Seen.{Seen}
+use Rattle.lfs_staging.specs.Store.{IsSettled}
 use Rattle.lfs_staging.specs.declared.parts.Parts.{Parts as Log}
+use Rattle.lfs_logstore.specs.States.{state_of}
 use Rattle.lfs_nodes.specs.declared.parts.Parts.{Parts}
 use Rattle.lfs_fuse_wire.specs.Header.{header_in}
 use Rattle.lfs_fuse_wire.specs.declared.attributes.Time.{Time}
@@ -15,8 +17,10 @@ use Rattle.lfs_mount.specs.Answered.{IsAnswered}
 use Rattle.lfs_mount.specs.declared.mount.Beside.{Beside}
 use Rattle.lfs_mount.specs.declared.mount.Sizes.{Sizes}
 use Rattle.lfs_fuse_wire.specs.declared.framing.Frame.TheVariants.{Partial}
-use Rattle.lfs_fuse_talk.specs.Images.{HasBegun}
-use Rattle.lfs_fuse_talk.specs.Talking.{Answering, HasTalked}
+use Rattle.lfs_fuse_talk.specs.Images.{HasBegun, IsKept}
+use Rattle.lfs_fuse_talk.specs.Talking.{Answering, HasTalked, answering_of}
+use Rattle.lfs_fuse_talk.specs.declared.options.Options.{Options}
+use Rattle.lfs_fuse_talk.specs.declared.served.Served.{Served}
 
 -- a mount: its volume, its nodes, what it keeps beside them, and how large it was laid out; and the world outside it
 pub record Holding (F P : Type 0) : Type 0 where
@@ -42,6 +46,11 @@ abbrev pub server_of : {F P : Type 0} → (F → StoreState) → (F → Type 0) 
     → (P → Header → Option (List ℕ) → P → Type 0) → Server F P
 server_of state is_settled time groups =
     record { state = state; is_settled = is_settled; time = time; groups = groups }
+
+-- the same of a log
+abbrev pub log_server : {P : Type 0} → (P → Time → P → Type 0) → (P → Header → Option (List ℕ) → P → Type 0)
+    → Server Log P
+log_server time groups = server_of state_of IsSettled time groups
 
 -- the messages that make calls, by their numbers in the protocol
 abbrev pub calling : List ℕ
@@ -97,11 +106,23 @@ pub record HasRested {F P : Type 0} (state : F → StoreState) (old new : Holdin
   pub sizes : new.sizes ≡ old.sizes
   pub outside : new.outside ≡ old.outside
 
--- A mount whose volume began so served the messages that were read, up to the end of the input or to a read that
--- failed, and their replies were written.
-pub record HasServed {M : Type 0} (segments inodes frames : ℕ) (r : Answering M) (volume_of : M → Seen Log)
+-- a mount that answers messages
+abbrev pub held : {F P : Type 0} → Served F P → Holding F P
+held served =
+    let mount = served.mount in
+    holding_of mount.tree.volume mount.tree.nodes mount.beside mount.sizes served.outside
+
+abbrev pub serving : {F P : Type 0} → Server F P → Answering (Served F P)
+serving r = answering_of (λ old message reply new. IsServed r (held old) message reply (held new))
+    (λ old new. HasRested r.state (held old) (held new))
+
+-- A mount whose volume began as was asked served the messages that were read, up to the end of the input or to a read
+-- that failed, and their replies were written; and the volume that they left is kept in a file, where an image is asked
+-- for.
+pub record HasServed {F P : Type 0} (contents : F → Option (List ℕ)) (options : Options) (r : Server Log P)
     (is_whole : Bool) (known left start out : Option (List ℕ)) : Type 0 where
-  pub old : M
-  pub new : M
-  pub begun : HasBegun segments inodes frames (volume_of old)
-  pub talked : HasTalked r Partial old new is_whole known left start out
+  pub old : Served Log P
+  pub new : Served Log P
+  pub begun : HasBegun options old.mount.tree.volume
+  pub talked : HasTalked (serving r) Partial old new is_whole known left start out
+  pub kept : IfSome options.image (λ _. IsKept contents new.mount.tree.volume)

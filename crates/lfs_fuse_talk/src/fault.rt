@@ -42,15 +42,3 @@ impl From<FormatFault> for TalkFault {
         TalkFault::Format(fault)
     }
 }
-
-impl From<CheckFault> for TalkFault {
-    fn from(fault: CheckFault) -> TalkFault {
-        TalkFault::Read(fault)
-    }
-}
-
-impl From<VolumeFault> for TalkFault {
-    fn from(fault: VolumeFault) -> TalkFault {
-        TalkFault::Image(fault)
-    }
-}

@@ -3,11 +3,12 @@
 
 pub mod fault;
 mod groups;
-mod image;
 mod inbox;
 pub mod options;
 pub mod outside;
 pub mod program;
+mod refusing;
 pub mod served;
 pub mod talk;
+mod volume;
 mod words;

@@ -60,11 +60,11 @@ fn time_of<S: Clock>(clock: &S) -> Option<Time> {
 }
 
 impl<S: Files + Clock> Outside for System<'_, S> {
-    ghost use Rattle.std.specs.Prelude.{◌≡◌, ⊤};
+    ghost use Rattle.lfs_fuse_talk.specs.Worlds.{any_groups, any_time};
 
-    ghost time = { λ old now new. ⊤ };
+    ghost time = { any_time };
 
-    ghost groups = { λ old header found new. new ≡ old };
+    ghost groups = { any_groups };
 
     /// What the clock reads; the last time that it read, where it doesn't.
     fn now(&mut self) -> Time {
@@ -94,12 +94,11 @@ impl Recording {
 }
 
 impl Outside for Recording {
-    ghost use Rattle.std.specs.Prelude.{◌≡◌, ◌+◌, [], min, Some};
+    ghost use Rattle.lfs_fuse_talk.specs.Worlds.{no_groups, recorded_time};
 
-    ghost time = { λ old now new. (now ≡ record { seconds = old.seconds; nanoseconds = 0 })
-        × (new.seconds ≡ min (old.seconds + 1) 0xFFFF_FFFF_FFFF_FFFF) };
+    ghost time = { recorded_time };
 
-    ghost groups = { λ old header found new. (found ≡ Some []) × (new ≡ old) };
+    ghost groups = { no_groups };
 
     fn now(&mut self) -> Time {
         let seconds = self.seconds;

@@ -2,7 +2,7 @@
 
 ghost use Rattle.std.specs.Prelude.{◌≡◌, IfOk};
 ghost use Rattle.std.specs.Option.{option_map};
-ghost use Rattle.lfs_fuse_talk.specs.Serving.{AreGroups, HasRested, IsServed, IsServedTo, are_wanted, holding_of, server_of};
+ghost use Rattle.lfs_fuse_talk.specs.Serving.{AreGroups, HasRested, IsServed, IsServedTo, are_wanted, held, server_of};
 
 use crate::groups::are_wanted;
 use crate::outside::Outside;
@@ -69,12 +69,8 @@ impl<F: CleanedStore + Drop, P: Outside + Drop> Served<F, P> {
         header: &Header,
         message: &[u8],
     ) -> Result<Vec<u8>, AllocError>
-        ensures { IfOk result (λ reply. IsServedTo
-            (server_of F.state F.is_settled P.time P.groups) header.now
-            (holding_of self.old.mount.tree.volume self.old.mount.tree.nodes self.old.mount.beside self.old.mount.sizes
-            self.old.outside) message.now reply.items
-            (holding_of self.new.mount.tree.volume self.new.mount.tree.nodes self.new.mount.beside self.new.mount.sizes
-            self.new.outside)) }
+        ensures { IfOk result (λ reply. IsServedTo (server_of F.state F.is_settled P.time P.groups)
+            header.now (held self.old) message.now reply.items (held self.new)) }
     {
         let mut out = Vec::new(alloc);
         let now = self.outside.now();
@@ -91,13 +87,9 @@ impl<F: CleanedStore + Drop, P: Outside + Drop> Served<F, P> {
 
 impl<F: CleanedStore + Drop, P: Outside + Drop> Answerer for Served<F, P> {
     ghost answers = { λ old message reply new. IsServed (server_of F.state F.is_settled P.time P.groups)
-        (holding_of old.mount.tree.volume old.mount.tree.nodes old.mount.beside old.mount.sizes old.outside)
-        message reply
-        (holding_of new.mount.tree.volume new.mount.tree.nodes new.mount.beside new.mount.sizes new.outside) };
+        (held old) message reply (held new) };
 
-    ghost rests = { λ old new. HasRested F.state
-        (holding_of old.mount.tree.volume old.mount.tree.nodes old.mount.beside old.mount.sizes old.outside)
-        (holding_of new.mount.tree.volume new.mount.tree.nodes new.mount.beside new.mount.sizes new.outside) };
+    ghost rests = { λ old new. HasRested F.state (held old) (held new) };
 
     fn answer(&mut self, alloc: Global, message: &[u8]) -> Result<Vec<u8>, AllocError> {
         let Some(header) = Header::decode(message) else {

@@ -1,6 +1,7 @@
 //! What is done between messages: room for entries is made, and the cleaner passes.
 
 ghost use Rattle.std.specs.Prelude.{◌≡◌, if◌then◌else◌, IfOk, OnErr};
+ghost use Rattle.lfs_volume.specs.Journals.{AtPresent, Begins};
 ghost use Rattle.lfs_mount.specs.Tending.{GoesOn, let_go};
 
 use crate::mount::Mount;
@@ -45,9 +46,23 @@ impl<F: FileStore + Drop> Mount<F> {
         ensures beside { self.new.beside ≡ self.old.beside }
         ensures sizes { self.new.sizes ≡ self.old.sizes }
     {
+        self.make_room_for(alloc, ROOM)
+    }
+
+    /// The same, where there is room for fewer than so many. Store and level show the tree that the journal led to.
+    pub(crate) fn make_room_for(&mut self, alloc: Global, wanted: usize) -> Result<bool, AllocError>
+        ensures let_go { IfOk result (λ did. self.new.tree.volume
+            ≡ (if did then let_go self.old.tree.volume else self.old.tree.volume)) }
+        ensures shown { AtPresent F.state self.old.tree.volume
+            (Begins (F.state self.old.tree.volume.store) self.old.tree.volume.level) }
+        ensures failed { OnErr result (self.new.tree.volume ≡ self.old.tree.volume) }
+        ensures nodes { self.new.tree.nodes ≡ self.old.tree.nodes }
+        ensures beside { self.new.beside ≡ self.old.beside }
+        ensures sizes { self.new.sizes ≡ self.old.sizes }
+    {
         let limit = self.tree.volume.journal_limit() as usize;
         let used = self.tree.volume.journal().len();
-        if limit.saturating_sub(used) >= ROOM {
+        if limit.saturating_sub(used) >= wanted {
             return Ok(false);
         }
         let room = Vec::with_capacity(alloc, limit)?;

@@ -1,0 +1,128 @@
+//! The volume of a mount: fresh, or that of an image's file, in which it is kept at the end.
+
+ghost use Rattle.std.specs.Prelude.{IfOk, IfSome, IsSome, OnOk};
+ghost use Rattle.lfs_checking.specs.Files.{IsLoaded};
+ghost use Rattle.lfs_fuse_talk.specs.Images.{HasBegun, IsKept};
+
+use crate::fault::TalkFault;
+use crate::options::Options;
+use lfs_checking::fault::KeepFault;
+use lfs_checking::keeping::{load_file, save_file};
+use lfs_fuse_wire::attributes::Time;
+use lfs_logstore::LogStore;
+use lfs_mount::mount::{Mount, Sizes};
+use lfs_types::fault::FormatFault;
+use lfs_types::level::Level;
+use lfs_types::limits::LEAST_FRAMES;
+use lfs_volume::volume::Volume;
+use std::alloc::Global;
+use std::rt::Files;
+
+/// A mount of the volume whose image the named file has, and of a fresh one where none is named, or there is no such
+/// file.
+///
+/// # Errors
+///
+/// `Format` where the volume can't have so many segments, inode numbers or frames; `Read` where the file can't be read,
+/// `Image` where what it has is the image of no volume; `Memory`.
+pub(crate) fn mounted<S: Files>(
+    files: &S,
+    alloc: Global,
+    options: &Options<'_>,
+    now: Time,
+) -> Result<Mount<LogStore>, TalkFault>
+    ensures { IfOk result (λ mount. HasBegun options.now mount.tree.volume) }
+{
+    let Some(path) = options.image else {
+        return fresh(alloc, options, now);
+    };
+    match load_file(files, alloc, path, options.params.frames) {
+        Ok(Some((store, level))) => over(alloc, store, level, options, now),
+        Ok(None) => fresh(alloc, options, now),
+        Err(fault) => Err(fault_of(fault, options.params.frames)),
+    }
+}
+
+/// A mount of a fresh volume, whose root is made now.
+fn fresh(alloc: Global, options: &Options<'_>, now: Time) -> Result<Mount<LogStore>, TalkFault>
+    ensures { IfOk result (λ mount. HasBegun options.now mount.tree.volume) }
+{
+    let params = options.params;
+    let store = LogStore::format(alloc, params)?;
+    let volume = Volume::new(alloc, store, params.journal)?;
+    let sizes = Sizes {
+        segments: params.segments,
+        inodes: params.inodes,
+    };
+    Ok(Mount::new(alloc, volume, sizes, now)?)
+}
+
+/// A mount of the volume of an image.
+fn over(
+    alloc: Global,
+    store: LogStore,
+    level: Level,
+    options: &Options<'_>,
+    now: Time,
+) -> Result<Mount<LogStore>, TalkFault>
+    requires image { IsSome options.now.image }
+    requires loaded { IsLoaded options.now.params.frames store level }
+    ensures { IfOk result (λ mount. HasBegun options.now mount.tree.volume) }
+{
+    let log = &store.parts().log;
+    let sizes = Sizes {
+        segments: log.segments(),
+        inodes: log.inodes(),
+    };
+    let volume = Volume::over(alloc, store, level, options.params.journal)?;
+    Ok(Mount::new(alloc, volume, sizes, now)?)
+}
+
+/// Why a volume is not loaded with so many frames, or not kept.
+fn fault_of(fault: KeepFault, frames: u32) -> TalkFault {
+    match fault {
+        KeepFault::Read(fault) => TalkFault::Read(fault),
+        KeepFault::Image(fault) => TalkFault::Image(fault),
+        KeepFault::Save => TalkFault::Save,
+        KeepFault::Frames if frames < LEAST_FRAMES => TalkFault::Format(FormatFault::TooFew),
+        KeepFault::Frames => TalkFault::Format(FormatFault::TooMany),
+        KeepFault::Memory => TalkFault::Memory,
+    }
+}
+
+/// Keeps the volume that a talk left in the image's file, where one is named.
+///
+/// # Errors
+///
+/// `Save` where what waits or a file was not written, or got no name; `Memory`.
+pub(crate) fn keep<S: Files>(
+    files: &S,
+    alloc: Global,
+    mount: &mut Mount<LogStore>,
+    options: &Options<'_>,
+) -> Result<(), TalkFault>
+    ensures { OnOk result (IfSome options.now.image (λ _. IsKept S.File.contents mount.old.tree.volume)) }
+{
+    let Some(path) = options.image else {
+        return Ok(());
+    };
+    match save(files, alloc, mount, path) {
+        Ok(()) => Ok(()),
+        Err(fault) => Err(fault_of(fault, options.params.frames)),
+    }
+}
+
+/// Writes what waits, and saves the volume in a file.
+fn save<S: Files>(
+    files: &S,
+    alloc: Global,
+    mount: &mut Mount<LogStore>,
+    path: &str,
+) -> Result<(), KeepFault>
+    ensures { OnOk result (IsKept S.File.contents mount.old.tree.volume) }
+{
+    if !mount.settle(alloc)? {
+        return Err(KeepFault::Save);
+    }
+    save_file(files, alloc, mount.store(), mount.level(), path)
+}
