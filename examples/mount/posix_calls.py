@@ -538,7 +538,7 @@ def room():
     """statvfs(3): true numbers, before a file is made, while it is there, and once it is gone."""
     def sound(path):
         row = os.statvfs(path)
-        return [0 < row.f_bsize, 0 < row.f_bavail <= row.f_bfree < row.f_blocks, 0 < row.f_favail <= row.f_ffree < row.f_files, row.f_namemax]
+        return [0 < row.f_bsize, 0 < row.f_bavail <= row.f_bfree <= row.f_blocks, 0 < row.f_favail <= row.f_ffree < row.f_files, row.f_namemax]
 
     def takes(call, *words):
         """How many files a call makes, and how many tenths of a megabyte it takes."""
