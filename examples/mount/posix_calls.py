@@ -707,11 +707,15 @@ def try_family(family, top, mounted):
     make_folder(folder)
     os.chdir(folder)
     passed = failed = 0
-    for it in family():
-        failure = it.failure(mounted)
-        passed, failed = passed + (not failure), failed + bool(failure)
-        if failure:
-            print(f"{family.__name__}: {failure}", flush=True)
+    try:
+        for it in family():
+            failure = it.failure(mounted)
+            passed, failed = passed + (not failure), failed + bool(failure)
+            if failure:
+                print(f"{family.__name__}: {failure}", flush=True)
+    except OSError as error:
+        failed += 1
+        print(f"{family.__name__}: ends early, as what is needed is not there: {error}", flush=True)
     os.chdir(top)
     remove_all(folder)
     os.rmdir(folder)
