@@ -81,14 +81,14 @@ class Check:
 
     def failure(self, mounted):
         """What is wrong with the answer, or nothing."""
-        wanted = self.wanted
+        wanted, told = self.wanted, ""
         if isinstance(wanted, Differs):
-            wanted = wanted.mounted if mounted else wanted.linux
+            wanted, told = (wanted.mounted, f" ({wanted.told})") if mounted else (wanted.linux, "")
         found = self.answer()
         is_error = isinstance(found, str) and (found in errno.errorcode.values() or found.startswith("ended"))
         if found == wanted or wanted == "ok" and not is_error:
             return ""
-        return f"{self.user.name}: {spelled((self.call, *self.words))}: found {spelled(found)}, wanted {spelled(wanted)}"
+        return f"{self.user.name}: {spelled((self.call, *self.words))}: found {spelled(found)}, wanted {spelled(wanted)}{told}"
 
 
 def spelled(word):

@@ -538,7 +538,7 @@ def room():
     """statvfs(3): true numbers, before a file is made, while it is there, and once it is gone."""
     def sound(path):
         row = os.statvfs(path)
-        return [0 < row.f_bsize, 0 < row.f_bavail <= row.f_bfree < row.f_blocks, 0 < row.f_favail <= row.f_ffree < row.f_files, row.f_namemax]
+        return [0 < row.f_bsize, 0 < row.f_bavail <= row.f_bfree <= row.f_blocks, 0 < row.f_favail <= row.f_ffree < row.f_files, row.f_namemax]
 
     def takes(call, *words):
         """How many files a call makes, and how many tenths of a megabyte it takes."""
@@ -707,11 +707,15 @@ def try_family(family, top, mounted):
     make_folder(folder)
     os.chdir(folder)
     passed = failed = 0
-    for it in family():
-        failure = it.failure(mounted)
-        passed, failed = passed + (not failure), failed + bool(failure)
-        if failure:
-            print(f"{family.__name__}: {failure}", flush=True)
+    try:
+        for it in family():
+            failure = it.failure(mounted)
+            passed, failed = passed + (not failure), failed + bool(failure)
+            if failure:
+                print(f"{family.__name__}: {failure}", flush=True)
+    except OSError as error:
+        failed += 1
+        print(f"{family.__name__}: ends early, as what is needed is not there: {error}", flush=True)
     os.chdir(top)
     remove_all(folder)
     os.rmdir(folder)
