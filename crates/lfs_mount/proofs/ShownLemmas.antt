@@ -11,7 +11,7 @@ use Rattle.lfs_model.specs.World.{IsChild}
 use Rattle.lfs_model.proofs.Children.{child-answer, child-is}
 use Rattle.lfs_calls.specs.Content.{visible}
 use Rattle.lfs_calls.specs.Volumes.{IsVolume}
-use Rattle.lfs_volume.specs.Journals.{Begins, HasBegun}
+use Rattle.lfs_volume.specs.Journals.{AtPresent, Begins, HasBegun}
 use Rattle.lfs_volume.specs.Seen.{Seen}
 use Rattle.lfs_nodes.specs.declared.node.Node.{Node}
 use Rattle.lfs_nodes.specs.declared.parts.Parts.{Parts}
@@ -49,6 +49,14 @@ shown_child s t w v shown after same p name n c =
 shown_true : (s t : StoreState) (w v : World) (K : ℕ → Option Node) → IsVolume s w → IsVolume t v
     → t.content ≡ s.content → AreNodes w.rows K → AreNodes v.rows K
 shown_true s t w v K shown after same are = nodes_kept w.rows v.rows K (shown_child s t w v shown after same) are
+
+-- the tree that a journal led to is shown still
+pub shown_on : {F : Type 0} (state : F → StoreState) (old new : Seen F) (nodes : Parts)
+    → AtPresent state old (Begins (state new.store) new.level) → IsRun state new
+    → HasBegun (state old.since) old.since_level → StayTrue state old nodes new nodes
+shown_on state old new nodes shows run begun = λ are from begins.
+    shown_true (state new.store) (state new.store) _ _ (known nodes) (shows begun.0 begun.1).shown
+    (run from begins).shown refl (are begun.0 begun.1)
 
 module _ {F : Type 0} (state : F → StoreState) (old : Seen F) (nodes : Parts) (run : IsRun state old) where
   -- a journal went on, and no content changed
