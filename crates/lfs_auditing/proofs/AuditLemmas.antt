@@ -8,7 +8,7 @@ use Rattle.std.proofs.KnownBytes.{Consumes-nil, Consumes-trans}
 use Rattle.std.proofs.lemmas.Grind.{flat_map-append}
 use Rattle.std.proofs.lemmas.List.{append-nil}
 use Rattle.std.proofs.lemmas.List.Elements.{All-nil, All-push}
-use Rattle.lfs_types.specs.Tree.{opening_world}
+use Rattle.lfs_types.specs.Tree.{World}
 use Rattle.lfs_model.specs.declared.journal.Entry.{Entry}
 use Rattle.lfs_model.specs.Steps.{after_event, world_after}
 use Rattle.lfs_model.proofs.RunLemmas.{world_after-append}
@@ -31,24 +31,25 @@ use Rattle.lfs_auditing.specs.declared.fault.Unread.TheVariants as whys
 
 -- ---- an entry more
 
-module _ (old new : Audit) (mid : Standing) (es : List Entry) (e : Entry) (read : HasRead old es) where
+module _ (from : World) (old new : Audit) (mid : Standing) (es : List Entry) (e : Entry)
+    (read : HasRead from old es) where
   pub read_more : IsCheckedAs old.denials old.checker mid e.cred e.event (Ok tt) → IsSameStanding mid new.checker
       → new.denials ≡ old.denials → new.entries ≡ old.entries + 1
-      → AreCounted new.users.counts (es ++ e ∷ []) → HasRead new (es ++ e ∷ [])
+      → AreCounted new.users.counts (es ++ e ∷ []) → HasRead from new (es ++ e ∷ [])
   read_more checked same denials count users =
       let n = numbers_of old.checker in
-      let w = behind old es in
+      let w = behind from old es in
       let numbers : numbers_of new.checker ≡ n = same.numbers ∙ checked.numbers in
       let segments = same.segments ∙ checked.segments in
       let all = es ++ e ∷ [] in
       record {
-        legal = subst (λ d. IsLegalAs d (numbers_of new.checker) new.checker.segments all opening_world) (sym denials)
-            (subst (λ m. IsLegalAs old.denials m new.checker.segments all opening_world) (sym numbers)
-            (subst (λ s. IsLegalAs old.denials n s all opening_world) (sym segments)
-            (legal_as-append old.denials n old.checker.segments es e opening_world read.legal
+        legal = subst (λ d. IsLegalAs d (numbers_of new.checker) new.checker.segments all from) (sym denials)
+            (subst (λ m. IsLegalAs old.denials m new.checker.segments all from) (sym numbers)
+            (subst (λ s. IsLegalAs old.denials n s all from) (sym segments)
+            (legal_as-append old.denials n old.checker.segments es e from read.legal
             (checked.legal w read.stands))));
-        stands = subst (λ m. StandsAt new.checker (world_after m all opening_world)) (sym numbers)
-            (subst (StandsAt new.checker) (sym (world_after-append n es (e ∷ []) opening_world))
+        stands = subst (λ m. StandsAt new.checker (world_after m all from)) (sym numbers)
+            (subst (StandsAt new.checker) (sym (world_after-append n es (e ∷ []) from))
             (same.worlds (after_event n w e.cred e.event) (checked.leads w read.stands)));
         counted = let one = read.counted in let grown : length (es ++ e ∷ []) ≡ length es
             + 1 = length-append es (e ∷ []) in omega (arith, one, grown, count);
@@ -58,14 +59,14 @@ module _ (old new : Audit) (mid : Standing) (es : List Entry) (e : Entry) (read 
   -- an entry that is illegal leaves an audit where it is
   pub read_same : (fault : EntryFault)
       → IsCheckedAs old.denials old.checker new.checker e.cred e.event (Err fault) → new.denials ≡ old.denials
-      → new.entries ≡ old.entries → new.users ≡ old.users → HasRead new es
+      → new.entries ≡ old.entries → new.users ≡ old.users → HasRead from new es
   read_same fault checked denials count users =
-      let w = behind old es in record {
-        legal = subst (λ d. IsLegalAs d (numbers_of new.checker) new.checker.segments es opening_world) (sym denials)
-            (subst (λ m. IsLegalAs old.denials m new.checker.segments es opening_world) (sym checked.numbers)
-            (subst (λ s. IsLegalAs old.denials (numbers_of old.checker) s es opening_world) (sym checked.segments)
+      let w = behind from old es in record {
+        legal = subst (λ d. IsLegalAs d (numbers_of new.checker) new.checker.segments es from) (sym denials)
+            (subst (λ m. IsLegalAs old.denials m new.checker.segments es from) (sym checked.numbers)
+            (subst (λ s. IsLegalAs old.denials (numbers_of old.checker) s es from) (sym checked.segments)
             read.legal));
-        stands = subst (λ m. StandsAt new.checker (world_after m es opening_world)) (sym checked.numbers)
+        stands = subst (λ m. StandsAt new.checker (world_after m es from)) (sym checked.numbers)
             (checked.stays w read.stands);
         counted = count ∙ read.counted;
         users = subst (λ u. AreCounted u.counts es) (sym users) read.users;
@@ -85,30 +86,31 @@ told_more number (l ∷ lines) (x ∷ more) line e told is =
     (told.0, told_more (number + 1) lines more line e told.1 (subst (λ n. told_as n line ≡ Ok e) next is))
 
 -- what an audit that had read some entries has read of a reader so far
-pub record SoFar (known left : Option (List ℕ)) (es : List Entry) (a : Audit) : Type 0 where
+pub record SoFar (known left : Option (List ℕ)) (from : World) (es : List Entry) (a : Audit) : Type 0 where
   pub lines : List (List ℕ)
   pub more : List Entry
   pub told : AreTold (length es + 1) lines more
   pub whole : All HasNoLineFeed lines
   pub taken : Consumes known left (lines_text lines)
-  pub read : HasRead a (es ++ more)
+  pub read : HasRead from a (es ++ more)
 
-pub none_so_far : (known : Option (List ℕ)) (es : List Entry) (a : Audit) → HasRead a es → SoFar known known es a
-none_so_far known es a read = record {
+pub none_so_far : (known : Option (List ℕ)) (from : World) (es : List Entry) (a : Audit) → HasRead from a es
+    → SoFar known known from es a
+none_so_far known from es a read = record {
   lines = [];
   more = [];
   told = tt;
   whole = All-nil HasNoLineFeed;
   taken = Consumes-nil known;
-  read = subst (HasRead a) (sym (append-nil es)) read;
+  read = subst (HasRead from a) (sym (append-nil es)) read;
 }
 
-pub one_more : (known left rest : Option (List ℕ)) (es : List Entry) (old new : Audit) (line : List ℕ) (e : Entry)
-    → (so : SoFar known left es old)
+pub one_more : (known left rest : Option (List ℕ)) (from : World) (es : List Entry) (old new : Audit) (line : List ℕ) (e : Entry)
+    → (so : SoFar known left from es old)
     → HasNoLineFeed line → Consumes left rest (line ++ 10 ∷ [])
-    → told_as (length (es ++ so.more) + 1) line ≡ Ok e → HasRead new ((es ++ so.more) ++ e ∷ [])
-    → SoFar known rest es new
-one_more known left rest es old new line e so feedless takes is read = record {
+    → told_as (length (es ++ so.more) + 1) line ≡ Ok e → HasRead from new ((es ++ so.more) ++ e ∷ [])
+    → SoFar known rest from es new
+one_more known left rest from es old new line e so feedless takes is read = record {
   lines = so.lines ++ line ∷ [];
   more = so.more ++ e ∷ [];
   told = let count : length (es ++ so.more) + 1 ≡ (length es + 1) + length so.more =
@@ -118,13 +120,13 @@ one_more known left rest es old new line e so feedless takes is read = record {
   taken = subst (Consumes known rest) (sym (flat_map-append (λ (l : List ℕ). l ++ 10 ∷ []) so.lines (line ∷ [])
       ∙ ap (λ t. lines_text so.lines ++ t) (append-nil (line ++ 10 ∷ []))))
       (Consumes-trans known left rest (lines_text so.lines) (line ++ 10 ∷ []) so.taken takes);
-  read = subst (HasRead new) (append_assoc es so.more (e ∷ [])) read;
+  read = subst (HasRead from new) (append_assoc es so.more (e ∷ [])) read;
 }
 
 -- what a line tells as the next entry's
-pub told_next : (a : Audit) (es : List Entry) (line : List ℕ) (number : ℕ) (told : Result Entry Unread) → HasRead a es
+pub told_next : (from : World) (a : Audit) (es : List Entry) (line : List ℕ) (number : ℕ) (told : Result Entry Unread) → HasRead from a es
     → number ≡ a.entries + 1 → told_as number line ≡ told → told_as (length es + 1) line ≡ told
-told_next a es line number told read is e =
+told_next from a es line number told read is e =
     subst (λ n. told_as n line ≡ told) (is ∙ ap (λ (n : ℕ). n + 1) read.counted) e
 
 -- a whole line isn't cut, nor too long
@@ -144,28 +146,28 @@ never_long : (text : Option (List ℕ)) → ¬ (told_of text ≡ Err whys.TooLon
 never_long None e = absurd (cc)
 never_long (Some text) e = not_long (entry_told text) e
 
-pub stops_told : (a : Audit) (es : List Entry) (line : List ℕ) (why : Unread)
-    → told_as (length es + 1) line ≡ Err why → StopsAtLine a es line (stops.Unread why)
-stops_told a es line whys.Cut e = absurd (never_cut (unnumbered (length es + 1) line) e)
-stops_told a es line whys.TooLong e = absurd (never_long (unnumbered (length es + 1) line) e)
-stops_told a es line whys.Gap e = e
-stops_told a es line (whys.Line fault) e = e
+pub stops_told : (from : World) (a : Audit) (es : List Entry) (line : List ℕ) (why : Unread)
+    → told_as (length es + 1) line ≡ Err why → StopsAtLine from a es line (stops.Unread why)
+stops_told from a es line whys.Cut e = absurd (never_cut (unnumbered (length es + 1) line) e)
+stops_told from a es line whys.TooLong e = absurd (never_long (unnumbered (length es + 1) line) e)
+stops_told from a es line whys.Gap e = e
+stops_told from a es line (whys.Line fault) e = e
 
 -- behind a line that tells no legal entry
-pub stops_at : (left rest : Option (List ℕ)) (a : Audit) (es : List Entry) (line : List ℕ) (stop : Stop)
+pub stops_at : (left rest : Option (List ℕ)) (from : World) (a : Audit) (es : List Entry) (line : List ℕ) (stop : Stop)
     → HasNoLineFeed line
-    → Consumes left rest (line ++ 10 ∷ []) → StopsAtLine a es line stop → StopsBehind left rest a es stop
-stops_at left rest a es line stops.End feedless takes at = absurd at
-stops_at left rest a es line (stops.Illegal e) feedless takes at = (line, feedless, takes, at)
-stops_at left rest a es line (stops.Unread whys.Cut) feedless takes at = absurd at
-stops_at left rest a es line (stops.Unread whys.TooLong) feedless takes at = absurd at
-stops_at left rest a es line (stops.Unread whys.Gap) feedless takes at = (line, feedless, takes, at)
-stops_at left rest a es line (stops.Unread (whys.Line fault)) feedless takes at = (line, feedless, takes, at)
+    → Consumes left rest (line ++ 10 ∷ []) → StopsAtLine from a es line stop → StopsBehind left rest from a es stop
+stops_at left rest from a es line stops.End feedless takes at = absurd at
+stops_at left rest from a es line (stops.Illegal e) feedless takes at = (line, feedless, takes, at)
+stops_at left rest from a es line (stops.Unread whys.Cut) feedless takes at = absurd at
+stops_at left rest from a es line (stops.Unread whys.TooLong) feedless takes at = absurd at
+stops_at left rest from a es line (stops.Unread whys.Gap) feedless takes at = (line, feedless, takes, at)
+stops_at left rest from a es line (stops.Unread (whys.Line fault)) feedless takes at = (line, feedless, takes, at)
 
-pub stopped : (known left rest : Option (List ℕ)) (es : List Entry) (old new : Audit) (stop : Stop)
-    → (so : SoFar known left es old)
-    → HasRead new (es ++ so.more) → StopsBehind left rest new (es ++ so.more) stop → HasReadOn known rest es new stop
-stopped known left rest es old new stop so read stops = record {
+pub stopped : (known left rest : Option (List ℕ)) (from : World) (es : List Entry) (old new : Audit) (stop : Stop)
+    → (so : SoFar known left from es old)
+    → HasRead from new (es ++ so.more) → StopsBehind left rest from new (es ++ so.more) stop → HasReadOn known rest from es new stop
+stopped known left rest from es old new stop so read stops = record {
   lines = so.lines;
   more = so.more;
   rest = left;

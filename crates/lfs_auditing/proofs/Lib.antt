@@ -1,2 +1,4 @@
 mod AuditLemmas
+mod BeginLemmas
+mod JsonLemmas
 mod UserLemmas

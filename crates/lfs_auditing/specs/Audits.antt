@@ -2,7 +2,7 @@
 use Rattle.std.specs.Prelude.{◌≡◌, ◌+◌, ◌<◌, ℕ, List, [], ◌∷◌, ◌++◌, length, Option, None, Some, Result, Ok, Err}
 use Rattle.std.specs.Io.KnownBytes.{Consumes, IsAtEnd}
 use Rattle.std.specs.List.{All, flat_map}
-use Rattle.lfs_types.specs.Tree.{World, opening_world}
+use Rattle.lfs_types.specs.Tree.{World}
 use Rattle.lfs_model.specs.declared.journal.Entry.{Entry}
 use Rattle.lfs_model.specs.Steps.{world_after}
 use Rattle.lfs_words.specs.Lines.{HasNoLineFeed}
@@ -20,17 +20,21 @@ use Rattle.lfs_auditing.specs.declared.audit.Stop.TheVariants as stops
 use Rattle.lfs_auditing.specs.declared.fault.Unread.{Unread}
 use Rattle.lfs_auditing.specs.declared.fault.Unread.TheVariants.{Cut, TooLong, Gap, Line}
 
--- the world behind entries, of the volume whose journal is audited
-abbrev pub behind : Audit → List Entry → World
-behind a entries = world_after (numbers_of a.checker) entries opening_world
+-- the world behind entries from the one where the journal begins, of the volume whose journal is audited
+abbrev pub behind : World → Audit → List Entry → World
+behind from a entries = world_after (numbers_of a.checker) entries from
 
--- an audit has read these entries: they are legal from the tree of a fresh volume, by what it compares of denials, and
--- it stands behind them, has counted them, and each user's
-pub record HasRead (a : Audit) (entries : List Entry) : Type 0 where
-  pub legal : IsLegalAs a.denials (numbers_of a.checker) a.checker.segments entries opening_world
-  pub stands : StandsAt a.checker (behind a entries)
+-- an audit of a journal that begins in this world has read these entries: they are legal from there, by what it
+-- compares of denials, and it stands behind them, has counted them, and each user's
+pub record HasRead (from : World) (a : Audit) (entries : List Entry) : Type 0 where
+  pub legal : IsLegalAs a.denials (numbers_of a.checker) a.checker.segments entries from
+  pub stands : StandsAt a.checker (behind from a entries)
   pub counted : a.entries ≡ length entries
   pub users : AreCounted a.users.counts entries
+
+-- it has read nothing yet
+abbrev pub HasReadNone : World → Audit → Type 0
+HasReadNone from a = HasRead from a []
 
 -- an audit of the same volume, which compares the same
 pub record IsOfSame (old new : Audit) : Type 0 where
@@ -46,9 +50,9 @@ pub record NotesOnly (old new : Audit) : Type 0 where
   pub denials : new.denials ≡ old.denials
 
 -- an entry isn't legal behind these
-abbrev pub IsIllegalBehind : Audit → List Entry → Entry → Type 0
-IsIllegalBehind a entries entry = ¬ (IsEventAs a.denials (numbers_of a.checker) a.checker.segments
-    (behind a entries) entry.cred entry.event)
+abbrev pub IsIllegalBehind : World → Audit → List Entry → Entry → Type 0
+IsIllegalBehind from a entries entry = ¬ (IsEventAs a.denials (numbers_of a.checker) a.checker.segments
+    (behind from a entries) entry.cred entry.event)
 
 -- lines with their line feeds
 abbrev pub lines_text : List (List ℕ) → List ℕ
@@ -76,37 +80,38 @@ AreTold number (line ∷ lines) (entry ∷ entries) =
     (told_as number line ≡ Ok entry) × AreTold (number + 1) lines entries
 
 -- why a line stops an audit that has read these entries: it tells an entry that isn't legal behind them, or none
-abbrev pub StopsAtLine : Audit → List Entry → List ℕ → Stop → Type 0
-StopsAtLine a entries line stops.End = ⊥
-StopsAtLine a entries line (stops.Illegal entry) =
-    (told_as (length entries + 1) line ≡ Ok entry) × IsIllegalBehind a entries entry
-StopsAtLine a entries line (stops.Unread Cut) = ⊥
-StopsAtLine a entries line (stops.Unread TooLong) = ⊥
-StopsAtLine a entries line (stops.Unread Gap) = told_as (length entries + 1) line ≡ Err Gap
-StopsAtLine a entries line (stops.Unread (Line fault)) = told_as (length entries + 1) line ≡ Err (Line fault)
+abbrev pub StopsAtLine : World → Audit → List Entry → List ℕ → Stop → Type 0
+StopsAtLine from a entries line stops.End = ⊥
+StopsAtLine from a entries line (stops.Illegal entry) =
+    (told_as (length entries + 1) line ≡ Ok entry) × IsIllegalBehind from a entries entry
+StopsAtLine from a entries line (stops.Unread Cut) = ⊥
+StopsAtLine from a entries line (stops.Unread TooLong) = ⊥
+StopsAtLine from a entries line (stops.Unread Gap) = told_as (length entries + 1) line ≡ Err Gap
+StopsAtLine from a entries line (stops.Unread (Line fault)) = told_as (length entries + 1) line ≡ Err (Line fault)
 
 -- what an audit that has read these entries read further, and where it stopped: at the end; behind a line that tells no
 -- legal entry; at the end, behind bytes that no line feed ends; or within a line that is too long
-abbrev pub StopsBehind : Option (List ℕ) → Option (List ℕ) → Audit → List Entry → Stop → Type 0
-StopsBehind known left a entries stops.End = Consumes known left [] × IsAtEnd left
-StopsBehind known left a entries (stops.Unread Cut) = (part : List ℕ) × IsPart known left part × IsAtEnd left
+abbrev pub StopsBehind : Option (List ℕ) → Option (List ℕ) → World → Audit → List Entry → Stop → Type 0
+StopsBehind known left from a entries stops.End = Consumes known left [] × IsAtEnd left
+StopsBehind known left from a entries (stops.Unread Cut) = (part : List ℕ) × IsPart known left part × IsAtEnd left
     × (0 < length part)
-StopsBehind known left a entries (stops.Unread TooLong) = (part : List ℕ) × IsPart known left part
+StopsBehind known left from a entries (stops.Unread TooLong) = (part : List ℕ) × IsPart known left part
     × (4194304 < length part)
-StopsBehind known left a entries stop =
-    (line : List ℕ) × HasNoLineFeed line × Consumes known left (line ++ 10 ∷ []) × StopsAtLine a entries line stop
+StopsBehind known left from a entries stop =
+    (line : List ℕ) × HasNoLineFeed line × Consumes known left (line ++ 10 ∷ []) × StopsAtLine from a entries line stop
 
--- An audit that has read these entries read on, from these bytes, where they are known: lines that tell more entries,
--- all of them legal, up to where it stopped.
-pub record HasReadOn (known left : Option (List ℕ)) (entries : List Entry) (a : Audit) (stop : Stop) : Type 0 where
+-- An audit that has read these entries, of a journal that begins in this world, read on, from these bytes, where they
+-- are known: lines that tell more entries, all of them legal, up to where it stopped.
+pub record HasReadOn (known left : Option (List ℕ)) (from : World) (entries : List Entry) (a : Audit)
+    (stop : Stop) : Type 0 where
   pub lines : List (List ℕ)
   pub more : List Entry
   pub rest : Option (List ℕ)
   pub told : AreTold (length entries + 1) lines more
   pub whole : All HasNoLineFeed lines
   pub taken : Consumes known rest (lines_text lines)
-  pub read : HasRead a (entries ++ more)
-  pub stopped : StopsBehind rest left a (entries ++ more) stop
+  pub read : HasRead from a (entries ++ more)
+  pub stopped : StopsBehind rest left from a (entries ++ more) stop
 
 -- the status of an audit that stopped there: 0 at the end, where all that was read is legal
 abbrev pub status_of : Stop → ℕ
@@ -114,14 +119,15 @@ status_of stops.End = 0
 status_of (stops.Illegal entry) = 1
 status_of (stops.Unread why) = 1
 
--- A journal of these bytes, where they are known, of a volume with these numbers was audited from its beginning, by
--- this much of denials, and the audit ended with this status by where it stopped.
-pub record IsAudited (known : Option (List ℕ)) (denials : Denials) (inodes segments status : ℕ) : Type 0 where
-  pub audit : Audit
-  pub stop : Stop
-  pub left : Option (List ℕ)
-  pub read : HasReadOn known left [] audit stop
-  pub numbers_are : numbers_of audit.checker ≡ inodes
-  pub segments_are : audit.checker.segments ≡ segments
-  pub denials_are : audit.denials ≡ denials
-  pub status_is : status ≡ status_of stop
+-- A journal of these bytes, where they are known, of a volume with these numbers was audited from this world, by this
+-- much of denials, and the audit ended with this status by where it stopped.
+pub record IsAudited (known : Option (List ℕ)) (denials : Denials) (from : World) (inodes segments status : ℕ) : Type 0
+  where
+    pub audit : Audit
+    pub stop : Stop
+    pub left : Option (List ℕ)
+    pub read : HasReadOn known left from [] audit stop
+    pub numbers_are : numbers_of audit.checker ≡ inodes
+    pub segments_are : audit.checker.segments ≡ segments
+    pub denials_are : audit.denials ≡ denials
+    pub status_is : status ≡ status_of stop

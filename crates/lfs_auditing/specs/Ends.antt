@@ -4,7 +4,7 @@ use Rattle.clap.specs.Values.{kind_of}
 use Rattle.clap.specs.declared.error.Error.{Error}
 use Rattle.clap.specs.declared.error.kind.ErrorKind.{ErrorKind}
 use Rattle.clap.specs.declared.error.kind.ErrorKind.TheVariants.{DisplayHelp, OutOfMemory}
-use Rattle.lfs_auditing.specs.Audits.{IsAudited}
+use Rattle.lfs_auditing.specs.Beginnings.{IsAuditedBy}
 use Rattle.lfs_auditing.specs.Ranges.{IsInRange}
 use Rattle.lfs_auditing.specs.declared.options.Options.{Options}
 
@@ -19,14 +19,13 @@ pub record EndsUnasked {W D : Type 0} (kind : ErrorKind) (status : ℕ) (out_bef
   pub lacking : kind ≡ OutOfMemory → (status ≡ 1) × (out_after ≡ out_before)
 
 -- A program that was asked for an audit ends with this status: 0 only where the journal that it was asked of, which is
--- the reader's where no file is named, was read to its end and is legal, and nothing is told; else 1.
+-- the reader's where no file is named, was read to its end and is legal from where it begins, and nothing is told; else 1.
 pub record EndsAudit {D : Type 0} (options : Options) (known : Option (List ℕ)) (status : ℕ)
     (err_before err_after : D) : Type 0 where
   pub either : status ≤ 1
   pub quiet : status ≡ 0 → err_after ≡ err_before
-  pub audited : status ≡ 0 → options.journal ≡ None → IsAudited known options.denials options.inodes options.segments 0
-  pub of_some : status ≡ 0 → (bytes : Option (List ℕ))
-      × IsAudited bytes options.denials options.inodes options.segments 0
+  pub audited : status ≡ 0 → options.journal ≡ None → IsAuditedBy options known 0
+  pub of_some : status ≡ 0 → (bytes : Option (List ℕ)) × IsAuditedBy options bytes 0
 
 -- `lfs_audit_trail` ends with this status by what it was asked for: options whose numbers are in their ranges, as an
 -- audit ends, or else nothing is read

@@ -1,8 +1,11 @@
 //! An audit: a journal's lines, each checked behind those before it.
 
 ghost use Rattle.std.specs.Prelude.{◌≡◌, ◌≢◌, ◌+◌, Ok, length, List, [], ◌∷◌, ◌++◌, IfOk, MatchOption, OnOk};
-ghost use Rattle.lfs_trace.specs.Checking.{IsSameStanding, numbers_of};
-ghost use Rattle.lfs_auditing.specs.Audits.{HasRead, HasReadOn, IsIllegalBehind, IsOfSame, NotesOnly, StopsAtLine, told_as};
+ghost use Rattle.lfs_types.specs.Tree.{World, opening_world};
+ghost use Rattle.lfs_logstore.specs.States.{state_of};
+ghost use Rattle.lfs_calls.specs.Volumes.{HasWorld, InWorld};
+ghost use Rattle.lfs_trace.specs.Checking.{IsSameStanding, StandsAt, numbers_of};
+ghost use Rattle.lfs_auditing.specs.Audits.{HasRead, HasReadNone, HasReadOn, IsIllegalBehind, IsOfSame, NotesOnly, StopsAtLine, told_as};
 ghost use Rattle.lfs_auditing.specs.Users.{AreCounted};
 
 use crate::fault::{AuditFault, Unread};
@@ -13,6 +16,7 @@ use crate::users::Users;
 use lfs_journal_lines::fault::LineFault;
 use lfs_journal_lines::numbering::unnumbered;
 use lfs_journal_lines::reading::read_entry;
+use lfs_logstore::LogStore;
 use lfs_model::journal::{Entry, Event};
 use lfs_trace::checker::Checker;
 use lfs_trace::errors::Denials;
@@ -20,6 +24,7 @@ use lfs_trace::fault::EntryFault;
 use lfs_types::answer::{Answer, Served};
 use lfs_types::cred::Cred;
 use lfs_types::fault::FormatFault;
+use lfs_types::level::Level;
 use lfs_types::path::Path;
 use lfs_types::request::Request;
 use lfs_words::fault::FaultKind;
@@ -52,19 +57,57 @@ pub struct Audit {
 }
 
 impl Audit {
-    /// An audit of the journal of a volume with so many inode numbers and segments, which compares so much of denials.
+    /// An audit of the journal of a volume with so many inode numbers and segments from its fresh tree on, which compares so
+    /// much of denials.
     pub fn new(
         alloc: Global,
         numbers: u32,
         segments: u32,
         denials: Denials,
     ) -> Result<Audit, FormatFault>
-        ensures fresh { IfOk result (λ audit. HasRead audit []) }
+        ensures fresh { IfOk result (HasReadNone opening_world) }
         ensures numbers { IfOk result (λ audit. numbers_of audit.checker ≡ numbers) }
         ensures segments { IfOk result (λ audit. audit.checker.segments ≡ segments) }
         ensures denials { IfOk result (λ audit. audit.denials ≡ denials) }
     {
         let checker = Checker::new(alloc, numbers, segments)?;
+        Ok(Audit::at(alloc, checker, numbers, denials)?)
+    }
+
+    /// An audit of the journal that a volume goes on with, at this securelevel, from the tree that its store shows, which
+    /// compares so much of denials.
+    pub fn over(
+        alloc: Global,
+        store: &mut LogStore,
+        level: Level,
+        denials: Denials,
+    ) -> Result<Audit, FormatFault>
+        requires { HasWorld (state_of store.old) }
+        ensures begun { IfOk result (λ audit. InWorld (state_of store.old) (λ w. w.level ≡ level
+            → HasReadNone w audit)) }
+        ensures numbers { IfOk result (λ audit. numbers_of audit.checker
+            ≡ (state_of store.old).shape.numbers) }
+        ensures segments { IfOk result (λ audit. audit.checker.segments
+            ≡ (state_of store.old).shape.segments) }
+        ensures denials { IfOk result (λ audit. audit.denials ≡ denials) }
+    {
+        let numbers = store.parts().log.inodes();
+        let segments = store.parts().log.segments();
+        let checker = Checker::over(alloc, store, level, numbers, segments)?;
+        Ok(Audit::at(alloc, checker, numbers, denials)?)
+    }
+
+    /// An audit from where a checker stands, of a volume with so many inode numbers.
+    fn at(
+        alloc: Global,
+        checker: Checker,
+        numbers: u32,
+        denials: Denials,
+    ) -> Result<Audit, AllocError>
+        ensures begun { IfOk result (λ audit. (w : World) → StandsAt checker w → HasReadNone w audit) }
+        ensures checker { IfOk result (λ audit. audit.checker ≡ checker) }
+        ensures denials { IfOk result (λ audit. audit.denials ≡ denials) }
+    {
         let changed = LastOnes::none(alloc, numbers)?;
         let read = LastOnes::none(alloc, numbers)?;
         Ok(Audit {
@@ -85,9 +128,9 @@ impl Audit {
     ///
     /// `Read` where the reader fails; `Memory`.
     pub fn read_journal<R: Read>(&mut self, reader: &mut R) -> Result<Stop, AuditFault>
-        requires { (entries : List Entry) × HasRead self.old entries }
-        ensures read { IfOk result (λ stop. (entries : List Entry) → HasRead self.old entries
-            → HasReadOn (R.remaining reader.old) (R.remaining reader.new) entries self.new stop) }
+        requires { (from : World) × (entries : List Entry) × HasRead from self.old entries }
+        ensures read { IfOk result (λ stop. (from : World) (entries : List Entry) → HasRead from self.old entries
+            → HasReadOn (R.remaining reader.old) (R.remaining reader.new) from entries self.new stop) }
         ensures same { IsOfSame self.old self.new }
     {
         let mut line = Vec::new(self.alloc);
@@ -108,12 +151,12 @@ impl Audit {
     /// Checks the entry that a line tells, behind its number where one stands before it; where there is something against
     /// it, the audit stops there.
     fn line(&mut self, line: &[u8]) -> Result<Option<Stop>, AuditFault>
-        requires { (entries : List Entry) × HasRead self.old entries }
-        ensures read { IfOk result (λ stop. (entries : List Entry) → HasRead self.old entries
+        requires { (from : World) × (entries : List Entry) × HasRead from self.old entries }
+        ensures read { IfOk result (λ stop. (from : World) (entries : List Entry) → HasRead from self.old entries
             → MatchOption stop
             ((entry : Entry) × (told_as (length entries + 1) line.now ≡ Ok entry)
-            × HasRead self.new (entries ++ entry ∷ []))
-            (λ stop. StopsAtLine self.new entries line.now stop × HasRead self.new entries)) }
+            × HasRead from self.new (entries ++ entry ∷ []))
+            (λ stop. StopsAtLine from self.new entries line.now stop × HasRead from self.new entries)) }
         ensures same { IsOfSame self.old self.new }
     {
         match told_as(self.alloc, line, next_of(self.entries))? {
@@ -124,12 +167,12 @@ impl Audit {
 
     /// Checks an entry; where it is illegal, the audit stops there.
     fn entry(&mut self, entry: Entry) -> Result<Option<Stop>, AuditFault>
-        requires { (entries : List Entry) × HasRead self.old entries }
-        ensures read { IfOk result (λ stop. (entries : List Entry) → HasRead self.old entries
+        requires { (from : World) × (entries : List Entry) × HasRead from self.old entries }
+        ensures read { IfOk result (λ stop. (from : World) (entries : List Entry) → HasRead from self.old entries
             → MatchOption stop
-            (HasRead self.new (entries ++ entry ∷ []))
-            (λ stop. (stop ≡ Stop.Illegal entry) × IsIllegalBehind self.new entries entry
-            × HasRead self.new entries)) }
+            (HasRead from self.new (entries ++ entry ∷ []))
+            (λ stop. (stop ≡ Stop.Illegal entry) × IsIllegalBehind from self.new entries entry
+            × HasRead from self.new entries)) }
         ensures same { IsOfSame self.old self.new }
     {
         match self.checker.entry_as(self.denials, &entry) {

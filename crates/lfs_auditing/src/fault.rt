@@ -3,6 +3,7 @@
 ghost use Rattle.std.specs.Prelude.{◌≡◌};
 ghost use Rattle.lfs_auditing.specs.declared.fault.AuditFault.TheVariants.{Memory, Write};
 
+use lfs_checking::fault::KeepFault;
 use lfs_io::output::WriteFault;
 use lfs_journal_lines::fault::LineFault;
 use std::alloc::{AllocError, AllocFailed};
@@ -14,6 +15,9 @@ pub enum AuditFault {
     /// The file of the journal could not be opened.
     #[error("journal not opened")]
     Open,
+    /// The volume at whose tree the journal begins is not loaded from its image.
+    #[error("{0}")]
+    Image(KeepFault),
     /// The reader failed.
     #[error("read failed")]
     Read,

@@ -9,10 +9,10 @@ use std::alloc::{AllocError, Global};
 /// Who did something last to a file: by which name, in which session, and by which entry, counted from 1.
 #[derive(Drop)]
 pub struct Last {
-    path: Path,
-    uid: u32,
-    session: u8,
-    entry: u32,
+    pub(crate) path: Path,
+    pub(crate) uid: u32,
+    pub(crate) session: u8,
+    pub(crate) entry: u32,
 }
 
 /// For each inode number, who did something last to its file.

@@ -2,7 +2,9 @@
 #![tactic(auto)]
 
 pub mod audit;
+mod beginning;
 pub mod fault;
+mod json;
 pub mod last;
 pub mod lines;
 pub mod options;

@@ -49,35 +49,50 @@ const INODES: NumberOption = NumberOption {
 /// The word that names the file of the journal.
 const JOURNAL: &str = "journal";
 
+/// The option that takes the file of an image.
+const FROM: &str = "from";
+
 /// The option that takes a path.
 const WHO: &str = "who";
 
 /// The flag that has error names alone compared.
 const ERRORS: &str = "errors";
 
+/// The flag that has the report told as JSON.
+const JSON: &str = "json";
+
 /// What is told of a text that is no path.
 const WHO_REFUSAL: &str = "--who takes a path of the volume, which begins with a slash";
+
+/// What is told of numbers beside an image.
+const FROM_REFUSAL: &str =
+    "with --from the numbers are those of the image, so neither --inodes nor --segments is taken";
 
 /// What `--help` tells behind the options.
 const MORE: &str =
     "Status 0: each entry is legal behind those before it; 1: one isn't, or a line tells none, or a fault;
-2: wrong arguments. The numbers are those that the volume was made with.
+2: wrong arguments. The numbers are those that the volume was made with; without --from it was fresh when the journal
+began.
 
 Example: printf '0 as 0 0 | create /a 0644 | ok\\n' | lfs_audit_trail";
 
 /// What `lfs_audit_trail` is asked to do.
 #[derive(Drop, Debug)]
 pub struct Options<'a> {
-    /// How many inode numbers the volume had.
+    /// How many inode numbers the volume had, where no image is named.
     pub inodes: u32,
-    /// How many segments its log had.
+    /// How many segments its log had, where no image is named.
     pub segments: u32,
+    /// The file of the image of the volume as it was when the journal began, where it didn't begin with a fresh one.
+    pub from: Option<&'a str>,
     /// The file of the journal, where one is named.
     pub journal: Option<&'a str>,
     /// The path of which is told who could act by it at the end, where one is asked of.
     pub who: Option<Path>,
     /// What is compared of denials.
     pub denials: Denials,
+    /// Whether what is found is told as JSON.
+    pub json: bool,
 }
 
 /// The options that words ask for; the first word is the program's name.
@@ -101,12 +116,15 @@ pub fn options_of<'a, S: AsStr>(alloc: Global, words: &'a [S]) -> Result<Options
         Err(_) => return Err(wrong_value(&mut command, WHO_REFUSAL)),
     };
     let journal = matches.get_str(JOURNAL);
+    let from = matches.get_str(FROM);
     Ok(Options {
         inodes,
         segments,
+        from,
         journal,
         who,
         denials: denials_in(&matches),
+        json: matches.get_flag(JSON),
     })
 }
 
@@ -152,6 +170,9 @@ fn numbers_in(matches: &ArgMatches<'_>) -> Result<(u32, u32), &'static str>
     ensures inodes { IfOk result (λ numbers. IsBetween 16 4096 numbers.0) }
     ensures segments { IfOk result (λ numbers. IsBetween 6 1024 numbers.1) }
 {
+    if matches.contains_id(FROM) && has_numbers(matches) {
+        return Err(FROM_REFUSAL);
+    }
     let inodes = number(matches, &INODES)?;
     let segments = number(matches, &SEGMENTS)?;
     Ok((inodes, segments))
@@ -173,6 +194,11 @@ fn number(matches: &ArgMatches<'_>, option: &NumberOption) -> Result<u32, &'stat
     }
 }
 
+/// Whether the matches have one of the numbers.
+fn has_numbers(matches: &ArgMatches<'_>) -> bool {
+    matches.contains_id(INODES.name) || matches.contains_id(SEGMENTS.name)
+}
+
 /// Whether the value of an argument begins with a sign.
 fn has_sign(matches: &ArgMatches<'_>, name: &str) -> bool {
     match matches.get_str(name) {
@@ -190,9 +216,22 @@ fn command<'a>(alloc: Global) -> Result<Command<'a>, AllocError> {
         .after_help(MORE)
         .arg(INODES.arg(alloc))?
         .arg(SEGMENTS.arg(alloc))?
+        .arg(from(alloc))?
         .arg(who(alloc))?
         .arg(errors(alloc))?
+        .arg(json(alloc))?
         .arg(journal(alloc))
+}
+
+/// The option for the file of an image.
+fn from<'a>(alloc: Global) -> Arg<'a> {
+    Arg::new(alloc, FROM)
+        .long(FROM)
+        .value_name("IMAGE")
+        .action(ArgAction::Set)
+        .help(
+            "Begins at the tree and the securelevel of the volume whose image this file has; the numbers are its too",
+        )
 }
 
 /// The option for a path.
@@ -212,6 +251,14 @@ fn errors<'a>(alloc: Global) -> Arg<'a> {
         .help(
             "Compares of a denial its error name alone, as other systems tell no rule and no place",
         )
+}
+
+/// The flag for a report as JSON.
+fn json<'a>(alloc: Global) -> Arg<'a> {
+    Arg::new(alloc, JSON)
+        .long(JSON)
+        .action(ArgAction::SetTrue)
+        .help("Tells what is found as a JSON object in a line")
 }
 
 /// The word for the file of the journal.

@@ -2,19 +2,19 @@
 
 ghost use Rattle.std.specs.Prelude.{◌≡◌, ℕ, List, [], IfErr, IfOk, None, Option};
 ghost use Rattle.clap.specs.Values.{kind_of};
-ghost use Rattle.lfs_trace.specs.Checking.{numbers_of};
-ghost use Rattle.lfs_auditing.specs.Audits.{HasRead, IsAudited, status_of};
+ghost use Rattle.lfs_auditing.specs.Audits.{status_of};
+ghost use Rattle.lfs_auditing.specs.Beginnings.{IsAuditedBy, IsBegun};
 ghost use Rattle.lfs_auditing.specs.Ends.{EndsAudit, EndsUnasked, IsTrailEnd};
 ghost use Rattle.lfs_auditing.specs.Ranges.{IsInRange};
 
 use crate::audit::{Audit, Stop};
+use crate::beginning::begin;
 use crate::fault::AuditFault;
 use crate::options::{Options, not_utf8, options_of};
 use clap::Error;
 use clap::error::ErrorKind;
 use lfs_io::output::{flush, write_text};
 use lfs_io::tell::tell;
-use lfs_types::fault::FormatFault;
 use std::alloc::{AllocError, Global};
 use std::env::{self, Env};
 use std::fs::File;
@@ -146,50 +146,49 @@ fn run<F: Files, R: Read, W: Write>(
     stdin: &mut R,
     stdout: &mut W,
 ) -> Result<u8, AuditFault>
-    ensures audited { IfOk result (λ status. (bytes : Option (List ℕ))
-        × IsAudited bytes options.now.denials options.now.inodes options.now.segments status) }
+    ensures audited { IfOk result (λ status. (bytes : Option (List ℕ)) × IsAuditedBy options.now bytes status) }
     ensures read { IfOk result (λ status. options.now.journal ≡ None
-        → IsAudited (R.remaining stdin.old) options.now.denials options.now.inodes options.now.segments status) }
+        → IsAuditedBy options.now (R.remaining stdin.old) status) }
 {
     match options.journal {
         Some(path) => match File::open(files, path) {
-            Ok(mut file) => audit(alloc, options, &mut file, stdout),
+            Ok(mut file) => audit(files, alloc, options, &mut file, stdout),
             Err(_) => Err(AuditFault::Open),
         },
-        None => audit(alloc, options, stdin, stdout),
+        None => audit(files, alloc, options, stdin, stdout),
     }
 }
 
-/// Audits the journal of a reader, and writes what is found.
-pub fn audit<R: Read, W: Write>(
+/// Audits the journal of a reader from where it is asked to begin, and writes what is found.
+pub fn audit<F: Files, R: Read, W: Write>(
+    files: &F,
     alloc: Global,
     options: &Options<'_>,
     reader: &mut R,
     writer: &mut W,
 ) -> Result<u8, AuditFault>
-    ensures { IfOk result (IsAudited (R.remaining reader.old)
-        options.now.denials options.now.inodes options.now.segments) }
+    ensures { IfOk result (IsAuditedBy options.now (R.remaining reader.old)) }
 {
+    let mut audit = begin(files, alloc, options)?;
     match BufReader::new(alloc, reader) {
-        Ok(mut reader) => audit_lines(alloc, options, &mut reader, writer),
+        Ok(mut reader) => audit_lines(&mut audit, options, &mut reader, writer),
         Err(_) => Err(AuditFault::Memory),
     }
 }
 
-/// Audits the lines of a reader, and writes what is found.
+/// Audits the lines of a reader by an audit that has read nothing, and writes what is found.
 fn audit_lines<R: Read, W: Write>(
-    alloc: Global,
+    audit: &mut Audit,
     options: &Options<'_>,
     reader: &mut R,
     writer: &mut W,
 ) -> Result<u8, AuditFault>
-    ensures { IfOk result (IsAudited (R.remaining reader.old)
-        options.now.denials options.now.inodes options.now.segments) }
+    requires { IsBegun options.now audit.old }
+    ensures { IfOk result (IsAuditedBy options.now (R.remaining reader.old)) }
 {
-    let mut audit = fresh_audit(alloc, options)?;
     let stop = audit.read_journal(reader)?;
     let status = status_of(&stop);
-    let text = audit.tell(&stop, &options.who);
+    let text = told(audit, &stop, options);
     // Left to the return, it would be dropped variant by variant, which takes the prover long.
     drop(stop);
     write_text(writer, text?.as_slice())?;
@@ -197,18 +196,12 @@ fn audit_lines<R: Read, W: Write>(
     Ok(status)
 }
 
-/// An audit of the journal of a volume of these numbers, which compares what is asked for.
-fn fresh_audit(alloc: Global, options: &Options<'_>) -> Result<Audit, AuditFault>
-    ensures fresh { IfOk result (λ audit. HasRead audit []) }
-    ensures numbers { IfOk result (λ audit. numbers_of audit.checker ≡ options.now.inodes) }
-    ensures segments { IfOk result (λ audit. audit.checker.segments ≡ options.now.segments) }
-    ensures denials { IfOk result (λ audit. audit.denials ≡ options.now.denials) }
-{
-    match Audit::new(alloc, options.inodes, options.segments, options.denials) {
-        Ok(audit) => Ok(audit),
-        Err(FormatFault::TooFew | FormatFault::TooMany | FormatFault::Memory) => {
-            Err(AuditFault::Memory)
-        }
+/// What an audit that stopped there tells: lines, or JSON where that is asked for.
+fn told(audit: &mut Audit, stop: &Stop, options: &Options<'_>) -> Result<Vec<u8>, AllocError> {
+    if options.json {
+        audit.tell_json(stop, &options.who)
+    } else {
+        audit.tell(stop, &options.who)
     }
 }
 

@@ -61,7 +61,11 @@ impl Audit {
     }
 
     /// Appends what the rules say of an entry of a user's call: their answer, and the checks that come to it.
-    fn push_rules(&mut self, out: &mut Vec<u8>, entry: &Entry) -> Result<(), AllocError> {
+    pub(crate) fn push_rules(
+        &mut self,
+        out: &mut Vec<u8>,
+        entry: &Entry,
+    ) -> Result<(), AllocError> {
         match &entry.event {
             Event::User(request, _) => push_ruled(
                 self.alloc,

@@ -14,7 +14,7 @@ use std::collections::BTreeMap;
 /// The counts over each user's entries.
 #[derive(Drop)]
 pub struct Users {
-    counts: BTreeMap<u32, Counts>,
+    pub(crate) counts: BTreeMap<u32, Counts>,
 }
 
 impl Users {
