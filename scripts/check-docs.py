@@ -261,11 +261,11 @@ def check_crates(told):
         told(TOP / "README.md", 1, f"no crate {crate}")
     arrows, row, start = {}, [], map_page[:map_page.index(drawn)].count("\n")
     for number, line in enumerate(drawn.splitlines(), start + 1):
-        if not line.startswith("    ") or re.match(r"    \S", line) and "+-->" not in line and not line.startswith("    lfsd"):
+        if not line.startswith("    ") or re.match(r"    \S", line) and "+-->" not in line and not line.startswith(("    lfsd", "    lfs_shell")):
             row = row if line.startswith("    ") else []
             continue
         names = [name for name in re.findall(r"\b(?:lfs_\w+|lfsd)\b", line) if name in CRATES]
-        if not names or "-->" not in line and not line.startswith("    lfsd"):
+        if not names or "-->" not in line and not line.startswith(("    lfsd", "    lfs_shell")):
             continue
         depth = line.index("+-->") if "+-->" in line else 0
         row = [(at, above) for at, above in row if at < depth]
@@ -321,7 +321,7 @@ def check_words(told):
     sources = (("lfs_script/src/verb.rt", r'=> "(\w+)"'), ("lfs_print/src/cleaner.rt", r'=> "(\w+)"'),
                ("lfs_live/src/hearing.rt", r'=> "(\.\w+)"'))
     wanted = {word for file, form in sources for word in re.findall(form, (TOP / "crates" / file).read_text())}
-    wanted |= {".why", "at", "end", "init"}
+    wanted |= {".why", ".who", "help", "?", "at", "end", "init"}
     listed = set(path.read_text().split())
     for word in sorted(wanted - listed):
         told(path, 1, f"the word {word} is lacking")

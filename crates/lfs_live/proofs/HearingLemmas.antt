@@ -12,11 +12,12 @@ use Rattle.lfs_words.specs.Lines.{is_printable}
 use Rattle.lfs_words.specs.Wording.{words_of}
 use Rattle.lfs_words.specs.declared.fault.FaultKind.{FaultKind}
 use Rattle.lfs_words.specs.declared.fault.FaultKind.TheVariants.{Words}
-use Rattle.lfs_live.specs.Hearing.{call_heard, dot_heard, dot_of, dot_said, dot_with, dotted_heard, heard_of, why_heard}
-use Rattle.lfs_live.specs.Hearing.{is_dotted, lone_dot}
+use Rattle.lfs_live.specs.Hearing.{asked_heard, call_heard, dot_heard, dot_of, dot_said, dot_with, dotted_heard}
+use Rattle.lfs_live.specs.Hearing.{heard_of, is_dotted, lone_dot}
 use Rattle.lfs_live.specs.declared.fault.LineFault.TheVariants.{TooLong}
 use Rattle.lfs_live.specs.declared.hearing.Dot.{Dot}
 use Rattle.lfs_live.specs.declared.hearing.Heard.TheVariants.{Fault}
+use Rattle.lfs_live.specs.declared.hearing.Inquiry.TheVariants.{Why, Who}
 
 reads-same : (result : Result Dot FaultKind) → ReadsAs result result
 reads-same (Ok dot) = refl
@@ -31,7 +32,7 @@ dot_there line text words result printable same split is =
     (reads-same result))
 
 -- a line is too long
-pub heard_long : (line : List ℕ) → 65536 < length line → Fault TooLong ≡ heard_of line
+pub heard_long : (line : List ℕ) → 65536 < length line → Fault TooLong [] ≡ heard_of line
 unfolding heard_of
 heard_long line long = rw (lt-ltb 65536 (length line) long) refl
 
@@ -41,7 +42,7 @@ unfolding heard_of
 heard_dot line few dotted = rw (le-ltb 65536 (length line) few, dotted) refl
 
 -- each other
-pub heard_call : (line : List ℕ) → length line ≤ 65536 → is_dotted line ≡ false → call_heard (line_said line)
+pub heard_call : (line : List ℕ) → length line ≤ 65536 → is_dotted line ≡ false → call_heard line (line_said line)
     ≡ heard_of line
 unfolding heard_of
 heard_call line few dotted = rw (le-ltb 65536 (length line) few, dotted) refl
@@ -61,19 +62,25 @@ pair_there f (a ∷ []) d least most = absurd (omega arith)
 pair_there f (a ∷ b ∷ []) d least most = refl
 pair_there f (a ∷ b ∷ c ∷ more) d least most = absurd (omega arith)
 
--- what stands behind `.why `
+-- what stands behind `.why ` or `.who `
 pub rest_of : (line : List ℕ) → take (length line - 5) (drop 5 line) ≡ drop 5 line
 rest_of line = take_all (length line - 5) (drop 5 line) (rw (length-drop 5 line) (omega arith))
 
 -- a line begins with `.why `
-pub heard_why : (line : List ℕ) → starts_with nat_eq line (codes ".why ") ≡ true → why_heard (line_said (drop 5 line))
-    ≡ dotted_heard line
+pub heard_why : (line : List ℕ) → starts_with nat_eq line (codes ".why ") ≡ true
+    → asked_heard Why (drop 5 line) (line_said (drop 5 line)) ≡ dotted_heard line
 heard_why line why = rw why refl
 
+-- or with `.who `
+pub heard_who : (line : List ℕ) → starts_with nat_eq line (codes ".why ") ≡ false
+    → starts_with nat_eq line (codes ".who ") ≡ true
+    → asked_heard Who (drop 5 line) (line_said (drop 5 line)) ≡ dotted_heard line
+heard_who line other who = rw (other, who) refl
+
 -- or with another dot
-pub heard_lone : (line : List ℕ) → starts_with nat_eq line (codes ".why ") ≡ false → dot_heard (dot_said line)
-    ≡ dotted_heard line
-heard_lone line other = rw other refl
+pub heard_lone : (line : List ℕ) → starts_with nat_eq line (codes ".why ") ≡ false
+    → starts_with nat_eq line (codes ".who ") ≡ false → dot_heard (dot_said line) ≡ dotted_heard line
+heard_lone line other none = rw (other, none) refl
 
 -- three words and more are no word of the server's own
 pub dot_many : (words : List (Bor (List ℕ))) → 3 ≤ length words → Err Words ≡ dot_of (map (λ x. x.now) words)

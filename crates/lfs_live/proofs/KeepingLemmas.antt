@@ -1,6 +1,6 @@
 -- What was handed out, and what the sink has, line by line.
-use Rattle.std.proofs.Common.{◌≡◌, ℕ, ◌+◌, ◌≤◌, ◌⊎◌, Bool, true, false, OnOk, Result, Ok, Err, List, [], ◌∷◌, ◌++◌}
-use Rattle.std.proofs.Common.{length, drop, Option, inl, inr, refl, sym, ap, subst, ◌∙◌, arith, append_assoc}
+use Rattle.std.proofs.Common.{◌≡◌, ℕ, zero, suc, ◌+◌, ◌≤◌, ◌⊎◌, Bool, true, false, OnErr, OnOk, Result, Ok, Err, List, [], ◌∷◌, ◌++◌}
+use Rattle.std.proofs.Common.{length, drop, inl, inr, refl, sym, ap, subst, ◌∙◌, arith, append_assoc}
 use Rattle.std.proofs.Common.{append-nil, length-append}
 use Rattle.std.specs.Io.KnownBytes.{Appends}
 use Rattle.std.proofs.KnownBytes.{Appends-nil, Appends-trans}
@@ -20,7 +20,6 @@ use Rattle.lfs_live.specs.Held.{Course, HasKept, HasRoom, Held, IsHanded, IsHand
 use Rattle.lfs_live.specs.Held.{Takes, closed, course_of, drained}
 use Rattle.lfs_live.specs.Steps.{HasTidied}
 use Rattle.lfs_audit.specs.Runs.{TellsLine}
-use Rattle.lfs_live.specs.Hearing.{heard_of}
 use Rattle.lfs_sinks.specs.Numbered.{numbered_text}
 use Rattle.lfs_sinks.specs.Sums.{counts_sum}
 use Rattle.lfs_live.specs.Talkers.{Talker}
@@ -38,6 +37,22 @@ use Rattle.lfs_sinks.proofs.SumLemmas.{counts_joined}
 -- a sink that took nothing
 pub takes_none : {J : Type 0} (sink : Sink J) (j : J) → Takes sink j j []
 takes_none sink j = record { lines = Appends-nil (sink.contents j); numbered = omega arith }
+
+drop_none : {A : Type 0} (n : ℕ) (xs : List A) → length xs ≤ 0 → drop n xs ≡ xs
+drop_none zero xs none = refl
+drop_none (suc n) [] none = refl
+drop_none (suc n) (x ∷ xs) none = absurd (omega (arith, none))
+
+no_entries : {A : Type 0} (xs : List A) → length xs ≤ 0 → xs ≡ []
+no_entries [] none = refl
+no_entries (x ∷ xs) none = absurd (omega (arith, none))
+
+-- a sink that was not asked to take the entries of an empty journal
+pub takes_empty : {J : Type 0} (sink : Sink J) (j : J) (before : ℕ) (entries : List Entry) → length entries ≤ 0
+    → Takes sink j j (drop before entries)
+takes_empty {J} sink j before entries none =
+    subst (λ (l : List Entry). Takes sink j j l) (sym (drop_none before entries none ∙ no_entries entries none))
+    (takes_none sink j)
 
 -- a sink that took more
 pub takes_more : {J : Type 0} (sink : Sink J) (old middle new : J) (entries more all : List Entry) → all ≡ entries
@@ -93,7 +108,7 @@ line_follows r handed old new speaker then (heard.Line (says.Caller cred)) told 
     follows_same r.cleaner.state old new h.0
 line_follows r handed old new speaker then (heard.Line (says.Act act)) told h =
     run_follows r.cleaner old new speaker.session speaker.cred act told h.0
-line_follows r handed old new speaker then (heard.Why request) told h =
+line_follows r handed old new speaker then (heard.Asks inquiry request) told h =
     let looks = h.0 in
     record {
       more = [];
@@ -103,7 +118,7 @@ line_follows r handed old new speaker then (heard.Why request) told h =
       shape = ap (λ (s : StoreState). s.shape) looks.state;
     }
 line_follows r handed old new speaker then (heard.Dot dot) told h = follows_same r.cleaner.state old new h.0
-line_follows r handed old new speaker then (heard.Fault fault) told h = follows_same r.cleaner.state old new h.0
+line_follows r handed old new speaker then (heard.Fault fault place) told h = follows_same r.cleaner.state old new h.0
 
 true-false : false ≡ true → ⊥
 true-false e = absurd (cc)
@@ -169,7 +184,7 @@ left_behind {F} handed now after (inr (inl out)) = inr (inl (record {
       (sym (append_assoc handed now.handed now.volume.journal));
 }))
 left_behind handed now after (inr (inr shut)) =
-    inr (inr (record { opened = shut.opened; is = ap (since_handed handed) shut.is }))
+    inr (inr (record { opened = shut.opened; some = shut.some; is = ap (since_handed handed) shut.is }))
 
 -- the same of how a volume that is talked to moved on, with what was handed out before
 pub moves_on : {F J : Type 0} (state : F → StoreState) (sink : Sink J) (before : ℕ) (now new : Held F J)
@@ -278,13 +293,14 @@ moves_given {F} {J} state sink before old new is takes room =
 
 -- the sink takes no more
 pub moves_closed : {F J : Type 0} (state : F → StoreState) (sink : Sink J) (before : ℕ) (old new : Held F J)
-    → old.is_open ≡ true → new ≡ record old { volume = closed old.volume; sink = new.sink; is_open = false }
+    → old.is_open ≡ true → 1 ≤ length old.volume.journal
+    → new ≡ record old { volume = closed old.volume; sink = new.sink; is_open = false }
     → Moves state sink before old new []
-moves_closed {F} {J} state sink before old new taking is =
+moves_closed {F} {J} state sink before old new taking some is =
     subst (λ (h : Held F J). Moves state sink before old h []) (sym is)
     (record {
       moves = record {
-        left = inr (inr (record { opened = taking; is = refl }));
+        left = inr (inr (record { opened = taking; some = some; is = refl }));
         room = λ more. absurd (true-false more);
       };
       counted = λ handed told. told ∙ ap counts_of (sym (append-nil handed));
@@ -426,3 +442,10 @@ pub tidied_opened : {F J : Type 0} (r : Cleaner F) (sink : Sink J) (now new : He
     → HasTidied r sink now new more → new.is_open ≡ true → now.is_open ≡ true
 tidied_opened {F} {J} r sink now new more tidied taking =
     tidied_opened_so r sink now new more (is_due r.state (course_of now [])) refl tidied taking
+
+-- ---- results
+
+-- what holds anyhow, holds where a result is an Err
+pub on_any_err : {A E P : Type 0} (result : Result A E) → P → OnErr result P
+on_any_err (Ok a) p = tt
+on_any_err (Err e) p = p

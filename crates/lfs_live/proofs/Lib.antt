@@ -1,5 +1,4 @@
 pub mod HearingLemmas
-pub mod HelpLemmas
 pub mod KeepingLemmas
 pub mod LineLemmas
 pub mod SameLemmas

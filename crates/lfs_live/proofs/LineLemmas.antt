@@ -114,5 +114,5 @@ heard_kept line kept is = same_by line kept (is_long line) refl is
 pub cut_kept : (line kept : List ℕ) → kept ≡ take 65537 line → cut_text kept ≡ cut_text line
 cut_kept [] kept is = ap cut_text is
 cut_kept (c ∷ cs) kept is =
-    ap cut_text is ∙ ap (λ (long : Bool). fault_line (if long then TooLong else Kind Cut))
+    ap cut_text is ∙ ap (λ (long : Bool). fault_line (if long then TooLong else Kind Cut) [])
     (long_kept (c ∷ cs) (take 65537 (c ∷ cs)) refl)

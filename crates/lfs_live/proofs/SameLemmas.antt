@@ -40,7 +40,7 @@ use Rattle.lfs_live.specs.Held.{Course, IsHanded, IsShut, MovesOn}
 use Rattle.lfs_live.specs.Scripts.{WritesAsScript, log_talker}
 use Rattle.lfs_live.specs.Talkers.{Talker}
 use Rattle.lfs_live.specs.Talking.{Does, Hears, HearsAll, IsLast, IsTalk, Tidies, ended, first_speaker}
-use Rattle.lfs_live.specs.Telling.{ended_line}
+use Rattle.lfs_live.specs.Pieces.{ended_line}
 use Rattle.lfs_live.specs.declared.hearing.Dot.TheVariants.{Quit}
 use Rattle.lfs_live.specs.declared.hearing.Heard.{Heard}
 use Rattle.lfs_live.specs.declared.hearing.Heard.TheVariants as heard

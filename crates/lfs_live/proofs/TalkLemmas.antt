@@ -5,24 +5,23 @@ use Rattle.std.specs.Io.KnownBytes.{Appends, Consumes, Keeps}
 use Rattle.std.proofs.KnownBytes.{Appends-kept, Appends-nil, Appends-trans, Consumes-nil, Consumes-trans}
 use Rattle.std.proofs.lemmas.Grind.{flat_map-append}
 use Rattle.std.proofs.lemmas.List.Elements.{All-nil}
-use Rattle.lfs_types.specs.StoreStates.{StoreState}
 use Rattle.lfs_model.specs.Counts.{counts_of}
 use Rattle.lfs_model.specs.Steps.{IsLegal}
 use Rattle.lfs_model.specs.declared.journal.Entry.{Entry}
 use Rattle.lfs_print.specs.ReportText.{report_text}
 use Rattle.lfs_volume.specs.Journals.{Since}
 use Rattle.lfs_volume.specs.Seen.{Seen}
-use Rattle.lfs_live.specs.Held.{Course, HasKept, Held, MovesOn, Sink, Takes, course_of}
+use Rattle.lfs_live.specs.Held.{Course, HasKept, Held, MovesOn, Sink, course_of}
 use Rattle.lfs_live.proofs.KeepingLemmas.{all_legal, kept_moved, kept_none, kept_tidied, line_follows, moves_on}
 use Rattle.lfs_live.proofs.KeepingLemmas.{on_opened, tidied_opened, tidies_on}
 use Rattle.lfs_words.specs.Lines.{HasNoLineFeed}
 use Rattle.lfs_live.specs.Hearing.{heard_of}
 use Rattle.lfs_live.specs.Steps.{FailsHere, HeardAll, HeardSoFar, HearsLast, HearsNext, IsTended, IsTold}
 use Rattle.lfs_live.specs.Talkers.{Talker}
-use Rattle.lfs_live.specs.Talking.{HasHeardAll, HasHeardSoFar, HasKeptSoFar, Hears, HearsAll, IsKeptTalk, Tidies}
+use Rattle.lfs_live.specs.Talking.{HasKeptSoFar, Hears, HearsAll, IsKeptTalk, Tidies}
 use Rattle.lfs_live.specs.Talking.{ended, first_speaker}
-use Rattle.lfs_live.specs.Telling.{cut_text, ended_line}
-use Rattle.lfs_live.specs.Pieces.{IsPiece}
+use Rattle.lfs_live.specs.Telling.{cut_text}
+use Rattle.lfs_live.specs.Pieces.{IsPiece, ended_line}
 use Rattle.lfs_live.specs.declared.hearing.Dot.TheVariants.{Quit}
 use Rattle.lfs_live.specs.declared.hearing.Heard.{Heard}
 use Rattle.lfs_live.specs.declared.hearing.Heard.TheVariants as heard

@@ -1,8 +1,9 @@
 -- What a line says.
-use Rattle.std.specs.Prelude.{ℕ, ◌==◌, Bool, false, nat_eq, nat_lt, List, [], ◌∷◌, drop, length, codes, find, Option}
+use Rattle.std.specs.Prelude.{ℕ, ◌==◌, ◌||◌, Bool, false, nat_eq, nat_lt, List, [], ◌∷◌, drop, length, codes, find, Option}
 use Rattle.std.specs.Prelude.{None, Some, Result, Ok, Err, if◌then◌else◌}
 use Rattle.std.specs.List.{starts_with}
 use Rattle.std.specs.Str.{bytes_eq}
+use Rattle.lfs_script.specs.Places.{place_text}
 use Rattle.lfs_script.specs.Plans.{line_said}
 use Rattle.lfs_script.specs.declared.plan.Line.{Line as Said}
 use Rattle.lfs_script.specs.declared.plan.Line.TheVariants.{Nothing, Session, Caller, Act}
@@ -18,7 +19,9 @@ use Rattle.lfs_live.specs.declared.fault.LineFault.TheVariants.{TooLong, Kind}
 use Rattle.lfs_live.specs.declared.hearing.Dot.{Dot as Word}
 use Rattle.lfs_live.specs.declared.hearing.Dot.TheVariants.{Journal, Map, Segment, Space, Report, Help, Quit}
 use Rattle.lfs_live.specs.declared.hearing.Heard.{Heard}
-use Rattle.lfs_live.specs.declared.hearing.Heard.TheVariants.{Line, Why, Dot, Fault}
+use Rattle.lfs_live.specs.declared.hearing.Heard.TheVariants.{Line, Asks, Dot, Fault}
+use Rattle.lfs_live.specs.declared.hearing.Inquiry.{Inquiry}
+use Rattle.lfs_live.specs.declared.hearing.Inquiry.TheVariants.{Why, Who}
 
 -- a word of the server's own
 abbrev pub dot_word : Word → List ℕ
@@ -72,39 +75,56 @@ is_dotted (c ∷ cs) = c == 46
 abbrev pub is_long : List ℕ → Bool
 is_long line = nat_lt 65536 (length line)
 
-abbrev pub call_heard : Result Said FaultKind → Heard
-call_heard (Ok said) = Line said
-call_heard (Err kind) = Fault (Kind kind)
+-- whether a line asks for help, though no line of a script says so
+abbrev pub asks_help : List ℕ → Bool
+asks_help line = bytes_eq line (codes "help") || bytes_eq line (codes "?")
+
+-- a line that is none of a script asks for help, or has a fault, which stands there
+abbrev pub other_heard : List ℕ → FaultKind → Heard
+other_heard line kind = if asks_help line then Dot Help else Fault (Kind kind) (place_text 0 line)
+
+-- what a line of a script says, or what another does
+abbrev pub call_heard : List ℕ → Result Said FaultKind → Heard
+call_heard line (Ok said) = Line said
+call_heard line (Err kind) = other_heard line kind
 
 abbrev pub dot_heard : Result Word FaultKind → Heard
 dot_heard (Ok dot) = Dot dot
-dot_heard (Err kind) = Fault (Kind kind)
+dot_heard (Err kind) = Fault (Kind kind) (codes " at 1: .help tells these words")
 
--- a user's call that is to be explained
-abbrev pub why_act : Asked → Heard
-why_act (User request) = Why request
-why_act (Cleaner call) = Fault (Kind Words)
-why_act Pass = Fault (Kind Words)
+-- no call that is asked about
+abbrev pub no_call : Heard
+no_call = Fault (Kind Words) (codes " at 6: a user's call stands here")
 
--- what a line of a script says that is to be explained: a user's call, and nothing else
-abbrev pub why_line : Said → Heard
-why_line Nothing = Fault (Kind Words)
-why_line (Session session) = Fault (Kind Words)
-why_line (Caller cred) = Fault (Kind Words)
-why_line (Act act) = why_act act
+-- a user's call that is asked about
+abbrev pub asked_act : Inquiry → Asked → Heard
+asked_act inquiry (User request) = Asks inquiry request
+asked_act inquiry (Cleaner call) = no_call
+asked_act inquiry Pass = no_call
 
-abbrev pub why_heard : Result Said FaultKind → Heard
-why_heard (Ok said) = why_line said
-why_heard (Err kind) = Fault (Kind kind)
+-- what a line of a script says that is asked about: a user's call, and nothing else
+abbrev pub asked_line : Inquiry → Said → Heard
+asked_line inquiry Nothing = no_call
+asked_line inquiry (Session session) = no_call
+asked_line inquiry (Caller cred) = no_call
+asked_line inquiry (Act act) = asked_act inquiry act
 
--- what a line says that begins with a dot: why, of the call behind `.why `, or a word of the server's own
+-- the same of a line that stands behind `.why ` or `.who `
+abbrev pub asked_heard : Inquiry → List ℕ → Result Said FaultKind → Heard
+asked_heard inquiry line (Ok said) = asked_line inquiry said
+asked_heard inquiry line (Err kind) = Fault (Kind kind) (place_text 5 line)
+
+-- what a line says that begins with a dot: what is asked about the call behind `.why ` or `.who `, or a word of the
+-- server's own
 abbrev pub dotted_heard : List ℕ → Heard
 dotted_heard line =
-    if starts_with nat_eq line (codes ".why ") then why_heard (line_said (drop 5 line)) else dot_heard (dot_said line)
+    if starts_with nat_eq line (codes ".why ") then asked_heard Why (drop 5 line) (line_said (drop 5 line)) else
+    if starts_with nat_eq line (codes ".who ") then asked_heard Who (drop 5 line) (line_said (drop 5 line)) else
+    dot_heard (dot_said line)
 
 -- what a line says, which is given without its line feed: one that is too long says nothing, one that begins with a dot
 -- a word of the server's own, each other what a line of a script says
 unfoldable pub heard_of : List ℕ → Heard
 heard_of line =
-    if is_long line then Fault TooLong else
-    if is_dotted line then dotted_heard line else call_heard (line_said line)
+    if is_long line then Fault TooLong [] else
+    if is_dotted line then dotted_heard line else call_heard line (line_said line)

@@ -1,12 +1,12 @@
 -- A volume that is talked to, whose journal is given to a sink, and what was handed out of the journal by then.
-use Rattle.std.specs.Prelude.{◌≡◌, ℕ, ◌+◌, ◌≤◌, ◌⊎◌, Bool, true, false, List, [], ◌++◌, drop, length, Option}
+use Rattle.std.specs.Prelude.{◌≡◌, ℕ, ◌+◌, ◌<◌, ◌≤◌, ◌⊎◌, Bool, true, false, List, [], ◌++◌, drop, length, Option}
 use Rattle.std.specs.Io.KnownBytes.{Appends}
 use Rattle.lfs_model.specs.Counts.{counts_of}
 use Rattle.lfs_model.specs.Steps.{IsLegal, world_after}
 use Rattle.lfs_model.specs.declared.counts.Counts.{Counts}
 use Rattle.lfs_model.specs.declared.journal.Entry.{Entry}
 use Rattle.lfs_types.specs.StoreStates.{StoreState}
-use Rattle.lfs_volume.specs.Journals.{Begins, Since}
+use Rattle.lfs_volume.specs.Journals.{AtPresent, Begins, Since}
 use Rattle.lfs_volume.specs.Seen.{Seen}
 use Rattle.lfs_sinks.specs.Numbered.{numbered_text}
 
@@ -52,9 +52,10 @@ pub record IsHanded {F : Type 0} (now after : Course F) : Type 0 where
   pub opened : now.is_open ≡ true
   pub is : after ≡ record now { volume = drained now.volume; handed = now.handed ++ now.volume.journal }
 
--- the sink takes no more, and from then on no call is served
+-- the sink takes no more of the entries that there are, and from then on no call is served
 pub record IsShut {F : Type 0} (now after : Course F) : Type 0 where
   pub opened : now.is_open ≡ true
+  pub some : 1 ≤ length now.volume.journal
   pub is : after ≡ record now { volume = closed now.volume; is_open = false }
 
 -- A talk goes on as it is; or its sink took the entries, and they were handed out; or its sink takes no more. While it
@@ -109,3 +110,12 @@ IsHandedOut state old new =
     let shape = (state old.store).shape in
     IsLegal shape.numbers shape.segments old.journal from
     × Begins (state new.since) new.since_level (world_after shape.numbers old.journal from))
+
+-- a volume is as it was, or its entries were let go: its journal begins at the tree that it led to
+abbrev pub IsLetGo : {F : Type 0} → (F → StoreState) → Seen F → Seen F → Type 0
+IsLetGo state old new =
+    (new ≡ old) ⊎ ((new ≡ drained old) × AtPresent state old (Begins (state new.since) new.since_level))
+
+-- a volume's journal takes a further entry, where it may have one at all
+abbrev pub MayEnter : {F : Type 0} → Seen F → Type 0
+MayEnter v = 1 ≤ v.limit → length v.journal < v.limit

@@ -1,9 +1,11 @@
 pub mod Faults
 pub mod Hearing
 pub mod Held
+pub mod HelpText
 pub mod JournalText
 pub mod Pieces
 pub mod Scripts
+pub mod Settling
 pub mod Steps
 pub mod Talkers
 pub mod Talking

@@ -3,6 +3,10 @@ use Rattle.std.specs.Prelude.{◌≡◌, ℕ, Bool, true, false, List, [], ◌�
 use Rattle.std.specs.Io.KnownBytes.{Consumes, IsAtEnd}
 use Rattle.lfs_words.specs.Lines.{HasNoLineFeed}
 
+-- a text and a line feed
+abbrev pub ended_line : List ℕ → List ℕ
+ended_line text = text ++ 10 ∷ []
+
 -- nothing but bytes without a line feed was read
 pub record IsUnended (known left : Option (List ℕ)) : Type 0 where
   pub part : List ℕ

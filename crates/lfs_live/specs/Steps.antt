@@ -12,7 +12,7 @@ use Rattle.lfs_live.specs.Hearing.{heard_of}
 use Rattle.lfs_live.specs.Held.{HasKept, Held, Moves, Sink, course_of}
 use Rattle.lfs_live.specs.Talkers.{Talker}
 use Rattle.lfs_live.specs.Talking.{HasHeardAll, HasHeardSoFar, Hears, IsLast, first_speaker, is_due}
-use Rattle.lfs_live.specs.Telling.{ended_line}
+use Rattle.lfs_live.specs.Pieces.{ended_line}
 use Rattle.lfs_live.specs.declared.hearing.Heard.{Heard}
 use Rattle.lfs_live.specs.declared.telling.Speaker.{Speaker}
 

@@ -2,7 +2,10 @@
 use Rattle.std.specs.Prelude.{◌≡◌, ℕ, ◌⊎◌, ◌&&◌, not, nat_lt, Bool, true, false, List, [], ◌∷◌, ◌++◌, Option, Some}
 use Rattle.std.specs.Io.KnownBytes.{Appends, Consumes, IsAtEnd}
 use Rattle.std.specs.List.{flat_map}
+use Rattle.lfs_types.specs.Caller.{Caller as Credential}
 use Rattle.lfs_types.specs.StoreStates.{StoreState}
+use Rattle.lfs_types.specs.Tree.{World}
+use Rattle.lfs_types.specs.declared.request.Request.{Request}
 use Rattle.lfs_model.specs.Steps.{IsLegal}
 use Rattle.lfs_model.specs.declared.journal.Entry.{Entry}
 use Rattle.lfs_print.specs.ReportText.{report_text}
@@ -14,14 +17,18 @@ use Rattle.lfs_volume.specs.Cleanings.{Cleaner}
 use Rattle.lfs_volume.specs.Journals.{AtPresent, Since}
 use Rattle.lfs_volume.specs.Seen.{Seen}
 use Rattle.lfs_audit.specs.Runs.{TellsLine}
+use Rattle.lfs_who.specs.WhoText.{IsWhoTold}
 use Rattle.lfs_why.specs.WhyText.{why_text}
 use Rattle.lfs_live.specs.Hearing.{heard_of}
 use Rattle.lfs_live.specs.Held.{Course, Held, MovesOn, Sink, Takes, course_of}
 use Rattle.lfs_live.specs.Talkers.{Talker}
-use Rattle.lfs_live.specs.Telling.{cut_text, dot_text, ended_line, fault_line}
+use Rattle.lfs_live.specs.Pieces.{ended_line}
+use Rattle.lfs_live.specs.Telling.{cut_text, dot_text, fault_line}
 use Rattle.lfs_live.specs.declared.hearing.Dot.TheVariants.{Quit}
 use Rattle.lfs_live.specs.declared.hearing.Heard.{Heard}
 use Rattle.lfs_live.specs.declared.hearing.Heard.TheVariants as heard
+use Rattle.lfs_live.specs.declared.hearing.Inquiry.{Inquiry}
+use Rattle.lfs_live.specs.declared.hearing.Inquiry.TheVariants.{Why, Who}
 use Rattle.lfs_live.specs.declared.telling.Speaker.{Speaker}
 
 -- the first line is of session 0, and of the superuser with group 0, who is not init
@@ -46,17 +53,22 @@ pub record LooksOn {F : Type 0} (before after : StoreState) (old new : Seen F) :
   pub since : new.since ≡ old.since
   pub since_level : new.since_level ≡ old.since_level
 
--- The same of each line, with the entries that were handed out by then: a call that is explained is not made, and a word
--- of the server's own and a fault change nothing.
+-- what is told of a call that is not made, on this tree: why it would be allowed or denied, or who could make it
+abbrev pub IsAnsweredBy : World → Inquiry → Credential → Request → List ℕ → Type 0
+IsAnsweredBy w Why caller request told = told ≡ why_text w caller request
+IsAnsweredBy w Who caller request told = IsWhoTold w request told
+
+-- The same of each line, with the entries that were handed out by then: a call that is asked about is not made, and a
+-- word of the server's own and a fault change nothing.
 abbrev pub Hears : {F : Type 0} → Talker F → List Entry → Seen F → Speaker → Heard → List ℕ → Seen F → Speaker → Type 0
 Hears r handed old speaker (heard.Line line) told new then = Does r.cleaner old speaker line told new then
-Hears r handed old speaker (heard.Why request) told new then =
+Hears r handed old speaker (heard.Asks inquiry request) told new then =
     LooksOn (r.cleaner.state old.store) (r.cleaner.state new.store) old new × (then ≡ speaker)
-    × AtPresent r.cleaner.state old (λ w. told ≡ why_text w speaker.cred request)
+    × AtPresent r.cleaner.state old (λ w. IsAnsweredBy w inquiry speaker.cred request told)
 Hears r handed old speaker (heard.Dot dot) told new then =
     (new ≡ old) × (then ≡ speaker) × (dot_text r dot handed old ≡ Some told)
-Hears r handed old speaker (heard.Fault fault) told new
-    then = (new ≡ old) × (then ≡ speaker) × (told ≡ fault_line fault)
+Hears r handed old speaker (heard.Fault fault place) told new then =
+    (new ≡ old) × (then ≡ speaker) × (told ≡ fault_line fault place)
 
 -- a pass of the cleaner is due: passes are made unasked, and at most three segments are clean
 abbrev pub is_due : {F : Type 0} → (F → StoreState) → Course F → Bool

@@ -8,7 +8,9 @@ use Rattle.lfs_words.specs.declared.fault.FaultKind.TheVariants.{Cred, Memory}
 use Rattle.lfs_volume.specs.Seen.{Seen}
 use Rattle.lfs_live.specs.Hearing.{is_long}
 use Rattle.lfs_live.specs.Talkers.{Talker}
+use Rattle.lfs_live.specs.HelpText.{help_text}
 use Rattle.lfs_live.specs.JournalText.{journal_text}
+use Rattle.lfs_live.specs.Pieces.{ended_line}
 use Rattle.lfs_live.specs.declared.fault.LineFault.{LineFault}
 use Rattle.lfs_live.specs.declared.fault.LineFault.TheVariants.{TooLong, Kind}
 use Rattle.lfs_live.specs.declared.hearing.Dot.{Dot}
@@ -32,31 +34,14 @@ abbrev pub fault_word : LineFault → List ℕ
 fault_word TooLong = codes "TooLong"
 fault_word (Kind kind) = kind_word kind
 
--- a text and a line feed
-abbrev pub ended_line : List ℕ → List ℕ
-ended_line text = text ++ 10 ∷ []
-
--- the line of a fault
-unfoldable pub fault_line : LineFault → List ℕ
-fault_line fault = codes "fault" ++ 32 ∷ fault_word fault ++ 10 ∷ []
+-- the line of a fault, with where it stands
+unfoldable pub fault_line : LineFault → List ℕ → List ℕ
+fault_line fault place = codes "fault" ++ 32 ∷ fault_word fault ++ place ++ 10 ∷ []
 
 -- what is told of bytes behind the last line feed
 abbrev pub cut_text : List ℕ → List ℕ
 cut_text [] = []
-cut_text (c ∷ cs) = fault_line (if is_long (c ∷ cs) then TooLong else Kind Cut)
-
--- the text of `.help`
-unfoldable pub help_text : List ℕ
-help_text =
-    ended_line (codes "A line is that of a script: a call, `as`, `session`, or `#` and a comment.")
-    ++ ended_line (codes ".why CALL  the checks by which a call would be allowed or denied now, without making it")
-    ++ ended_line (codes ".journal [K]  what was asked and answered so far, or the last K of it")
-    ++ ended_line (codes ".map  what stands in each segment of the log")
-    ++ ended_line (codes ".segment N  each block of a segment: whose it is, where that stands now, live or dead")
-    ++ ended_line (codes ".space  clean segments, live bytes, numbers in use, what waits, and the journal's entries")
-    ++ ended_line (codes ".report  how many calls were served, denied and refused so far")
-    ++ ended_line (codes ".help    these lines")
-    ++ ended_line (codes ".quit    ends with the report, as the end of the input does")
+cut_text (c ∷ cs) = fault_line (if is_long (c ∷ cs) then TooLong else Kind Cut) []
 
 -- how many entries a journal keeps of how many, and how many were handed out of it
 unfoldable pub entries_told : ℕ → ℕ → ℕ → List ℕ

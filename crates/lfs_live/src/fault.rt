@@ -1,11 +1,14 @@
 //! Why a line is not done, and how that is told.
 
-ghost use Rattle.std.specs.Prelude.{◌≡◌, ◌++◌, OnOk};
+ghost use Rattle.std.specs.Prelude.{◌≡◌, ◌++◌, [], IfOk, OnOk};
+ghost use Rattle.lfs_script.specs.Places.{place_text};
 ghost use Rattle.lfs_live.specs.Telling.{fault_line, fault_word, kind_word};
 
+use lfs_script::place::push_place;
 use lfs_words::append::push_word;
 use lfs_words::fault::FaultKind;
-use std::alloc::AllocError;
+use std::alloc::{AllocError, Global};
+use std::marker::Model;
 
 /// Why a line is not done. Nothing changes.
 #[derive(Clone, Copy, PartialEq, Eq, Debug)]
@@ -28,6 +31,56 @@ impl LineFault {
     }
 }
 
+/// Where a fault stands, and what was expected there, as it is told behind the fault's word.
+#[derive(Drop)]
+pub struct Place {
+    text: Vec<u8>,
+}
+
+impl Model for Place {
+    ghost use Rattle.std.specs.Prelude.{ℕ, List};
+
+    ghost Value = { List ℕ };
+
+    ghost view = { λ p. p.text.items };
+}
+
+impl Place {
+    /// None.
+    pub fn none(alloc: Global) -> Place
+        ensures { result ≡ [] }
+    {
+        Place {
+            text: Vec::new(alloc),
+        }
+    }
+
+    /// That of the fault of a line of a script, which stands behind so many bytes.
+    pub fn of(alloc: Global, before: u64, line: &[u8]) -> Result<Place, AllocError>
+        ensures { IfOk result (λ place. place ≡ place_text before line.now) }
+    {
+        let mut text = Vec::new(alloc);
+        push_place(alloc, &mut text, before, line)?;
+        Ok(Place { text })
+    }
+
+    /// This text.
+    pub fn told(alloc: Global, words: &str) -> Result<Place, AllocError>
+        ensures { IfOk result (λ place. place ≡ words.now) }
+    {
+        let mut text = Vec::new(alloc);
+        text.extend_from_slice(words.as_bytes())?;
+        Ok(Place { text })
+    }
+
+    /// The text.
+    pub fn text(&self) -> &[u8]
+        ensures { result.now ≡ self.now }
+    {
+        self.text.as_slice()
+    }
+}
+
 /// The word of what is wrong with a line of a script.
 fn kind_word(kind: FaultKind) -> &'static str
     ensures { result.now ≡ kind_word kind }
@@ -46,12 +99,13 @@ fn kind_word(kind: FaultKind) -> &'static str
     }
 }
 
-/// Appends the line of a fault.
+/// Appends the line of a fault, with where it stands.
 #[tactic(auto, unfolding(crate::specs::Telling::fault_line))]
-pub fn push_fault(out: &mut Vec<u8>, fault: LineFault) -> Result<(), AllocError>
-    ensures { OnOk result (out.new.items ≡ out.old.items ++ fault_line fault) }
+pub fn push_fault(out: &mut Vec<u8>, fault: LineFault, place: &Place) -> Result<(), AllocError>
+    ensures { OnOk result (out.new.items ≡ out.old.items ++ fault_line fault place.now) }
 {
     out.extend_from_slice(b"fault")?;
     push_word(out, fault.word())?;
+    out.extend_from_slice(place.text())?;
     out.extend_from_slice(b"\n")
 }

@@ -3,9 +3,9 @@
 ghost use Rattle.std.specs.Prelude.{◌≡◌, map, IfOk};
 ghost use Rattle.lfs_script.specs.Plans.{line_said};
 ghost use Rattle.lfs_words.specs.Faults.{ReadsAs};
-ghost use Rattle.lfs_live.specs.Hearing.{call_heard, dot_alone, dot_heard, dot_of, dot_said, dot_with, dot_word, dotted_heard, heard_of, is_dotted, is_long, lone_dot, why_act, why_heard, why_line};
+ghost use Rattle.lfs_live.specs.Hearing.{asked_act, asked_heard, asked_line, asks_help, call_heard, dot_alone, dot_heard, dot_of, dot_said, dot_with, dot_word, dotted_heard, heard_of, is_dotted, is_long, lone_dot, no_call, other_heard};
 
-use crate::fault::LineFault;
+use crate::fault::{LineFault, Place};
 use lfs_script::plan::{Act, Line};
 use lfs_script::script::parse_line;
 use lfs_types::request::Request;
@@ -37,17 +37,26 @@ pub enum Dot {
     Quit,
 }
 
+/// What is asked about a call.
+#[derive(Clone, Copy, PartialEq, Eq, Debug)]
+pub enum Inquiry {
+    /// Why it would be allowed or denied now, made by who speaks.
+    Why,
+    /// Who could make it now, over all callers.
+    Who,
+}
+
 /// What a line says.
 #[derive(Drop)]
 pub enum Heard {
     /// What a line of a script says.
     Line(Line),
-    /// Tells why a call would be allowed or denied now. It changes nothing.
-    Why(Request),
+    /// Tells what is asked about a call, which is not made. It changes nothing.
+    Asks(Inquiry, Request),
     /// A word of the server's own.
     Dot(Dot),
-    /// Nothing that is done, for this fault.
-    Fault(LineFault),
+    /// Nothing that is done, for this fault, which stands there.
+    Fault(LineFault, Place),
 }
 
 /// Every word of the server's own that may stand alone.
@@ -93,7 +102,7 @@ pub fn hear(alloc: Global, line: &[u8]) -> Result<Heard, AllocError>
     ensures { IfOk result (λ heard. heard ≡ heard_of line.now) }
 {
     if line.len() > LINE_MAX {
-        return Ok(Heard::Fault(LineFault::TooLong));
+        return Ok(Heard::Fault(LineFault::TooLong, Place::none(alloc)));
     }
     if is_dotted(line) {
         hear_dotted(alloc, line)
@@ -112,15 +121,33 @@ fn is_dotted(line: &[u8]) -> bool
     }
 }
 
-/// What a line of a script says.
+/// What a line says that doesn't begin with a dot.
 fn hear_call(alloc: Global, line: &[u8]) -> Result<Heard, AllocError>
-    ensures { IfOk result (λ heard. heard ≡ call_heard (line_said line.now)) }
+    ensures { IfOk result (λ heard. heard ≡ call_heard line.now (line_said line.now)) }
 {
     match parse_line(alloc, line) {
         Ok(said) => Ok(Heard::Line(said)),
         Err(FaultKind::Memory) => Err(AllocError),
-        Err(kind) => Ok(Heard::Fault(LineFault::Kind(kind))),
+        Err(kind) => hear_other(alloc, line, kind),
     }
+}
+
+/// What a line says that is none of a script, for this fault.
+fn hear_other(alloc: Global, line: &[u8], kind: FaultKind) -> Result<Heard, AllocError>
+    ensures { IfOk result (λ heard. heard ≡ other_heard line.now kind) }
+{
+    if asks_help(line) {
+        return Ok(Heard::Dot(Dot::Help));
+    }
+    let place = Place::of(alloc, 0, line)?;
+    Ok(Heard::Fault(LineFault::Kind(kind), place))
+}
+
+/// Whether a line asks for help.
+fn asks_help(line: &[u8]) -> bool
+    ensures { result ≡ asks_help line.now }
+{
+    line == b"help".as_slice() || line == b"?".as_slice()
 }
 
 /// What a line says that begins with a dot.
@@ -128,43 +155,56 @@ fn hear_dotted(alloc: Global, line: &[u8]) -> Result<Heard, AllocError>
     ensures { IfOk result (λ heard. heard ≡ dotted_heard line.now) }
 {
     if line.starts_with(b".why ") {
-        hear_why(alloc, &line[5..])
-    } else {
-        hear_dot(alloc, line)
+        return hear_inquiry(alloc, Inquiry::Why, &line[5..]);
     }
+    if line.starts_with(b".who ") {
+        return hear_inquiry(alloc, Inquiry::Who, &line[5..]);
+    }
+    hear_dot(alloc, line)
 }
 
-/// What a line of a script says that is to be explained: a user's call, and nothing else.
-fn hear_why(alloc: Global, line: &[u8]) -> Result<Heard, AllocError>
-    ensures { IfOk result (λ heard. heard ≡ why_heard (line_said line.now)) }
+/// What is asked about what a line of a script says: a user's call, and nothing else. Five bytes stand before it.
+fn hear_inquiry(alloc: Global, inquiry: Inquiry, line: &[u8]) -> Result<Heard, AllocError>
+    ensures { IfOk result (λ heard. heard ≡ asked_heard inquiry line.now (line_said line.now)) }
 {
     match parse_line(alloc, line) {
-        Ok(said) => Ok(why_line(said)),
+        Ok(said) => asked_line(alloc, inquiry, said),
         Err(FaultKind::Memory) => Err(AllocError),
-        Err(kind) => Ok(Heard::Fault(LineFault::Kind(kind))),
+        Err(kind) => {
+            let place = Place::of(alloc, 5, line)?;
+            Ok(Heard::Fault(LineFault::Kind(kind), place))
+        }
     }
 }
 
-/// A line that is to be explained, if it is a user's call.
-fn why_line(said: Line) -> Heard
-    ensures { result ≡ why_line said }
+/// No call that is asked about.
+fn no_call(alloc: Global) -> Result<Heard, AllocError>
+    ensures { IfOk result (λ heard. heard ≡ no_call) }
+{
+    let place = Place::told(alloc, " at 6: a user's call stands here")?;
+    Ok(Heard::Fault(LineFault::Kind(FaultKind::Words), place))
+}
+
+/// What is asked about a line, if it is a user's call.
+fn asked_line(alloc: Global, inquiry: Inquiry, said: Line) -> Result<Heard, AllocError>
+    ensures { IfOk result (λ heard. heard ≡ asked_line inquiry said) }
 {
     match said {
-        Line::Act(act) => why_act(act),
-        Line::Nothing => Heard::Fault(LineFault::Kind(FaultKind::Words)),
-        Line::Session(_) => Heard::Fault(LineFault::Kind(FaultKind::Words)),
-        Line::Caller(_) => Heard::Fault(LineFault::Kind(FaultKind::Words)),
+        Line::Act(act) => asked_act(alloc, inquiry, act),
+        Line::Nothing => no_call(alloc),
+        Line::Session(_) => no_call(alloc),
+        Line::Caller(_) => no_call(alloc),
     }
 }
 
-/// What is to be explained, if it is a user's call.
-fn why_act(act: Act) -> Heard
-    ensures { result ≡ why_act act }
+/// What is asked about a user's call.
+fn asked_act(alloc: Global, inquiry: Inquiry, act: Act) -> Result<Heard, AllocError>
+    ensures { IfOk result (λ heard. heard ≡ asked_act inquiry act) }
 {
     match act {
-        Act::User(request) => Heard::Why(request),
-        Act::Cleaner(_) => Heard::Fault(LineFault::Kind(FaultKind::Words)),
-        Act::Pass => Heard::Fault(LineFault::Kind(FaultKind::Words)),
+        Act::User(request) => Ok(Heard::Asks(inquiry, request)),
+        Act::Cleaner(_) => no_call(alloc),
+        Act::Pass => no_call(alloc),
     }
 }
 
@@ -175,7 +215,10 @@ fn hear_dot(alloc: Global, line: &[u8]) -> Result<Heard, AllocError>
     match dot_in(alloc, line) {
         Ok(dot) => Ok(Heard::Dot(dot)),
         Err(FaultKind::Memory) => Err(AllocError),
-        Err(kind) => Ok(Heard::Fault(LineFault::Kind(kind))),
+        Err(kind) => {
+            let place = Place::told(alloc, " at 1: .help tells these words")?;
+            Ok(Heard::Fault(LineFault::Kind(kind), place))
+        }
     }
 }
 

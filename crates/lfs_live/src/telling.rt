@@ -6,16 +6,18 @@ ghost use Rattle.lfs_print.specs.ReportText.{report_text};
 ghost use Rattle.lfs_volume.specs.Cleanings.{cleaner_of};
 ghost use Rattle.lfs_volume.specs.Journals.{AtPresent};
 ghost use Rattle.lfs_audit.specs.Runs.{TellsLine};
+ghost use Rattle.lfs_who.specs.WhoText.{IsWhoTold};
 ghost use Rattle.lfs_why.specs.WhyText.{why_text};
 ghost use Rattle.lfs_live.specs.Hearing.{heard_of};
 ghost use Rattle.lfs_live.specs.Talkers.{talker_of};
-ghost use Rattle.lfs_live.specs.Talking.{Does, Hears, LooksOn, first_speaker};
-ghost use Rattle.lfs_live.specs.Telling.{cut_text, dot_text, entries_told, fault_line, help_text};
+ghost use Rattle.lfs_live.specs.Talking.{Does, Hears, IsAnsweredBy, LooksOn, first_speaker};
+ghost use Rattle.lfs_live.specs.HelpText.{help_text};
+ghost use Rattle.lfs_live.specs.Telling.{cut_text, dot_text, entries_told, fault_line};
 ghost use Rattle.lfs_live.specs.declared.hearing.Dot.TheVariants.{Quit};
 ghost use Rattle.lfs_live.specs.declared.hearing.Heard.TheVariants as heard;
 
-use crate::fault::{LineFault, push_fault};
-use crate::hearing::{Dot, Heard, LINE_MAX, hear};
+use crate::fault::{LineFault, Place, push_fault};
+use crate::hearing::{Dot, Heard, Inquiry, LINE_MAX, hear};
 use crate::help::push_help;
 use crate::journal::tell_journal;
 use lfs_audit::passing::run_step;
@@ -29,6 +31,7 @@ use lfs_types::request::Request;
 use lfs_types::store::FileStore;
 use lfs_view::shows::ShowsLog;
 use lfs_volume::volume::Volume;
+use lfs_who::telling::tell_who_along;
 use lfs_why::lines::tell_explanation;
 use lfs_words::append::push_decimal;
 use lfs_words::caller::first_caller;
@@ -78,13 +81,17 @@ pub fn answer<F: CleanedStore + ShowsLog + Drop>(
 {
     match hear(alloc, line)? {
         Heard::Line(said) => Ok(Some(obey(alloc, volume, speaker, said)?)),
-        Heard::Why(request) => {
-            let why = tell_why(alloc, volume, &speaker.cred, &request);
+        Heard::Asks(inquiry, request) => {
+            let told = tell_inquiry(alloc, volume, inquiry, &speaker.cred, &request);
             drop(request);
-            Ok(Some(why?))
+            Ok(Some(told?))
         }
         Heard::Dot(dot) => tell_dot(alloc, volume, told, dot),
-        Heard::Fault(fault) => Ok(Some(tell_fault(alloc, fault)?)),
+        Heard::Fault(fault, place) => {
+            let text = tell_fault(alloc, fault, &place);
+            drop(place);
+            Ok(Some(text?))
+        }
     }
 }
 
@@ -123,6 +130,41 @@ fn make<F: CleanedStore + Drop>(
     let mut text = Vec::new(alloc);
     run_step(volume, Step { session, cred, act }, &mut text)?;
     Ok(text)
+}
+
+/// The lines of what is asked about a call, which is not made.
+fn tell_inquiry<F: FileStore + Drop>(
+    alloc: Global,
+    volume: &mut Volume<F>,
+    inquiry: Inquiry,
+    cred: &Cred,
+    request: &Request,
+) -> Result<Vec<u8>, AllocError>
+    ensures text { IfOk result (λ text. AtPresent F.state volume.old
+        (λ w. IsAnsweredBy w inquiry cred.now request.now text.items)) }
+    ensures looks { LooksOn (F.state volume.old.store) (F.state volume.new.store)
+        volume.old volume.new }
+{
+    match inquiry {
+        Inquiry::Why => tell_why(alloc, volume, cred, request),
+        Inquiry::Who => tell_who(alloc, volume, request),
+    }
+}
+
+/// The lines of who could make a call now, over all callers. The call is not made.
+fn tell_who<F: FileStore + Drop>(
+    alloc: Global,
+    volume: &mut Volume<F>,
+    request: &Request,
+) -> Result<Vec<u8>, AllocError>
+    ensures text { IfOk result (λ text. AtPresent F.state volume.old
+        (λ w. IsWhoTold w request.now text.items)) }
+    ensures looks { LooksOn (F.state volume.old.store) (F.state volume.new.store)
+        volume.old volume.new }
+{
+    let _counts = volume.counts();
+    let explanation = volume.explain(&first_caller(), request)?;
+    tell_who_along(alloc, volume.level(), request, &explanation)
 }
 
 /// The lines of why a call would be allowed or denied now. The call is not made.
@@ -243,12 +285,12 @@ fn tell_help(alloc: Global) -> Result<Vec<u8>, AllocError>
     Ok(text)
 }
 
-/// The line of a fault.
-fn tell_fault(alloc: Global, fault: LineFault) -> Result<Vec<u8>, AllocError>
-    ensures { IfOk result (λ text. text.items ≡ fault_line fault) }
+/// The line of a fault, with where it stands.
+fn tell_fault(alloc: Global, fault: LineFault, place: &Place) -> Result<Vec<u8>, AllocError>
+    ensures { IfOk result (λ text. text.items ≡ fault_line fault place.now) }
 {
     let mut text = Vec::new(alloc);
-    push_fault(&mut text, fault)?;
+    push_fault(&mut text, fault, place)?;
     Ok(text)
 }
 
@@ -259,9 +301,10 @@ pub(crate) fn tell_cut(alloc: Global, bytes: &[u8]) -> Result<Vec<u8>, AllocErro
     if bytes.is_empty() {
         return Ok(Vec::new(alloc));
     }
-    if bytes.len() > LINE_MAX {
-        tell_fault(alloc, LineFault::TooLong)
+    let fault = if bytes.len() > LINE_MAX {
+        LineFault::TooLong
     } else {
-        tell_fault(alloc, LineFault::Kind(FaultKind::Cut))
-    }
+        LineFault::Kind(FaultKind::Cut)
+    };
+    tell_fault(alloc, fault, &Place::none(alloc))
 }

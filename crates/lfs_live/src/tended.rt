@@ -1,6 +1,6 @@
 //! A volume that is talked to, whose journal is given to a sink.
 
-ghost use Rattle.std.specs.Prelude.{◌≡◌, ◌≤◌, ℕ, [], List, drop, length, false, true, IfOk, OnErr, OnOk};
+ghost use Rattle.std.specs.Prelude.{◌≡◌, ◌<◌, ◌≤◌, ℕ, [], List, drop, length, false, true, IfOk, OnErr, OnOk};
 ghost use Rattle.std.specs.Vec.{vec_capacity};
 ghost use Rattle.lfs_model.specs.Counts.{counts_of};
 ghost use Rattle.lfs_audit.specs.Runs.{TellsLine};
@@ -8,7 +8,8 @@ ghost use Rattle.lfs_script.specs.declared.plan.Act.TheVariants.{Pass};
 ghost use Rattle.lfs_volume.specs.Cleanings.{cleaner_of};
 ghost use Rattle.lfs_volume.specs.Journals.{AtPresent, Begins};
 ghost use Rattle.lfs_volume.specs.Seen.{Seen};
-ghost use Rattle.lfs_live.specs.Held.{HasRoom, IsHandedOut, Moves, Takes, closed, course_of, drained, sink_of};
+ghost use Rattle.lfs_live.specs.Held.{HasRoom, IsHandedOut, IsLetGo, MayEnter, Moves, Takes, closed, course_of, drained, sink_of};
+ghost use Rattle.lfs_live.specs.Settling.{IsSyncRefused, is_done};
 ghost use Rattle.lfs_live.specs.Steps.{HasTidied};
 ghost use Rattle.lfs_live.specs.Talking.{first_speaker, is_due};
 ghost use Rattle.lfs_sinks.specs.Sums.{counts_sum};
@@ -148,12 +149,13 @@ impl<F: FileStore + Drop, J: JournalSink + Drop, V: Drop> Tended<F, J, V> {
     }
 
     /// Gives the sink the entries behind the first so many, and hands all out where there is no room for what a line may ask
-    /// for.
+    /// for. Where there are none it doesn't fail.
     fn keep_up(&mut self, before: usize) -> Result<(), SinkFault>
         requires { self.old.is_open ≡ true }
         ensures moves { OnOk result ((more : List Entry)
             × Moves F.state (sink_of J.contents J.next) before self.old self.new more) }
         ensures failed { OnErr result (self.new ≡ record self.old { sink = self.new.sink }) }
+        ensures some { OnErr result (1 ≤ length self.old.volume.journal) }
     {
         self.give(before)?;
         if self.is_full() {
@@ -165,20 +167,26 @@ impl<F: FileStore + Drop, J: JournalSink + Drop, V: Drop> Tended<F, J, V> {
 
     /// Whether the journal has entries, and no room for what a line may ask for.
     fn is_full(&self) -> bool
-        ensures { result ≡ false → HasRoom self.now.volume }
+        ensures room { result ≡ false → HasRoom self.now.volume }
+        ensures some { result ≡ true → 1 ≤ length self.now.volume.journal }
     {
         let kept = self.volume.journal().len();
         let limit = self.volume.journal_limit() as usize;
         kept > 0 && kept + LINE_ENTRIES > limit
     }
 
-    /// Gives the sink the entries behind the first so many.
+    /// Gives the sink the entries behind the first so many, where there are some.
     fn give(&mut self, before: usize) -> Result<(), SinkFault>
         ensures taken { OnOk result (Takes (sink_of J.contents J.next)
             self.old.sink self.new.sink (drop before self.old.volume.journal)) }
         ensures same { self.new ≡ record self.old { sink = self.new.sink } }
+        ensures some { OnErr result (1 ≤ length self.old.volume.journal) }
     {
-        self.sink.take(behind(self.volume.journal(), before))
+        if self.volume.journal().len() > 0 {
+            self.sink.take(behind(self.volume.journal(), before))
+        } else {
+            Ok(())
+        }
     }
 
     /// Hands the entries out: the journal goes on without them from the present tree.
@@ -251,45 +259,71 @@ impl<F: CleanedStore + Drop, J: JournalSink + Drop, V: Drop> Tended<F, J, V> {
 }
 
 impl<F: FileStore + Drop, J: JournalSink + Drop, V: Drop> Tended<F, J, V> {
-    /// Writes what waits in the store behind a talk, by a Sync of the superuser as session 0. The entries are let go before,
-    /// so that there is room; the sink doesn't get that of the Sync, which is no line's. Whether nothing waits any more. The
-    /// tree and the securelevel stay.
+    /// Writes what waits in the store behind a talk, by a Sync of the superuser as session 0. Where the journal is full, its
+    /// entries are let go before; the sink doesn't get that of the Sync, which is no line's. Whether nothing waits any more. The
+    /// tree and the securelevel stay. A Sync that isn't served is refused by the store, not for want of room in the journal.
     ///
     /// # Errors
     ///
-    /// There was no memory for the room.
-    pub fn settle(&mut self, alloc: Global) -> Result<bool, AllocError>
+    /// There was no memory for the room of a journal that is full. One whose entries were handed out before has it by then.
+    pub fn settle(&mut self) -> Result<bool, AllocError>
         ensures settled { IfOk result (λ done. done ≡ true → F.is_settled self.new.volume.store) }
+        ensures refused { IfOk result (λ done. done ≡ false → 1 ≤ self.old.volume.limit
+            → IsSyncRefused F.state self.old.volume) }
         ensures shown { OnOk result (AtPresent F.state self.old.volume
             (Begins (F.state self.new.volume.store) self.new.volume.level)) }
         ensures same { self.new ≡ record self.old { volume = self.new.volume } }
     {
-        self.let_go(alloc)?;
+        self.make_room()?;
         Ok(self.sync())
     }
 
-    /// Lets the entries of the journal go. The volume goes on from the present tree.
-    fn let_go(&mut self, alloc: Global) -> Result<(), AllocError>
+    /// Makes room in the journal for an entry: where it is full, its entries are let go. One that may have no entry has none.
+    fn make_room(&mut self) -> Result<(), AllocError>
+        ensures gone { OnOk result (IsLetGo F.state self.old.volume self.new.volume) }
+        ensures room { OnOk result (MayEnter self.new.volume) }
+        ensures same { self.new ≡ record self.old { volume = self.new.volume } }
+    {
+        if self.takes_more() {
+            return Ok(());
+        }
+        self.let_go()
+    }
+
+    /// Whether the journal takes a further entry.
+    fn takes_more(&self) -> bool
+        ensures { result ≡ true → length self.now.volume.journal < self.now.volume.limit }
+    {
+        let kept = self.volume.journal().len();
+        let limit = self.volume.journal_limit() as usize;
+        kept < limit
+    }
+
+    /// Lets the entries of the journal go, whose room is the spare one. The volume goes on from the present tree.
+    fn let_go(&mut self) -> Result<(), AllocError>
         ensures gone { OnOk result (self.new ≡ record self.old { volume = drained self.old.volume }) }
         ensures begins { OnOk result (AtPresent F.state self.old.volume
             (Begins (F.state self.new.volume.since) self.new.volume.since_level)) }
         ensures failed { OnErr result (self.new ≡ self.old) }
     {
-        let limit = self.volume.journal_limit() as usize;
-        let room = Vec::with_capacity(alloc, limit)?;
-        drop(self.volume.drain(room));
+        let room = room_of(&mut self.spare, self.volume.journal_limit())?;
+        self.spare = emptied(self.volume.drain(room));
         Ok(())
     }
 
     /// Makes a Sync of the superuser as session 0. Whether it was served.
     fn sync(&mut self) -> bool
         ensures settled { result ≡ true → F.is_settled self.new.volume.store }
+        ensures refused { result ≡ false → length self.old.volume.journal < self.old.volume.limit
+            → IsSyncRefused F.state self.old.volume }
         ensures shown { AtPresent F.state self.old.volume
             (Begins (F.state self.new.volume.store) self.new.volume.level) }
         ensures same { self.new ≡ record self.old { volume = self.new.volume } }
     {
         let answer = self.volume.call(0, &first_caller(), Request::Sync);
-        matches!(answer, Answer::Served(Served::Done))
+        let done = is_done(&answer);
+        drop(answer);
+        done
     }
 
     /// The store, to be read.
@@ -314,6 +348,13 @@ impl<F: FileStore + Drop, J: JournalSink + Drop, V: Watch<F> + Drop> Tended<F, J
     {
         self.watch.watch(alloc, line, told, self.volume.store())
     }
+}
+
+/// Whether an answer is that a call is done, and shows nothing.
+fn is_done(answer: &Answer) -> bool
+    ensures { result ≡ is_done answer.now }
+{
+    matches!(answer, Answer::Served(Served::Done))
 }
 
 /// The entries behind the first so many.

@@ -109,7 +109,7 @@ fn save<F: Files, J: JournalSink + Drop, V: Drop>(
     ensures saved { OnOk result (IsSaved F.File.contents tended.old.volume) }
     ensures same { tended.new ≡ record tended.old { volume = tended.new.volume } }
 {
-    if !tended.settle(alloc)? {
+    if !tended.settle()? {
         return Err(KeepFault::Save);
     }
     save_file(files, alloc, tended.store(), tended.level(), path)

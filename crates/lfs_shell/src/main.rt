@@ -1,17 +1,37 @@
 //! A file server to talk to: it reads a line, from standard input or from a file, answers it on standard output, and reads
-//! the next. It may write its journal to a file, and a film of its log.
+//! the next. It may write its journal to a file, and a film of its log. On a terminal it prompts, and answers in colours.
 #![tactic(auto)]
 
 use lfs_programs::shell::lfs_shell;
+use lfs_terminal::painted::Painted;
+use lfs_terminal::prompted::Prompted;
+use std::env::{Env, FillError};
+use std::io::IsTerminal;
 use std::process::ExitCode;
 
+/// What is written before a line is read from a terminal, where a terminal is written to.
+const PROMPT: &str = "lfs> ";
+
 fn main(rt: HostRuntime) -> ExitCode {
-    let status = lfs_shell(
-        &rt,
-        &rt,
-        &mut rt.stdin(),
-        &mut rt.stdout(),
-        &mut rt.stderr(),
-    );
-    ExitCode::from(status)
+    let mut stdin = rt.stdin();
+    let mut stdout = rt.stdout();
+    let mut stderr = rt.stderr();
+    if !stdout.is_terminal() {
+        let status = lfs_shell(&rt, &rt, &mut stdin, &mut stdout, &mut stderr);
+        return ExitCode::from(status);
+    }
+    let prompt = if stdin.is_terminal() { PROMPT } else { "" };
+    let mut lines = Prompted::new(stdin, rt.stdout(), prompt);
+    let mut answers = Painted::new(stdout, wants_colours(&rt));
+    ExitCode::from(lfs_shell(&rt, &rt, &mut lines, &mut answers, &mut stderr))
+}
+
+/// Whether the environment lets a terminal have colours: `NO_COLOR` is not there, or empty.
+fn wants_colours(env: &impl Env) -> bool {
+    let mut value = [0];
+    match env.var("NO_COLOR", &mut value) {
+        Ok(count) => count == 0,
+        Err(FillError::NotPresent) => true,
+        Err(_) => false,
+    }
 }

@@ -1,10 +1,12 @@
-use Rattle.std.proofs.Common.{◌≡◌, IfOk, subst, sym, ◌∙◌}
+use Rattle.std.proofs.Common.{◌≡◌, ap, IfOk, subst, sym, ◌∙◌}
+use Rattle.lfs_live.specs.declared.fault.LineFault.TheVariants.{TooLong}
 use Rattle.lfs_live.specs.declared.hearing.Heard.{Heard}
+use Rattle.lfs_live.specs.declared.hearing.Heard.TheVariants.{Fault}
 use Rattle.lfs_live.proofs.HearingLemmas.{heard_call, heard_dot, heard_long}
 use Rattle.lfs_live.proofs.hearing.hear.Goals as goal
 
 pub returns-then-line-gt-LINE_MAX : goal.returns-then-line-gt-LINE_MAX
-returns-then-line-gt-LINE_MAX c = heard_long c.args.line.now c.if-line-gt-LINE_MAX.true
+returns-then-line-gt-LINE_MAX c = ap (Fault TooLong) c.none.ensures ∙ heard_long c.args.line.now c.if-line-gt-LINE_MAX.true
 
 pub returns-then-is_dotted : goal.returns-then-is_dotted
 returns-then-is_dotted c =

@@ -1,4 +1,4 @@
-use Rattle.std.proofs.Common.{Bool, Err, ap, subst, sym, ◌∙◌}
+use Rattle.std.proofs.Common.{Err, ap, sym, ◌∙◌}
 use Rattle.std.proofs.lemmas.Result.{err_from_is_err_and}
 use Rattle.lfs_live.specs.Held.{sink_of}
 use Rattle.lfs_live.specs.Scripts.{IsFresh, Manner}

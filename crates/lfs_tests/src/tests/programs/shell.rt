@@ -6,7 +6,8 @@ use super::{Program, expect_ended, expect_help, expect_refused};
 const LINES: &[u8] = b"create /a 0644\nnonsense\n.quit\nstat /a\n";
 
 /// What is told of them.
-const TOLD: &str = "0 ok\nfault Words\nentries 1\nserved 1\ndenied 0\nrefused 0\ncleaner 0\n";
+const TOLD: &str =
+    "0 ok\nfault Words 'nonsense' at 1: no line begins so\nentries 1\nserved 1\ndenied 0\nrefused 0\ncleaner 0\n";
 
 #[test]
 fn shell_talks(rt: HostRuntime) {

@@ -1,5 +1,4 @@
 use Rattle.std.proofs.Common.{ap, ◌∙◌}
-use Rattle.lfs_model.specs.Counts.{counts_of}
 use Rattle.lfs_sinks.specs.Sums.{counts_sum}
 use Rattle.lfs_live.proofs.KeepingLemmas.{handed_view}
 use Rattle.lfs_live.proofs.tended.Tended.hand_out.Goals as goal

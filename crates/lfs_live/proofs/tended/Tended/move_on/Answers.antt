@@ -9,6 +9,7 @@ returns-in-Err-clause-moves g c =
       [],
       moves_closed g.F.FileStore.state (sink_of g.J.JournalSink.contents g.J.JournalSink.next) c.args.before old
           c.close.new.self (sym (ap (λ h. h.is_open) c.self.view_is) ∙ c.if-self.true)
+          c.in-Err.ensures.some
           (closed_view old c.keep_up.new.self c.close.new.self c.in-Err.ensures.failed c.close.ensures),
     )
 

@@ -1,0 +1,5 @@
+//! A terminal: answers in colours, and a prompt before each line.
+#![tactic(auto)]
+
+pub mod painted;
+pub mod prompted;
