@@ -125,7 +125,7 @@ has_sessions : (script : List ℕ) (setup : List (Caller × Request)) (scripts :
     → IsSplit script setup scripts → HasSessions script (length scripts)
 has_sessions script setup scripts is = record { plan = is.plan; read = is.read; users = is.users; count = is.count }
 
-late_threads_fault : (known : Option (List ℕ)) (segments inodes frames sessions : ℕ) (setup : List (Caller × Request))
+pub late_threads_fault : (known : Option (List ℕ)) (segments inodes frames sessions : ℕ) (setup : List (Caller × Request))
     (scripts : List (List (Caller × Request))) (fault : ThreadsFault)
     → IfSome known (λ script. IsSplit script setup scripts) → sessions ≡ length scripts → (0 < sessions)
     × (sessions ≤ 8) → IsInRange segments inodes frames

@@ -2,3 +2,5 @@ pub mod FaultLemmas
 pub mod RunLemmas
 pub mod ThreadLemmas
 pub mod ScriptLemmas
+pub mod ShiftLemmas
+pub mod FiledLemmas

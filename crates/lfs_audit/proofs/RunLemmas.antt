@@ -48,7 +48,7 @@ pub record IsPassing {F : Type 0} (r : Cleaner F) (old new : Seen F) (session : 
 -- ---- steps
 
 -- what further steps keep
-kept-joined : (made : List Made) (answers : List StepAnswer) (more : List Made) (others : List StepAnswer)
+pub kept-joined : (made : List Made) (answers : List StepAnswer) (more : List Made) (others : List StepAnswer)
     → length answers ≡ length made
     → kept_steps (made ++ more) (answers ++ others) ≡ kept_steps made answers ++ kept_steps more others
 kept-joined [] [] more others h = refl
@@ -59,7 +59,7 @@ kept-joined (s ∷ made) (a ∷ answers) more others h =
     ∙ sym (append_assoc (kept_step s a) (kept_steps made answers) (kept_steps more others))
 
 -- the lines of further answers
-lines-joined : (made : List Made) (answers : List StepAnswer) (more : List Made) (others : List StepAnswer)
+pub lines-joined : (made : List Made) (answers : List StepAnswer) (more : List Made) (others : List StepAnswer)
     → length answers ≡ length made
     → lines_text (made ++ more) (answers ++ others) ≡ lines_text made answers ++ lines_text more others
 lines-joined [] [] more others h = refl
@@ -70,7 +70,7 @@ lines-joined (s ∷ made) (a ∷ answers) more others h =
     ∙ sym (append_assoc (call_line s.session s.act a) (lines_text made answers) (lines_text more others))
 
 -- further steps were answered
-steps-joined : {F : Type 0} (r : Cleaner F) (limit : ℕ) (from : World) (journal : List Entry) (first middle last : F)
+pub steps-joined : {F : Type 0} (r : Cleaner F) (limit : ℕ) (from : World) (journal : List Entry) (first middle last : F)
     (made : List Made) (answers : List StepAnswer)
     (more : List Made) (others : List StepAnswer) → AreSteps r limit from journal first made answers middle
     → AreSteps r limit from (journal ++ kept_steps made answers) middle more others last
@@ -122,7 +122,7 @@ runs_one r old new step answer shown made entered limit shape since since_level 
 }
 
 -- where a journal began is where it began before what did not move that
-still-begins : {F : Type 0} (state : F → StoreState) (from : World) (since then : F) (level after : Level) → then
+pub still-begins : {F : Type 0} (state : F → StoreState) (from : World) (since then : F) (level after : Level) → then
     ≡ since → after ≡ level
     → Begins (state since) level from → Begins (state then) after from
 still-begins state from since then level after same same_level begins =
@@ -273,7 +273,7 @@ pass_goes_on r old middle new session caller pass last call answer next before t
 -- ---- the lines of a plan
 
 -- a further line was asked for
-asked-more : (steps : List Step) (made : List Made) (answers : List StepAnswer) (step : Step) (more : List Made)
+pub asked-more : (steps : List Step) (made : List Made) (answers : List StepAnswer) (step : Step) (more : List Made)
     (others : List StepAnswer)
     → AreAsked steps made answers → IsAsked step.session step.cred step.act more others
     → AreAsked (steps ++ step ∷ []) (made ++ more) (answers ++ others)

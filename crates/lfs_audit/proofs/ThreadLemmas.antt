@@ -22,6 +22,7 @@ use Rattle.lfs_script.specs.PlanTypes.{Planned}
 use Rattle.lfs_print.specs.ReportText.{report_text}
 use Rattle.lfs_script.specs.Splitting.{Sorts, is_of_cleaner}
 use Rattle.lfs_audit.specs.Faults.{IsRead}
+use Rattle.lfs_audit.specs.FiledRuns.{IsFiledThreads}
 use Rattle.lfs_audit.specs.declared.fault.ThreadsFault.{ThreadsFault}
 use Rattle.lfs_audit.specs.Threads.{IsClosedText, IsSplit, IsThreadsOutput, MayHaveWrittenThreads, closed_text}
 use Rattle.lfs_audit.specs.Threads.{transcript_text, transcripts_text}
@@ -205,3 +206,29 @@ pub late_threads : {A : Type 0} (X : Type 0) (result : Result A ThreadsFault) �
     → IfErr result (λ fault. (MayHaveWrittenThreads fault → ⊥) → X)
 late_threads X (Ok a) p = tt
 late_threads X (Err fault) p = λ not. absurd (not p)
+
+-- a run on threads was settled: its text, and the entries of its journal
+pub filed_threads : (known : Option (List ℕ)) (shape : Shape) (segments inodes : ℕ) (journal : List Entry)
+    (limit after_limit : ℕ) (setup : List (Caller × Request)) (sessions : List (List (Caller × Request)))
+    (answers : List Answer) (transcripts : List (Vec Answer))
+    → IfSome known (λ script. IsSplit script setup sessions)
+    → IsInterleaving (run_of journal after_limit setup answers sessions transcripts)
+    → after_limit ≡ limit → shape ≡ shape_of inodes segments
+    → IsLegal shape.numbers shape.segments journal opening_world
+    → IfSome known (λ script. IsFiledThreads script segments inodes limit journal
+    (closed_text journal answers (map (λ (transcript : Vec Answer). transcript.items) transcripts)))
+filed_threads known shape segments inodes journal limit after_limit setup sessions answers transcripts split
+    interleaved same shaped legal =
+    if_some known (λ script. IsSplit script setup sessions) (λ script. IsFiledThreads script segments inodes limit
+    journal (closed_text journal answers (map (λ (transcript : Vec Answer). transcript.items) transcripts))) split
+    (λ script is. record {
+      output = record {
+        run = run_of journal after_limit setup answers sessions transcripts;
+        split = is;
+        limited = same;
+        legal = subst (λ (s : Shape). IsLegal s.numbers s.segments journal opening_world) shaped legal;
+        interleaved = interleaved;
+        printed = refl;
+      };
+      entered = refl;
+    })

@@ -3,3 +3,5 @@ pub mod Output
 pub mod Runs
 pub mod Threads
 pub mod Scripts
+pub mod Filing
+pub mod FiledRuns

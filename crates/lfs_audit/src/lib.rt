@@ -2,6 +2,7 @@
 #![tactic(auto)]
 
 pub mod fault;
+pub mod filing;
 pub mod passing;
 pub mod run;
 pub mod threads;

@@ -1,18 +1,23 @@
 //! Running a script with its sessions on threads.
 
-ghost use Rattle.std.specs.Prelude.{◌≡◌, ◌≤◌, ℕ, List, length, map, IfErr, IfOk, IfSome, OnOk};
+ghost use Rattle.std.specs.Prelude.{◌≡◌, ◌≤◌, ℕ, List, None, Option, length, map, IfErr, IfOk, IfSome, OnOk};
 ghost use Rattle.std.specs.Global.{Vec};
 ghost use Rattle.std.specs.Io.KnownBytes.{Appends, Keeps, append_known};
 ghost use Rattle.lfs_types.specs.declared.answer.Answer.{Answer};
+ghost use Rattle.lfs_model.specs.declared.journal.Entry.{Entry};
 ghost use Rattle.lfs_audit.specs.Faults.{MayHaveWritten};
+ghost use Rattle.lfs_audit.specs.FiledRuns.{IsFiledThreads};
+ghost use Rattle.lfs_audit.specs.Filing.{Takes};
 ghost use Rattle.lfs_audit.specs.Threads.{IsClosedText, IsSplit, IsSplittingFault, IsThreadsFault, IsThreadsOutput, MayHaveWrittenThreads, transcript_text, transcripts_text};
 
 use crate::fault::{RunFault, ThreadsFault};
 use crate::run::{print_report, read_plan};
 use lfs_io::output::write_full;
+use lfs_model::journal::Entry;
 use lfs_print::print::append_answer;
 use lfs_server::serve::serve;
 use lfs_server::serving::Closed;
+use lfs_sinks::sink::{JournalSink, SinkFault};
 use lfs_types::answer::Answer;
 use lfs_types::cleaned::CleanedStore;
 use lfs_types::script::Script;
@@ -49,8 +54,51 @@ where
     print_closed(alloc, &closed, writer)
 }
 
+/// Runs the calls of session 0 and then those of the other sessions on threads, as `run_threads` does, gives a sink all
+/// entries, and then writes what that does. Why the sink didn't take all, if it didn't.
+pub fn run_sessions<S, J, W>(
+    rt: &S,
+    alloc: Global,
+    params: Params,
+    sessions: (Script, Vec<Script>),
+    sink: &mut J,
+    writer: &mut W,
+) -> Result<Option<SinkFault>, ThreadsFault>
+where
+    S: Threads + Wait + Sync,
+    J: JournalSink,
+    W: Write,
+    ensures written { IfOk result (λ lost. (text : List ℕ) × (entries : List Entry)
+        × ((known : Option (List ℕ)) → IfSome known (λ script. IsSplit script sessions.0 sessions.1.items)
+        → IfSome known (λ script.
+        IsFiledThreads script params.segments params.inodes params.journal entries text))
+        × Appends (W.contents writer.old) (W.contents writer.new) text
+        × (lost ≡ None → Takes J.contents J.next sink.old sink.new entries)) }
+    ensures fault { IfErr result (λ fault. (known : Option (List ℕ))
+        → IfSome known (λ script. IsSplit script sessions.0 sessions.1.items)
+        → IsThreadsFault known params.segments params.inodes params.frames fault) }
+    ensures unwritten { IfErr result (λ fault. (MayHaveWrittenThreads fault → ⊥)
+        → Keeps (W.contents writer.old) (W.contents writer.new)) }
+{
+    let (setup, scripts) = sessions;
+    let closed = serve(rt, alloc, params, setup, scripts, &())?;
+    let lost = give(sink, closed.volume.journal());
+    print_closed(alloc, &closed, writer)?;
+    Ok(lost)
+}
+
+/// Gives a sink entries. Why it didn't take them, if it didn't.
+fn give<J: JournalSink>(sink: &mut J, entries: &[Entry]) -> Option<SinkFault>
+    ensures { result ≡ None → Takes J.contents J.next sink.old sink.new entries.now }
+{
+    match sink.take(entries) {
+        Ok(()) => None,
+        Err(fault) => Some(fault),
+    }
+}
+
 /// Reads a script whole, and gives the calls of session 0 and those of each other session.
-fn read_sessions<R: Read>(
+pub fn read_sessions<R: Read>(
     alloc: Global,
     reader: &mut R,
 ) -> Result<(Script, Vec<Script>), ThreadsFault>
