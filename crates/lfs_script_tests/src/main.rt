@@ -1,7 +1,8 @@
 //! Runs the scripts that are stored in files, and tells of each whether it prints what is stored beside it, whatever
-//! number of frames the cache has; and the talks of `lfs_shell` that are stored there.
+//! number of frames the cache has; the talks of `lfs_shell` that are stored there; and runs of `lfs_shell` with files.
 #![tactic(auto)]
 
+mod shell;
 mod stored;
 mod talks;
 
@@ -29,6 +30,9 @@ fn main(rt: HostRuntime) -> anyhow::Result<ExitCode> {
         if !tells_as_stored(&rt, line)? {
             code = ExitCode::FAILURE;
         }
+    }
+    if !shell::is_as_told(&rt)? {
+        code = ExitCode::FAILURE;
     }
     Ok(code)
 }

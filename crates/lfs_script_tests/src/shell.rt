@@ -1,0 +1,181 @@
+//! Runs of `lfs_shell` over the files of the folder where the program runs: an image, passes unasked, a film.
+
+use lfs_programs::shell::lfs_shell;
+use std::env::{Env, FillError};
+use std::fs;
+use std::rt::Files;
+
+/// The words of a command line.
+#[derive(Clone, Copy)]
+struct Words<'a> {
+    words: &'a [&'a str],
+}
+
+impl Env for Words<'_> {
+    fn arg(&self, i: usize, buf: &mut [u8]) -> Result<usize, FillError> {
+        let Some(word) = self.words.get(i) else {
+            return Err(FillError::NotPresent);
+        };
+        let Some(room) = buf.get_mut(..word.len()) else {
+            return Err(FillError::TooLong);
+        };
+        room.copy_from_slice(word.as_bytes());
+        Ok(word.len())
+    }
+
+    fn var(&self, _name: &str, _buf: &mut [u8]) -> Result<usize, FillError> {
+        Err(FillError::NotPresent)
+    }
+
+    fn var_at(&self, _i: usize, _buf: &mut [u8]) -> Result<usize, FillError> {
+        Err(FillError::NotPresent)
+    }
+}
+
+/// What a run wrote, and its status.
+#[derive(Drop)]
+struct Ended {
+    status: u8,
+    out: Vec<u8>,
+    err: Vec<u8>,
+}
+
+impl Ended {
+    /// What is told before the report.
+    fn answers(&self) -> &str {
+        let text = str::from_utf8(self.out.as_slice()).unwrap_or_default();
+        text.split("entries ").next().unwrap_or_default()
+    }
+
+    /// Whether all was answered, and nothing is told on standard error.
+    fn is_done(&self) -> bool {
+        self.status == 0 && self.err.is_empty()
+    }
+}
+
+/// Runs `lfs_shell` with these words on this input.
+fn run<R: Files + AllocGlobal>(rt: &R, words: &[&str], input: &str) -> Ended {
+    let alloc = rt.alloc();
+    let mut out = Vec::new(alloc);
+    let mut err = Vec::new(alloc);
+    let mut stdin = input.as_bytes();
+    let env = (Words { words }, alloc);
+    let status = lfs_shell(&env, rt, &mut stdin, &mut out, &mut err);
+    Ended { status, out, err }
+}
+
+/// Lines, each with its line feed.
+fn joined<R: AllocGlobal>(rt: &R, lines: &[&str]) -> anyhow::Result<String> {
+    let mut text = String::new(rt.alloc());
+    for line in lines {
+        text.push_str(line)?;
+        text.push('\n')?;
+    }
+    Ok(text)
+}
+
+/// The file of the image.
+const IMAGE: &str = "volume.img";
+
+/// Words that ask for it.
+const IMAGED: [&str; 3] = ["lfs_shell", "--segments=6", "--image=volume.img"];
+
+/// Words that ask for no image.
+const ALONE: [&str; 2] = ["lfs_shell", "--segments=6"];
+
+/// Lines of the superuser, which may be cut into two talks anywhere: an image keeps the tree and the securelevel.
+const LINES: [&str; 16] = [
+    "mkdir /d 0750",
+    "create /d/a 0640",
+    "write /d/a at 0 68656c6c6f",
+    "write /d/a at 6144 21",
+    "chown /d/a 7 20",
+    "rename /d/a /b",
+    "create /c 0644",
+    "unlink /c",
+    "create /e 4755",
+    "chflags /b 2",
+    "write /b end 21",
+    "level 1",
+    "chflags /b 0",
+    "stat /b",
+    "read /b 0 5",
+    "list /",
+];
+
+/// Whether a talk that is cut in two behind so many lines, whose volume an image keeps between, is answered as an unbroken one.
+fn is_continued<R: Files + AllocGlobal>(rt: &R, whole: &Ended, cut: usize) -> anyhow::Result<bool> {
+    let _ = fs::remove_file(rt, IMAGE);
+    let (before, behind) = LINES.split_at(cut.min(LINES.len()));
+    let first = run(rt, &IMAGED, joined(rt, before)?.as_str());
+    let then = run(rt, &IMAGED, joined(rt, behind)?.as_str());
+    let _ = fs::remove_file(rt, IMAGE);
+    let mut answers = String::new(rt.alloc());
+    answers.push_str(first.answers())?;
+    answers.push_str(then.answers())?;
+    Ok(first.is_done() && then.is_done() && answers.as_str() == whole.answers())
+}
+
+/// Whether a talk that is cut behind each of its lines in turn, with an image, is answered as an unbroken one.
+fn is_unbroken_by_images<R: Files + AllocGlobal>(rt: &R) -> anyhow::Result<bool> {
+    let whole = run(rt, &ALONE, joined(rt, &LINES)?.as_str());
+    let mut all = whole.is_done();
+    for cut in 0..=LINES.len() {
+        all = all && is_continued(rt, &whole, cut)?;
+    }
+    Ok(all)
+}
+
+/// A file that is rewritten and written out so often that two segments and a part of the third are written: the first time
+/// takes four blocks of the log, each other time three.
+fn rewrites<R: AllocGlobal>(rt: &R) -> anyhow::Result<String> {
+    let mut text = joined(rt, &["create /a 0644"])?;
+    for _ in 0..60 {
+        text.push_str("write /a at 0 61\nsync\n")?;
+    }
+    text.push_str(".space\n")?;
+    Ok(text)
+}
+
+/// Whether three segments of six are clean behind these, and more than three where passes are made unasked.
+fn is_cleaned_unasked<R: Files + AllocGlobal>(rt: &R) -> anyhow::Result<bool> {
+    let lines = rewrites(rt)?;
+    let plain = run(rt, &ALONE, lines.as_str());
+    let cleaned = run(
+        rt,
+        &["lfs_shell", "--segments=6", "--clean"],
+        lines.as_str(),
+    );
+    let few = plain.answers().contains("\nsegments 3 clean of 6\n");
+    let told = cleaned.answers();
+    let more = told.contains("\nsegments 4 clean of 6\n")
+        || told.contains("\nsegments 5 clean of 6\n");
+    Ok(plain.is_done() && cleaned.is_done() && few && more)
+}
+
+/// Whether a film that is to replace a directory is not written, and that is told.
+fn is_film_of_no_file_refused<R: Files + AllocGlobal>(rt: &R) -> bool {
+    let ended = run(rt, &["lfs_shell", "--segments=6", "--film=."], "stat /\n");
+    ended.status == 1
+        && ended.err.as_slice() == b"lfs_shell: film not written: not a file\n".as_slice()
+}
+
+/// Whether a line with a fault ends a run with status 1 where that is asked for, and with 0 else.
+fn is_strict_where_asked<R: Files + AllocGlobal>(rt: &R) -> bool {
+    let strictly = run(rt, &["lfs_shell", "--segments=6", "--strict"], "nonsense\n");
+    let else_so = run(rt, &ALONE, "nonsense\n");
+    strictly.status == 1 && else_so.is_done()
+}
+
+/// Tells of each of these whether it is so. Whether all are.
+pub fn is_as_told<R: Files + AllocGlobal + Print>(rt: &R) -> anyhow::Result<bool> {
+    let image = is_unbroken_by_images(rt)?;
+    println!(rt; "lfs_shell --image: as unbroken, {image}")?;
+    let clean = is_cleaned_unasked(rt)?;
+    println!(rt; "lfs_shell --clean: more clean segments, {clean}")?;
+    let film = is_film_of_no_file_refused(rt);
+    println!(rt; "lfs_shell --film of no file: refused, {film}")?;
+    let strict = is_strict_where_asked(rt);
+    println!(rt; "lfs_shell --strict: by a line's fault, {strict}")?;
+    Ok(image && clean && film && strict)
+}
