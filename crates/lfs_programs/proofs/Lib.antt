@@ -1,3 +1,4 @@
 pub mod ServerLemmas
 pub mod ShellLemmas
 pub mod VolumeLemmas
+pub mod FiledLemmas

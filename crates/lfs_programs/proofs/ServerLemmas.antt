@@ -1,16 +1,19 @@
 -- How a run ends of the script that a reader has.
-use Rattle.std.proofs.Common.{◌≡◌, ◌≢◌, ◌≤◌, ◌<◌, ℕ, false, true, List, length, Option, None, Some, IfSome, IsSome, is_some, refl, subst}
-use Rattle.std.proofs.Common.{arith}
+use Rattle.std.proofs.Common.{◌≡◌, ◌≤◌, ◌<◌, ℕ, Bool, false, true, List, length, Option, None, Some, IfSome, IsSome}
+use Rattle.std.proofs.Common.{arith, inl, inr, is_some, refl, subst, sym}
 use Rattle.std.specs.Io.KnownBytes.{Keeps}
 use Rattle.lfs_audit.specs.Scripts.{IsScriptFault}
-use Rattle.lfs_audit.specs.Threads.{IsThreadsFault, MayHaveWrittenThreads}
+use Rattle.lfs_audit.specs.Threads.{IsThreadsFault}
 use Rattle.lfs_audit.specs.declared.fault.RunFault.{RunFault}
 use Rattle.lfs_audit.specs.declared.fault.RunFault.TheVariants as run
 use Rattle.lfs_audit.specs.declared.fault.ThreadsFault.{ThreadsFault}
 use Rattle.lfs_audit.specs.declared.fault.ThreadsFault.TheVariants as threads
 use Rattle.lfs_io.specs.declared.read.ReadFault.{ReadFault}
 use Rattle.lfs_io.specs.declared.read.ReadFault.TheVariants as read
-use Rattle.lfs_programs.specs.Asked.{EndsRun, EndsServer, HasFailed, HasGotText, IsAloneFault, IsAskedFault}
+use Rattle.lfs_programs.specs.Asked.{EndsRun, EndsServer, HasGotFiled, HasGotText, HasRun, IsAloneFault}
+use Rattle.lfs_programs.specs.Asked.{IsAskedFault, IsBroken, status_of}
+use Rattle.lfs_programs.specs.declared.fault.ServerFault.{ServerFault}
+use Rattle.lfs_programs.specs.declared.fault.ServerFault.TheVariants.{Run, Open, Journal}
 use Rattle.lfs_programs.specs.declared.options.Options.{Options}
 
 alone_unknown : (bytes : List ℕ) (segments inodes frames : ℕ) (fault : RunFault)
@@ -40,25 +43,82 @@ asked_alone bytes options (threads.Run fault) is =
 asked_alone bytes options threads.CleanerLine is = is
 asked_alone bytes options (threads.Serve fault) is = is
 
--- a run of the bytes that a reader had is a run of its script
-pub ends_run : {D : Type 0} (options : Options) (known start out : Option (List ℕ)) (status : ℕ) (before after : D)
-    (bytes : List ℕ) → IfSome known (λ script. bytes ≡ script)
-    → EndsRun options (Some bytes) start out status before after → EndsRun options known start out status before after
-ends_run options None start out status before after bytes whole ends = record {
-  either = ends.either;
-  done = λ none. (tt, (ends.done none).1);
-  failed = λ some. let failed = ends.failed some in record {
-    fault = failed.fault;
-    cause = record {
-      alone = λ alone. asked_alone bytes options failed.fault (failed.cause.alone alone);
-      together = λ together. together_unknown bytes options.params.segments options.params.inodes options.params.frames
-          failed.fault (failed.cause.together together);
-    };
-    unwritten = failed.unwritten;
-  };
+asked_unknown : (bytes : List ℕ) (options : Options) (fault : ThreadsFault) → IsAskedFault options (Some bytes) fault
+    → IsAskedFault options None fault
+asked_unknown bytes options fault is = record {
+  alone = λ alone. asked_alone bytes options fault (is.alone alone);
+  together = λ together. together_unknown bytes options.params.segments options.params.inodes options.params.frames
+      fault (is.together together);
 }
-ends_run options (Some script) start out status before after bytes whole ends =
-    subst (λ (b : List ℕ). EndsRun options (Some b) start out status before after) whole ends
+
+filed_unknown : {F : Type 0} (contents : F → Option (List ℕ)) (options : Options) (is_whole : Bool)
+    (start out : Option (List ℕ)) (bytes : List ℕ) → HasGotFiled contents options is_whole (Some bytes) start out
+    → HasGotFiled contents options is_whole None start out
+filed_unknown contents options is_whole start out bytes filed = record {
+  text = filed.text;
+  entries = filed.entries;
+  before = filed.before;
+  after = filed.after;
+  run = tt;
+  printed = filed.printed;
+  filed = filed.filed;
+}
+
+broken_unknown : {F W : Type 0} (contents : F → Option (List ℕ)) (options : Options) (start out : Option (List ℕ))
+    (bytes : List ℕ) (out_before out_after : W) (fault : ServerFault)
+    → IsBroken contents options (Some bytes) start out out_before out_after fault
+    → IsBroken contents options None start out out_before out_after fault
+broken_unknown contents options start out bytes out_before out_after (Run fault) is =
+    (asked_unknown bytes options fault is.0, is.1)
+broken_unknown contents options start out bytes out_before out_after (Open fault) is = is
+broken_unknown contents options start out bytes out_before out_after Journal is =
+    (is.0, filed_unknown contents options false start out bytes is.1)
+
+-- a run of the bytes that a reader had is a run of its script
+pub ends_run : {F W D : Type 0} (contents : F → Option (List ℕ)) (options : Options) (known start out : Option (List ℕ))
+    (status : ℕ) (out_before out_after : W) (before after : D) (bytes : List ℕ)
+    → IfSome known (λ script. bytes ≡ script)
+    → EndsRun contents options (Some bytes) start out status out_before out_after before after
+    → EndsRun contents options known start out status out_before out_after before after
+ends_run contents options None start out status out_before out_after before after bytes whole ends = record {
+  either = ends.either;
+  done = λ none. let done = ends.done none in (
+    record {
+      unfiled = λ _. tt;
+      filed = λ some. filed_unknown contents options true start out bytes (done.0.filed some);
+    },
+    done.1,
+  );
+  failed = λ some. let failed = ends.failed some in
+      (failed.0, failed.1, broken_unknown contents options start out bytes out_before out_after failed.0 failed.2);
+}
+ends_run contents options (Some script) start out status out_before out_after before after bytes whole ends =
+    subst (λ (b : List ℕ). EndsRun contents options (Some b) start out status out_before out_after before after) whole
+    ends
+
+-- a run that is done
+pub ends_done : {F W D : Type 0} (contents : F → Option (List ℕ)) (options : Options)
+    (known start out : Option (List ℕ)) (status : ℕ) (out_before out_after : W) (before after : D) → status ≡ 0
+    → HasRun contents options known start out × (after ≡ before)
+    → EndsRun contents options known start out status out_before out_after before after
+ends_done contents options known start out status out_before out_after before after none done = record {
+  either = omega (arith, none);
+  done = λ _. done;
+  failed = λ some. absurd (some none);
+}
+
+-- a run that ended in a fault
+pub ends_broken_run : {F W D : Type 0} (contents : F → Option (List ℕ)) (options : Options)
+    (known start out : Option (List ℕ)) (status : ℕ) (out_before out_after : W) (before after : D)
+    (fault : ServerFault) → status ≡ status_of fault → 1 ≤ status → status ≤ 2
+    → IsBroken contents options known start out out_before out_after fault
+    → EndsRun contents options known start out status out_before out_after before after
+ends_broken_run contents options known start out status out_before out_after before after fault is some few broken =
+    record {
+      either = few;
+      done = λ none. absurd (omega (arith, none, some));
+      failed = λ _. (fault, is, broken);
+    }
 
 pub keeps_same : (known : Option (List ℕ)) → Keeps known known
 keeps_same None = tt
@@ -78,53 +138,67 @@ cause_read options known read.TooLong long = record { alone = λ _. long refl; t
 cause_read options known read.Memory long = record { alone = λ _. tt; together = λ _. tt }
 
 -- a script that was not read
-pub ends_unread : {D : Type 0} (options : Options) (known start : Option (List ℕ)) (before after : D)
-    (fault : ReadFault) → (fault ≡ read.TooLong → IfSome known (λ bytes. 1048576 < length bytes))
-    → EndsRun options known start start 1 before after
-ends_unread options known start before after fault long = record {
+pub ends_unread : {F W D : Type 0} (contents : F → Option (List ℕ)) (options : Options) (known start : Option (List ℕ))
+    (here : W) (before after : D) (fault : ReadFault)
+    → (fault ≡ read.TooLong → IfSome known (λ bytes. 1048576 < length bytes))
+    → EndsRun contents options known start start 1 here here before after
+ends_unread contents options known start here before after fault long = record {
   either = omega arith;
   done = λ none. absurd (omega (arith, none));
-  failed = λ _. record {
-    fault = fault_read fault;
-    cause = cause_read options known fault long;
-    unwritten = λ _. keeps_same start;
-  };
+  failed = λ _. (Run (fault_read fault), refl, (cause_read options known fault long, λ _. keeps_same start));
 }
 
 -- ---- which script is run
 
 -- that of a file
-pub ends_file : {R W D : Type 0} (options : Options) (known start out : Option (List ℕ)) (status : ℕ)
-    (in_before in_after : R) (out_before out_after : W) (err_before err_after : D) (bytes : Option (List ℕ))
-    → true ≡ is_some options.script → EndsRun options bytes start out status err_before err_after
-    → EndsServer options known start out status in_before in_after out_before out_after err_before err_after
-ends_file options known start out status in_before in_after out_before out_after err_before err_after bytes named ends =
-    record {
+pub ends_file : {F R W D : Type 0} (contents : F → Option (List ℕ)) (options : Options)
+    (known start out : Option (List ℕ)) (status : ℕ) (in_before in_after : R) (out_before out_after : W)
+    (err_before err_after : D) (bytes : Option (List ℕ)) → true ≡ is_some options.script
+    → EndsRun contents options bytes start out status out_before out_after err_before err_after
+    → EndsServer contents options known start out status in_before in_after out_before out_after err_before err_after
+ends_file contents options known start out status in_before in_after out_before out_after err_before err_after bytes
+    named ends = record {
       bytes = bytes;
       own = λ none. let other : true ≡ false = rw none at named in absurd (cc);
-      run = λ _. ends;
-      unopened = λ two. absurd (omega (arith, two, ends.either));
+      ends = inl ends;
     }
 
 -- that of the reader
-pub ends_reader : {R W D : Type 0} (options : Options) (known start out : Option (List ℕ)) (status : ℕ)
-    (in_before in_after : R) (out_before out_after : W) (err_before err_after : D)
-    → EndsRun options known start out status err_before err_after
-    → EndsServer options known start out status in_before in_after out_before out_after err_before err_after
-ends_reader options known start out status in_before in_after out_before out_after err_before err_after ends = record {
-  bytes = known;
-  own = λ _. refl;
-  run = λ _. ends;
-  unopened = λ two. absurd (omega (arith, two, ends.either));
-}
+pub ends_reader : {F R W D : Type 0} (contents : F → Option (List ℕ)) (options : Options)
+    (known start out : Option (List ℕ)) (status : ℕ) (in_before in_after : R) (out_before out_after : W)
+    (err_before err_after : D)
+    → EndsRun contents options known start out status out_before out_after err_before err_after
+    → EndsServer contents options known start out status in_before in_after out_before out_after err_before err_after
+ends_reader contents options known start out status in_before in_after out_before out_after err_before err_after ends =
+    record { bytes = known; own = λ _. refl; ends = inl ends }
 
 -- that of a file which is not opened
-pub ends_unopened : {R W D : Type 0} (options : Options) (known start out : Option (List ℕ)) (status : ℕ) (here : R)
-    (there : W) (err_before err_after : D) → status ≡ 2 → IsSome options.script
-    → EndsServer options known start out status here here there there err_before err_after
-ends_unopened options known start out status here there err_before err_after is named = record {
-  bytes = known;
-  own = λ _. refl;
-  run = λ other. absurd (other is);
-  unopened = λ _. (named, refl, refl);
-}
+pub ends_unopened : {F R W D : Type 0} (contents : F → Option (List ℕ)) (options : Options)
+    (known start out : Option (List ℕ)) (status : ℕ) (here : R) (there : W) (err_before err_after : D) → status ≡ 2
+    → IsSome options.script
+    → EndsServer contents options known start out status here here there there err_before err_after
+ends_unopened contents options known start out status here there err_before err_after is named =
+    record { bytes = known; own = λ _. refl; ends = inr (is, named, refl, refl) }
+
+-- ---- with a file of its entries or without one
+
+pub some_is : {A : Type 0} (x : Option A) (a : A) → x ≡ Some a → IsSome x
+some_is x a is = subst IsSome (sym is) refl
+
+none_some : {A : Type 0} (x : Option A) → x ≡ None → IsSome x → ⊥
+none_some None is some = absurd (cc)
+none_some (Some a) is some = absurd (cc)
+
+-- a run with a file, which took all
+pub run_with_file : {F : Type 0} (contents : F → Option (List ℕ)) (options : Options)
+    (known start out : Option (List ℕ)) → IsSome options.journal_out
+    → HasGotFiled contents options true known start out → HasRun contents options known start out
+run_with_file contents options known start out some filed =
+    record { unfiled = λ none. absurd (none_some options.journal_out none some); filed = λ _. filed }
+
+-- a run without a file
+pub run_without : {F : Type 0} (contents : F → Option (List ℕ)) (options : Options)
+    (known start out : Option (List ℕ)) → options.journal_out ≡ None → HasGotText options known start out
+    → HasRun contents options known start out
+run_without contents options known start out none text =
+    record { unfiled = λ _. text; filed = λ some. absurd (none_some options.journal_out none some) }

@@ -1,7 +1,8 @@
 //! Why a program doesn't begin, and why `lfs_shell` ends with status 1.
 
-use lfs_audit::fault::RunFault;
+use lfs_audit::fault::{RunFault, ThreadsFault};
 use lfs_checking::fault::KeepFault;
+use lfs_types::fault::FormatFault;
 use std::io::ErrorKind;
 use thiserror::Error;
 
@@ -48,7 +49,7 @@ pub enum FilmFault {
     Memory,
 }
 
-/// Why `lfs_shell` doesn't begin: the file of the journal was not made.
+/// Why a program doesn't begin: the file of the journal was not made.
 #[derive(Clone, Copy, PartialEq, Eq, Debug, Error)]
 pub enum OpenFault {
     /// There is a file of this path, which is left as it is.
@@ -67,4 +68,65 @@ pub struct UnopenedScript<'a> {
     pub path: &'a str,
     /// Why.
     pub kind: ErrorKind,
+}
+
+/// Why `lfsd` ends with another status than 0.
+#[derive(Clone, Copy, PartialEq, Eq, Debug, Error)]
+pub enum ServerFault {
+    /// The run ended by a fault.
+    #[error("{0}")]
+    Run(ThreadsFault),
+    /// The file of the journal was not made, and nothing was run.
+    #[error("{0}")]
+    Open(OpenFault),
+    /// All was run, and the file of the journal has not each entry, which was told by then.
+    #[error("journal not written")]
+    Journal,
+}
+
+impl From<ThreadsFault> for ServerFault {
+    ghost use Rattle.std.specs.Prelude.{◌≡◌};
+    ghost use Rattle.lfs_programs.specs.declared.fault.ServerFault.TheVariants.{Run};
+
+    ghost from_gives = { λ fault server. server ≡ Run fault };
+
+    fn from(fault: ThreadsFault) -> ServerFault {
+        ServerFault::Run(fault)
+    }
+}
+
+impl From<RunFault> for ServerFault {
+    ghost use Rattle.std.specs.Prelude.{◌≡◌};
+    ghost use Rattle.lfs_audit.specs.declared.fault.ThreadsFault.TheVariants as threads;
+    ghost use Rattle.lfs_programs.specs.declared.fault.ServerFault.TheVariants.{Run};
+
+    ghost from_gives = { λ fault server. server ≡ Run (threads.Run fault) };
+
+    fn from(fault: RunFault) -> ServerFault {
+        ServerFault::Run(ThreadsFault::Run(fault))
+    }
+}
+
+impl From<FormatFault> for ServerFault {
+    ghost use Rattle.std.specs.Prelude.{◌≡◌};
+    ghost use Rattle.lfs_audit.specs.declared.fault.RunFault.TheVariants.{Format};
+    ghost use Rattle.lfs_audit.specs.declared.fault.ThreadsFault.TheVariants as threads;
+    ghost use Rattle.lfs_programs.specs.declared.fault.ServerFault.TheVariants.{Run};
+
+    ghost from_gives = { λ fault server. server ≡ Run (threads.Run (Format fault)) };
+
+    fn from(fault: FormatFault) -> ServerFault {
+        ServerFault::Run(ThreadsFault::Run(RunFault::Format(fault)))
+    }
+}
+
+impl From<OpenFault> for ServerFault {
+    ghost use Rattle.std.specs.Prelude.{◌≡◌};
+    ghost use Rattle.lfs_programs.specs.declared.fault.ServerFault.TheVariants.{Open};
+
+    ghost from_gives = { λ fault server. server ≡ Open fault };
+
+    fn from(fault: OpenFault) -> ServerFault {
+        ServerFault::Open(fault)
+    }
 }

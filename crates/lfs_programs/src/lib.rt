@@ -2,6 +2,7 @@
 #![tactic(auto)]
 
 pub mod fault;
+mod filed;
 mod filming;
 pub mod options;
 pub mod refusing;

@@ -91,11 +91,11 @@ const IMAGE: &str = "image";
 /// The option of `lfs_shell` that takes the file of a film.
 const FILM: &str = "film";
 
-/// The option of `lfs_shell` that takes the file of the journal.
+/// The option that takes the file of the journal.
 const JOURNAL_OUT: &str = "journal-out";
 
 /// The least window of a journal that goes to a file: it has room for what a line may ask for.
-const LEAST_WINDOW: u32 = 128;
+pub(crate) const LEAST_WINDOW: u32 = 128;
 
 /// The parameters of `lfsd` where no argument says otherwise.
 pub const DEFAULTS: Params = Params {
@@ -130,6 +130,8 @@ pub struct Options<'a> {
     pub params: Params,
     /// Whether each session runs on a thread of its own.
     pub threads: bool,
+    /// The file that the journal's entries are written to, where one is asked for.
+    pub journal_out: Option<&'a str>,
     /// The file of the script, where it is not that of standard input.
     pub script: Option<&'a str>,
 }
@@ -141,17 +143,23 @@ pub struct Options<'a> {
 /// What the parser tells, with its exit code: 2 for a word that is no option or a number out of its range, 0 for `--help` and
 /// `--version`; or want of memory.
 pub fn options_of<'a, S: AsStr>(alloc: Global, words: &'a [S]) -> Result<Options<'a>, Error>
-    ensures { IfOk result (λ options. IsInRange 100000 options.params) }
+    ensures ranges { IfOk result (λ options. IsInRange 100000 options.params) }
+    ensures window { IfOk result (λ options. IsSome options.journal_out → 128 ≤ options.params.journal) }
 {
     let mut command = command(alloc)?;
     let matches = command.try_get_matches_from_mut(words)?;
     match params_in(&matches, &JOURNAL) {
         Ok(params) => {
+            let journal_out = matches.get_str(JOURNAL_OUT);
+            if journal_out.is_some() && params.journal < LEAST_WINDOW {
+                return Err(wrong_value(&mut command, SMALL_WINDOW));
+            }
             let threads = matches.get_flag("threads");
             let script = matches.get_str(SCRIPT);
             Ok(Options {
                 params,
                 threads,
+                journal_out,
                 script,
             })
         }
@@ -303,6 +311,7 @@ fn command<'a>(alloc: Global) -> Result<Command<'a>, AllocError> {
         .arg(INODES.arg(alloc))?
         .arg(FRAMES.arg(alloc))?
         .arg(JOURNAL.arg(alloc))?
+        .arg(server_journal_out(alloc))?
         .arg(script(alloc))
 }
 
@@ -332,6 +341,17 @@ fn journal_out<'a>(alloc: Global) -> Arg<'a> {
         .action(ArgAction::Set)
         .help(
             "Writes each entry of the journal to FILE, which may not exist; --journal is then how many are kept in memory",
+        )
+}
+
+/// The same of `lfsd`.
+fn server_journal_out<'a>(alloc: Global) -> Arg<'a> {
+    Arg::new(alloc, JOURNAL_OUT)
+        .long(JOURNAL_OUT)
+        .value_name("FILE")
+        .action(ArgAction::Set)
+        .help(
+            "Writes each entry of the journal to FILE, which may not exist; --journal is then at least 128, room for those of a line",
         )
 }
 

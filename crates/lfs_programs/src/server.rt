@@ -1,14 +1,16 @@
 //! `lfsd`: a script is read, from standard input or from a file, and run, with its sessions on threads where that is asked for.
 
-ghost use Rattle.std.specs.Prelude.{◌≡◌, ℕ, List, Some, IfErr, IfOk, IfSome, OnOk};
+ghost use Rattle.std.specs.Prelude.{◌≡◌, ◌≤◌, ℕ, List, Some, IfErr, IfOk, IfSome, IsSome, OnOk};
 ghost use Rattle.std.specs.Io.KnownBytes.{Appends, Keeps};
 ghost use Rattle.clap.specs.Values.{kind_of};
 ghost use Rattle.lfs_programs.specs.Ranges.{IsInRange};
 ghost use Rattle.lfs_audit.specs.Scripts.{IsLogOutput};
 ghost use Rattle.lfs_audit.specs.Threads.{MayHaveWrittenThreads};
-ghost use Rattle.lfs_programs.specs.Asked.{EndsRun, EndsServer, IsAloneFault, IsAskedFault, IsServerEnd, HasGotText};
+ghost use Rattle.lfs_programs.specs.Asked.{EndsRun, EndsServer, IsAloneFault, IsAskedFault, IsBroken, IsServerEnd, HasGotText, HasRun};
 ghost use Rattle.lfs_programs.specs.Ends.{EndsUnasked};
 
+use crate::fault::ServerFault;
+use crate::filed::run_filed;
 use crate::options::{Options, not_utf8, options_of};
 use crate::refusing::refuse;
 use crate::script::open_script;
@@ -32,8 +34,8 @@ use std::thread::Threads;
 pub(crate) const NAME: &str = "lfsd";
 
 /// Does what the arguments of an environment ask `lfsd` for, and gives the status with which it ends: 0 for a run that
-/// is done, for help and for the version, 1 for a fault, told in a line on standard error, 2 for words that are refused and for
-/// a script's file that is not opened.
+/// is done, for help and for the version, 1 for a fault, told in a line on standard error, 2 for words that are refused, for
+/// a script's file that is not opened and for a file of the journal that is not made.
 pub fn lfsd<E, S, F, R, W, D>(
     env: &E,
     rt: &S,
@@ -49,7 +51,7 @@ where
     R: Read,
     W: Write,
     D: Write,
-    ensures { IsServerEnd (R.remaining stdin.old) (W.contents stdout.old) (W.contents stdout.new)
+    ensures { IsServerEnd F.File.contents (R.remaining stdin.old) (W.contents stdout.old) (W.contents stdout.new)
         result stdin.old stdin.new stdout.old stdout.new stderr.old stderr.new }
 {
     let alloc = env.alloc();
@@ -60,7 +62,8 @@ where
 
 /// What the words of a command line ask for; the first is the program's name.
 fn asked<'a>(alloc: Global, words: &'a Result<Vec<String>, NoWords>) -> Result<Options<'a>, Error>
-    ensures { IfOk result (λ options. IsInRange 100000 options.params) }
+    ensures ranges { IfOk result (λ options. IsInRange 100000 options.params) }
+    ensures window { IfOk result (λ options. IsSome options.journal_out → 128 ≤ options.params.journal) }
 {
     match words {
         Ok(words) => options_of(alloc, words.as_slice()),
@@ -85,7 +88,7 @@ where
     R: Read,
     W: Write,
     D: Write,
-    ensures run { IfOk asked.entry (λ options. EndsServer options
+    ensures run { IfOk asked.entry (λ options. EndsServer F.File.contents options
         (R.remaining stdin.old) (W.contents stdout.old) (W.contents stdout.new)
         result stdin.old stdin.new stdout.old stdout.new stderr.old stderr.new) }
     ensures not_run { IfErr asked.entry (λ error. (stdin.new ≡ stdin.old)
@@ -93,8 +96,10 @@ where
 {
     match asked {
         Ok(options) => match open_script(files, options.script) {
-            Ok(Some(mut script)) => run_from(rt, alloc, options, &mut script, stdout, stderr),
-            Ok(None) => run_from(rt, alloc, options, stdin, stdout, stderr),
+            Ok(Some(mut script)) => {
+                run_from(rt, files, alloc, options, &mut script, stdout, stderr)
+            }
+            Ok(None) => run_from(rt, files, alloc, options, stdin, stdout, stderr),
             Err(fault) => {
                 let _ = tell(stderr, NAME, &fault);
                 2
@@ -105,8 +110,9 @@ where
 }
 
 /// Reads a script, runs it as was asked, and tells its fault. Gives the status with which the program ends.
-fn run_from<S, R, W, D>(
+fn run_from<S, F, R, W, D>(
     rt: &S,
+    files: &F,
     alloc: Global,
     options: Options<'_>,
     reader: &mut R,
@@ -115,15 +121,16 @@ fn run_from<S, R, W, D>(
 ) -> u8
 where
     S: Threads + Wait + Sync,
+    F: Files,
     R: Read,
     W: Write,
     D: Write,
-    ensures { EndsRun options.entry
+    ensures { EndsRun F.File.contents options.entry
         (R.remaining reader.old) (W.contents stdout.old) (W.contents stdout.new)
-        result stderr.old stderr.new }
+        result stdout.old stdout.new stderr.old stderr.new }
 {
     match read_script(alloc, reader) {
-        Ok(script) => run_bytes(rt, alloc, options, script.as_slice(), stdout, stderr),
+        Ok(script) => run_bytes(rt, files, alloc, options, script.as_slice(), stdout, stderr),
         Err(fault) => {
             let _ = tell(stderr, NAME, &fault);
             1
@@ -132,8 +139,9 @@ where
 }
 
 /// Runs the script of these bytes as was asked, and tells its fault. Gives the status with which the program ends.
-fn run_bytes<S, W, D>(
+fn run_bytes<S, F, W, D>(
     rt: &S,
+    files: &F,
     alloc: Global,
     options: Options<'_>,
     script: &[u8],
@@ -142,19 +150,56 @@ fn run_bytes<S, W, D>(
 ) -> u8
 where
     S: Threads + Wait + Sync,
+    F: Files,
     W: Write,
     D: Write,
-    ensures { EndsRun options.entry
+    ensures { EndsRun F.File.contents options.entry
         (Some script.now) (W.contents stdout.old) (W.contents stdout.new)
-        result stderr.old stderr.new }
+        result stdout.old stdout.new stderr.old stderr.new }
 {
     let mut reader = script;
-    match run(rt, alloc, options, &mut reader, stdout) {
+    match run_asked(rt, files, alloc, options, &mut reader, stdout, stderr) {
         Ok(()) => 0,
-        Err(fault) => {
+        Err(ServerFault::Run(fault)) => {
             tell_fault(alloc, script, fault, stderr);
             1
         }
+        Err(ServerFault::Open(fault)) => {
+            let _ = tell(stderr, NAME, &fault);
+            2
+        }
+        Err(ServerFault::Journal) => 1,
+    }
+}
+
+/// Reads a script and runs it as was asked, with a file of its entries or without one.
+fn run_asked<S, F, R, W, D>(
+    rt: &S,
+    files: &F,
+    alloc: Global,
+    options: Options<'_>,
+    reader: &mut R,
+    stdout: &mut W,
+    stderr: &mut D,
+) -> Result<(), ServerFault>
+where
+    S: Threads + Wait + Sync,
+    F: Files,
+    R: Read,
+    W: Write,
+    D: Write,
+    ensures done { OnOk result (HasRun F.File.contents options.entry
+        (R.remaining reader.old) (W.contents stdout.old) (W.contents stdout.new)
+        × (stderr.new ≡ stderr.old)) }
+    ensures failed { IfErr result (IsBroken F.File.contents options.entry (R.remaining reader.old)
+        (W.contents stdout.old) (W.contents stdout.new) stdout.old stdout.new) }
+{
+    match options.journal_out {
+        Some(path) => run_filed(rt, files, alloc, options, path, reader, stdout, stderr),
+        None => match run(rt, alloc, options, reader, stdout) {
+            Ok(()) => Ok(()),
+            Err(fault) => Err(ServerFault::Run(fault)),
+        },
     }
 }
 

@@ -5,6 +5,7 @@ mod passes;
 mod programs;
 mod scripts;
 mod sessions;
+mod space;
 mod steps;
 mod unswept;
 

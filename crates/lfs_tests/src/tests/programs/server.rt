@@ -3,10 +3,11 @@
 use super::{Program, expect_ended, expect_help, expect_refused};
 
 /// A script in which two sessions take turns, the later first.
-const TURNS: &[u8] = b"create /a 0666\nsession 2\nas 7 7\nwrite /a at 0 6869\nsession 1\nlist /\n";
+pub const TURNS: &[u8] =
+    b"create /a 0666\nsession 2\nas 7 7\nwrite /a at 0 6869\nsession 1\nlist /\n";
 
 /// What each of its lines is answered, in order, where it runs line by line.
-const LINE_BY_LINE: &str =
+pub const LINE_BY_LINE: &str =
     "0 ok\n2 ok\n1 names a\nentries 3\nserved 3\ndenied 0\nrefused 0\ncleaner 0\n";
 
 #[test]
@@ -30,11 +31,12 @@ fn server_takes_numbers(rt: HostRuntime) {
 }
 
 /// The same script where each session runs on a thread of its own: the answers of session 1 come first.
-const BY_SESSION: &str =
+pub const BY_SESSION: &str =
     "0 ok\n1 names a\n2 ok\nentries 3\nserved 3\ndenied 0\nrefused 0\ncleaner 0\n";
 
 /// The report where the cleaner was asked to pass once on a volume without dirty segments.
-const PASSED: &str = "0 ok\n1 names a\n2 ok\nentries 4\nserved 3\ndenied 0\nrefused 0\ncleaner 1\n";
+pub const PASSED: &str =
+    "0 ok\n1 names a\n2 ok\nentries 4\nserved 3\ndenied 0\nrefused 0\ncleaner 1\n";
 
 #[test]
 fn server_runs_sessions_on_threads(rt: HostRuntime) {
