@@ -18,6 +18,7 @@ const TAKEN: [(&[&str], Options<'static>); 3] = [
         Options {
             params: DEFAULTS,
             threads: false,
+            journal_out: None,
             script: None,
         },
     ),
@@ -41,6 +42,7 @@ const TAKEN: [(&[&str], Options<'static>); 3] = [
                 journal: 1,
             },
             threads: false,
+            journal_out: None,
             script: None,
         },
     ),
@@ -52,6 +54,7 @@ const TAKEN: [(&[&str], Options<'static>); 3] = [
             "--inodes=0004096",
             "--segments=1024",
             "a script",
+            "--journal-out=entries",
             "--frames=1024",
         ],
         Options {
@@ -62,6 +65,7 @@ const TAKEN: [(&[&str], Options<'static>); 3] = [
                 journal: 100_000,
             },
             threads: true,
+            journal_out: Some("entries"),
             script: Some("a script"),
         },
     ),
