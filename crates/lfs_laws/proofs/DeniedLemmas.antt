@@ -1,4 +1,9 @@
--- What the denials of a walk and of the tests behind it tell, and that it is true.
+-- Each denial is true, and tells of a row only if the caller may search every directory before it: `tells_little`, for
+-- the law of that name and HiddenLemmas; AskedLemmas takes its ways of splitting tests from here. A record `At` goes
+-- along the walk: it has the names before a component, what they lead to, and that the caller may pass them; at each
+-- test that fails it becomes `Tells`, and what the unmet test says as a Bool is put as a fact. Call by call, the tests
+-- are those of `rule_table` in their order: a test asked before search would tell of a row that he may not know of, and
+-- no proof of its line could be found.
 use Rattle.std.proofs.Common.{◌≡◌, ◌≢◌, ◌⊎◌, ◌<◌, ◌≤◌, ℕ, ◌+◌, ◌==◌, ◌&&◌, ◌||◌, not, Bool, true, false, cond, List, []}
 use Rattle.std.proofs.Common.{◌∷◌, ◌++◌, length, Option, None, Some, refl, sym, ap, subst, ◌∙◌, arith, append_assoc}
 use Rattle.std.proofs.Common.{append-nil, length-append, eqb-true, eq-eqb, inl, inr, ⊎_elim}

@@ -1,4 +1,8 @@
--- What a call can do to a row that is there, and by what right.
+-- What a call can do to a row that is there, and by what right, in seven cases: `fate`, on which RowLaws,
+-- OneThingLemmas, PathLemmas, DoorLemmas, KeptLemmas, LockedLemmas and StrangerLemmas stand. Call by call: the row is
+-- the one that the path leads to, or another, which stays; and the right is made of the tests that were met (Allowed of
+-- `lfs_model`). Rename is the hard one, with three rows: the moved one, one that gives way and all others; another
+-- effect of a call is a case of `Fate` more, and one in each of those files.
 use Rattle.std.proofs.Common.{◌≡◌, ◌≢◌, ◌⊎◌, ◌≤◌, ℕ, ◌+◌, ◌-◌, ◌==◌, ◌&&◌, ◌||◌, not, Bool, true, false, cond, List, []}
 use Rattle.std.proofs.Common.{◌∷◌, length, get_or, max, Option, None, Some, inl, inr, refl, sym, ap, subst, ◌∙◌, ⊎_elim}
 use Rattle.std.proofs.Common.{arith, eqb-true, ne_eqb, ◌++◌}

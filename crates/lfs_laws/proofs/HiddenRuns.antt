@@ -1,5 +1,9 @@
--- Through a run of users whom a directory shuts out, worlds that differ only beneath it stay so, and each answer may be
--- the same.
+-- A run of callers whom a directory shuts out is as legal in any world that differs only beneath it: `hides_from_run`,
+-- for the law `closed_door_hides`. By induction on the entries: each call is decided and answered alike (HiddenLemmas),
+-- has the same effect on each number that is outside (`effect_same`), and what lies beneath stays there (DoorLemmas),
+-- so the worlds differ beneath still. The hard part is what could tell: the names in the directory, its being empty and
+-- the numbers in use, as a new row gets the least unused one (`least_same`); a call that showed any other fact of a row
+-- beneath would end the proof.
 use Rattle.std.proofs.Common.{◌≡◌, ◌≢◌, ◌⊎◌, ◌≤◌, ℕ, zero, suc, ◌+◌, ◌==◌, Bool, true, false, cond, List, [], ◌∷◌, ◌++◌}
 use Rattle.std.proofs.Common.{length, Option, None, Some, inl, inr, refl, sym, ap, subst, ◌∙◌, ⊎_elim}
 use Rattle.std.proofs.lemmas.Bool.{cases_eq, cases_Bool}

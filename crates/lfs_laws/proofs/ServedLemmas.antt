@@ -1,4 +1,8 @@
--- A call is allowed exactly where its caller may make it: whoever may is served.
+-- Whoever may make a call, in the words of Rights, is denied by no rule: `served`, half of the law whose other half is
+-- MayLemmas, where both are joined. Each test of the call is met by one of the facts of `May`; the walk's tests follow
+-- from `Reaches` by induction on the names, since whoever reaches a row reaches the directory above it and may search
+-- that (`reaches_up`). The hard test is that a moved row isn't on the way to its new place: rows on a way are above its
+-- end (`above`), and `MayHang` says that the moved row isn't.
 use Rattle.std.proofs.Common.{◌≡◌, ◌≢◌, ◌⊎◌, ◌≤◌, ℕ, zero, suc, ◌+◌, ◌==◌, ◌&&◌, ◌||◌, not, Bool, true, false, cond}
 use Rattle.std.proofs.Common.{List, [], ◌∷◌, length, Option, None, Some, inl, inr, refl, sym, ap, subst, ◌∙◌, ⊎_elim}
 use Rattle.std.proofs.Common.{arith, eq-eqb, ne_eqb, ◌++◌}
