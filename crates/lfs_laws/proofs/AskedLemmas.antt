@@ -1,4 +1,8 @@
--- A denial is that of one of a call's tests, and each of them names what the call asks.
+-- Each denial names a rule, a path and a place that the request itself asks about: `names_what_it_asks`, for the law of
+-- that name. A denial is that of the first unmet test, so it's enough that each test in the list names such a place
+-- (`Each`); the lists are taken apart as `rule_table` puts them together: walk, directory, row. The hard one is the
+-- second path of a Rename, with a moved row that stands on the way; a test added to `rule_table` needs its rule in
+-- OfMaker, OfTaker or OfNamed.
 use Rattle.std.proofs.Common.{◌≡◌, ◌⊎◌, ◌<◌, ◌≤◌, ℕ, ◌+◌, ◌==◌, ◌||◌, not, Bool, true, false, cond, List, [], ◌∷◌, ◌++◌}
 use Rattle.std.proofs.Common.{length, Option, None, Some, refl, sym, ap, arith, inl, inr, length-append}
 use Rattle.std.proofs.lemmas.Bool.{not-true, not-false}

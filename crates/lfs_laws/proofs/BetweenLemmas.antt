@@ -1,4 +1,9 @@
--- Who changed a row in a run.
+-- Where a row, a mode, an owner or the level differs at the end of a run, a call of the run changed it, by one who
+-- might: `bytes_between`, `mode_between`, `gone_between` and their like, for the law `changed_between`, RegrantLemmas,
+-- SetIdLemmas and StrangerLemmas. All are one lemma (`between`): being the same can be decided and follows from its
+-- steps, so there is a first entry whose call breaks it, and the law of that one call says who might. A number may be
+-- another file's later, so a removal counts as the change that is looked for (`IsTurn`), and the row is the one before
+-- the call, not that of the start.
 use Rattle.std.proofs.Common.{◌≡◌, ◌≢◌, ◌⊎◌, ◌<◌, ◌≤◌, ℕ, List, [], ◌∷◌, Option, None, Some, inl, inr, refl, sym, ap}
 use Rattle.std.proofs.Common.{subst, ◌∙◌, ⊎_elim, arith}
 use Rattle.std.specs.Prelude.{bytes_eq, IsSome, IsSomeAnd}

@@ -1,4 +1,8 @@
--- The laws of new rows, of the level, of the tree, and of what is shown.
+-- The laws of one call on new rows, on the level, on the tree and on what is shown: `new_law`, `relevelled_law`,
+-- `leaves_tree` and `shown_law`, for the laws of these names, BetweenLemmas and others. A row is at an unused number
+-- only after Create or Mkdir, since all other calls change or remove rows that are there (the `absent` lemmas), and the
+-- number is the least free one as the search found each below it in use (`used_below`). What is shown is that of the
+-- row at the path's end, which the passed walk says is there; another way to choose numbers breaks `least_number`.
 use Rattle.std.proofs.Common.{◌≡◌, ◌≢◌, ℕ, ◌==◌, Bool, true, false, cond, List, [], ◌∷◌, Option, None, Some, refl, sym}
 use Rattle.std.proofs.Common.{ap, subst, ◌∙◌, ⊎_elim, arith, eqb-true, ◌≤◌, ◌<◌, zero, suc, ◌+◌}
 use Rattle.std.proofs.lemmas.Bool.{eqb-false, not-true, cases_eq, cases_lt}

@@ -1,4 +1,8 @@
--- A served call did what it asks.
+-- A served call did what it asks: `done_law`, for the law `done`, EachLemmas, PlaceWords and SetIdLemmas. The path
+-- leads to a row (by MayLemmas), and the world after the call has at its number just what `effect` puts there; sizes
+-- follow from the sums of LawBytes, and the set-id bits are gone for all but the superuser (`left`). The hard call is
+-- Rename onto a name in use: the row there is gone unless it's the moved one itself (`placed_over`), as no name leads
+-- to two rows; it breaks if `after_rename` leaves the old row.
 use Rattle.std.proofs.Common.{◌≡◌, ◌≢◌, ℕ, ◌+◌, cond, false, List, [], ◌∷◌, length, get_or, None, refl, sym, ap, ◌∙◌}
 use Rattle.std.proofs.Common.{arith, ne_eqb, ◌==◌, Bool, true, Option, Some, eqb-true}
 use Rattle.lfs_types.specs.Caller.{Caller}

@@ -1,4 +1,8 @@
--- What stands beneath a directory that nobody of a run may search stays.
+-- What is beneath a directory that no caller of a run may search stays as it is: `closed_door`, for the law of that
+-- name; HiddenLemmas and HiddenRuns use the same steps. Whoever reaches a row reaches each one above it and may search
+-- that (`door`, by induction on the steps up), so nobody can have made a call on a row beneath (by Fates), and the
+-- directory itself stays, as it isn't empty and isn't his (`stays_door`). It may be moved, so it's kept only as far as
+-- `SameDoor` says; a call that changed a row without reaching it by a path would be let through.
 use Rattle.std.proofs.Common.{◌≡◌, ◌≢◌, ℕ, zero, suc, ◌==◌, ◌||◌, Bool, true, false, cond, List, [], ◌∷◌, Some, refl}
 use Rattle.std.proofs.Common.{sym, ap, subst, ◌∙◌, ne_eqb}
 use Rattle.std.specs.FinMap as map

@@ -1,4 +1,9 @@
--- What stands beneath a directory that doesn't grant a caller search decides none of his calls and shows in no answer.
+-- A call by one whom a directory shuts out is decided alike whatever lies beneath: `hides_from_call`, for the law
+-- `closed_door_hides`, and its parts for HiddenRuns. Rows that aren't beneath are the same in both worlds and have the
+-- same names in them (`Apart`, `same_row`, `same_child`), and his walk never gets past the directory (`walk_end`), so
+-- he sees the same and ViewLaw decides the rest. Two things still tell, and the law excepts both: the names of the
+-- directory, listed, and whether it's empty (`told_door`); if a walk asked for a name before it asked for search, the
+-- names beneath would show too.
 use Rattle.std.proofs.Common.{◌≡◌, ◌≢◌, ◌⊎◌, ℕ, zero, suc, ◌+◌, ◌==◌, ◌&&◌, Bool, true, false, cond, List, [], ◌∷◌}
 use Rattle.std.proofs.Common.{length, get_or, Option, None, Some, inl, inr, refl, sym, ap, subst, ◌∙◌, ⊎_elim, arith}
 use Rattle.std.proofs.Common.{◌++◌, append-nil}

@@ -1,4 +1,8 @@
--- What decides nothing.
+-- What decides nothing: levels -1 and 2 instead of 0 and 1 (`levels_alike`), the order of groups and being init
+-- (`callers_alike`), and flags that lock nothing (`marks_alike`), each for the law `decides_nothing`. The first is seen
+-- at once, the others are cases of SameTests: groups are asked only by whether they contain a number, and flags only by
+-- their four locks (`by_locks`). The hard one is Chflags, which looks at the whole upper half of the old flags for all
+-- but user 0 (`may_alike`); a new flag that a test asks for belongs in `HasSameLocks`.
 use Rattle.std.proofs.Common.{◌≡◌, ◌≢◌, ◌↔◌, ℕ, ◌/◌, ◌==◌, ◌&&◌, ◌||◌, not, Bool, true, cond, List, Option, None, Some}
 use Rattle.std.proofs.Common.{refl, sym, ap, ◌∙◌, ⊎_elim, eq-eqb, eqb-true}
 use Rattle.std.proofs.lemmas.Bool.{cases_eq}

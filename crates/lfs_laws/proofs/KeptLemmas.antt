@@ -1,4 +1,8 @@
--- A row that its directory keeps.
+-- A row stays in its directory through a run of callers who own neither and whom grants, the sticky bit or a flag keep
+-- from it: `row_is_kept`, for the law of that name. By Fates: to take a row away one needs what `not_taken` rules out,
+-- and to set its mode, owner or flags one must own it; then the callers are as strange to the rows after it
+-- (`all_strange`), for the induction on the entries. Only the directory's file must be the same, as it may itself be
+-- moved; a right to remove that asked less than `MayTakeAway` breaks `not_taken`.
 use Rattle.std.proofs.Common.{◌≡◌, ◌≢◌, ℕ, zero, ◌==◌, List, [], ◌∷◌, Some, inl, inr, refl, sym, ap, ◌∙◌, ⊎_elim}
 use Rattle.std.proofs.Common.{ne_eqb}
 use Rattle.std.proofs.lemmas.Bool.{or_from}

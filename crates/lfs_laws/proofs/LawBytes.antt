@@ -1,4 +1,9 @@
--- What each call makes of each byte, and who set it last.
+-- Each byte of a file was set by the last call of the run that set its place, or was there at the opening:
+-- `last_written` and `last_written_since_opening`, for the law of that name; its sums on spliced and resized bytes
+-- serve Fates, DoneLemmas and TwinLemmas too. One call sets a byte or leaves the one that was there (`byte`, by the
+-- cases of the call; `Was` says that a row is as it was or is the changed one), and the run carries an `Origin` of the
+-- byte from its front, entry by entry. The hard places are the zeros of a gap and of a longer file, which a call sets
+-- without naming them; a call that wrote bytes in another way needs its case in `byte`.
 use Rattle.std.proofs.Common.{◌≡◌, ◌≢◌, ◌⊎◌, ℕ, ◌+◌, ◌-◌, ◌==◌, ◌<◌, ◌≤◌, Bool, true, false, cond, List, [], ◌∷◌, ◌++◌}
 use Rattle.std.proofs.Common.{length, get_or, take, drop, replicate, Option, None, Some, inl, inr, refl, sym, ap, subst}
 use Rattle.std.proofs.Common.{◌∙◌, ⊎_elim, arith, append_assoc, append-nil, length-append, length-drop, length-take}

@@ -1,4 +1,8 @@
--- What a served call can do to a row that is there.
+-- What a served call can do to a row that is there, as far as flags and modes tell: it stays, gets other bytes, another
+-- title or other flags, or loses its name (`fate`, for LawFlags); Fates, which tells the rights too, takes its pieces
+-- on changed maps from here. Call by call: a row with another number than the one at the path's end stays, and that one
+-- was tested as the request asks. The hard one is a Rename, where the moved row and the one that gives way are both
+-- displaced; another effect of a call is a case more in `fate` and in each proof of LawFlags.
 use Rattle.std.proofs.Common.{◌≡◌, ◌≢◌, ◌⊎◌, ℕ, ◌+◌, ◌-◌, ◌==◌, ◌&&◌, ◌||◌, not, Bool, true, false, cond, List, [], ◌∷◌}
 use Rattle.std.proofs.Common.{◌++◌, length, replicate, Option, None, Some, inl, inr, refl, sym, ap, ◌∙◌, ⊎_elim, arith}
 use Rattle.std.proofs.Common.{append-nil, eqb-true, drop_of_length-le, take_all}

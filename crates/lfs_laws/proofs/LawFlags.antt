@@ -1,4 +1,9 @@
--- What flags keep through a call, and through a list of calls.
+-- An immutable row stays as it is and an append-only one only grows, until their flags are set or, for the system's
+-- flags, until init drops the level: `immutable_stays`, `append_only_grows` and the two `system_` ones, for these laws,
+-- `system_locks_stay` and SystemNames. What one call keeps a run keeps (`through`), and one call is taken apart by its
+-- Fate (LawFates), where each case but Stays and Reflags was tested for the flag. The system's flags need the level
+-- too, which only a SetLevel by init lowers (`level_fate`); a call that changed a row and didn't ask for IsMutable
+-- would have a case without a contradiction.
 use Rattle.std.proofs.Common.{◌≡◌, ℕ, ◌≤◌, ◌&&◌, ◌||◌, not, Bool, true, false, List, [], ◌∷◌, ◌++◌, length, None, Some}
 use Rattle.std.proofs.Common.{inl, inr, refl, sym, ap, subst, ◌∙◌, ⊎_elim, arith, append-nil, append_assoc}
 use Rattle.std.proofs.Common.{length-append}

@@ -1,4 +1,9 @@
--- Worlds that differ in unread bytes alone: every test and every answer is the same in both.
+-- Worlds that differ only in bytes that the caller may not read answer him alike: `answers_alike`, for the law
+-- `nobody_reads` and UnreadRuns; TwinLemmas takes from here that paths lead to the same rows. Rows that look alike
+-- agree on all that a test asks, even on their size, so the whole table of tests is equal, as a function at once
+-- (`table_same`), and so are the refusals; the answers follow call by call. Only Read shows bytes, and it was allowed,
+-- so its file is one that the caller may read and is the same in both; a test or an answer that looked at bytes in
+-- another call would end the proof.
 use Rattle.std.proofs.Common.{◌≡◌, ℕ, ◌≤◌, ◌+◌, ◌==◌, not, Bool, true, List, [], ◌∷◌, ◌++◌, length, Option, None, Some}
 use Rattle.std.proofs.Common.{refl, sym, ap, subst, ◌∙◌, arith}
 use Rattle.std.specs.Prelude.{find, filter, min, nat_le, unwrap_or, is_some, is_none, IsSome}

@@ -1,4 +1,9 @@
--- What becomes of a path by one call.
+-- After a call a path leads to the row that it led to, or to what replaced it, or nowhere, the latter only where the
+-- call cut it off: `path_leads_on` and `path_leads_through`, for the law `path_leads_on`. By induction on the names:
+-- the row behind each kept its place, left it or went elsewhere (`place_fate`, by Fates), and what left had nothing in
+-- it, so only the last name of a path can lose its row by a removal. The hard case is a Rename over a row (`taken`):
+-- what hangs there after is the moved row, whole; a call that removed a directory with names in it would break the
+-- induction.
 use Rattle.std.proofs.Common.{◌≡◌, ◌⊎◌, ℕ, true, List, [], ◌∷◌, Option, None, Some, refl, sym, ap, subst, ◌∙◌, ⊎_elim}
 use Rattle.std.proofs.Common.{inl, inr}
 use Rattle.std.proofs.lemmas.Bool.{or_right}

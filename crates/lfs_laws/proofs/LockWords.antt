@@ -1,4 +1,9 @@
--- What flags lock, and who sets them and the level, in bits and numbers.
+-- What locks forbid, and who sets flags and the level, in bits and numbers: `append_by_flags` to `mode_by_flags` for
+-- the law `locks_by_bits`, `level_by_number`, `flags_by_owner` and `flags_by_level` for `levels_by_number`. Each call
+-- is decided by the tests of the attributes that a Stat shows (`decided` of WordLemmas); the superuser is granted all,
+-- so only the locks are left, and each test decides its sum of bits. The hard one is the test of system locks, with
+-- level, old and new flags in one Bool, which is split by cases (`unless_above`); each level's number is its `height`,
+-- so another level needs its lines in `lower` and `above`.
 use Rattle.std.proofs.Common.{◌≡◌, ◌≢◌, ◌⊎◌, ◌<◌, ◌≤◌, ℕ, ◌+◌, ◌/◌, ◌==◌, ◌&&◌, ◌||◌, not, Bool, true, false, refl, ap}
 use Rattle.std.proofs.Common.{⊎_elim, arith, inl, inr, ne_eqb}
 use Rattle.std.proofs.lemmas.Bool.Decides.{Decides-at, Decides-eqb, Decides-like}

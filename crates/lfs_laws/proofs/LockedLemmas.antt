@@ -1,4 +1,9 @@
--- Directories that flags lock keep their names.
+-- While its flags aren't set, a directory that is locked keeps its names (`names_stay`), and an immutable one gets no
+-- other (`no_name_comes`), for the law `locked_names_stay`; SystemNames takes the single entries. By Fates a row goes
+-- or moves only out of a directory that isn't fixed, and by the laws of one call a row is placed only in one that is
+-- mutable; the directory keeps its flags, so this holds on by induction on the entries. An append-only directory may
+-- get names, so the second half asks for the immutable flag; a removal that didn't ask for the parent's flags would
+-- break the first.
 use Rattle.std.proofs.Common.{◌≡◌, ℕ, ◌||◌, true, false, List, [], ◌∷◌, Option, None, Some, refl, sym, ap, ◌∙◌, ⊎_elim}
 use Rattle.std.proofs.lemmas.Bool.{or_left}
 use Rattle.std.specs.Prelude.{IsSomeAnd}

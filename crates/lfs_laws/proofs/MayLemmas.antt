@@ -1,4 +1,8 @@
--- A call is allowed exactly where its caller may make it: whoever is served may.
+-- Whom no rule denies a call may make it, in the words of Rights: `may`, for DoneLemmas, and with ServedLemmas the law
+-- `served_exactly_where_he_may` (`served_exactly`), so also `answered_as_may` for RefusedLemmas. Call by call, each met
+-- test is one of the facts that `May` asks for, and a walk that passes leads to a row which the caller reaches
+-- (`led_met`). The hard call is a Rename: the row that gives way is the one found at the second path's end, or is the
+-- moved one itself; a test dropped from the table leaves a fact of `May` unproved.
 use Rattle.std.proofs.Common.{◌≡◌, ◌≢◌, ℕ, suc, ◌+◌, ◌==◌, ◌||◌, not, Bool, true, false, List, [], ◌∷◌, length, Option}
 use Rattle.std.proofs.Common.{None, Some, inl, inr, refl, sym, ap, subst, ◌∙◌, ⊎_elim, arith, eqb-true, ne_eqb}
 use Rattle.std.proofs.lemmas.Bool.{not-true}

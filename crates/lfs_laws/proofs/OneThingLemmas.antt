@@ -1,4 +1,8 @@
--- One thing changes by a call.
+-- A call changes one thing: one row, or two where one takes the other's place, one part of it, or the level:
+-- `one_thing`, for the law of that name and EachLemmas. All calls but Rename have one number that they are about
+-- (`target`), and others stay; which part changes is read off from the row's Fate. The hard call is Rename over a row,
+-- where two numbers differ and the second must be gone (`two_rows`); a Write that also set a time in the row would need
+-- a part that holds both.
 use Rattle.std.proofs.Common.{◌≡◌, ◌≢◌, ◌⊎◌, ℕ, ◌==◌, Bool, true, false, cond, List, [], ◌∷◌, Option, None, Some, inl}
 use Rattle.std.proofs.Common.{inr, refl, sym, ap, subst, ◌∙◌, ⊎_elim}
 use Rattle.std.proofs.lemmas.Bool.{cases_eq, eqb-false, not-true}

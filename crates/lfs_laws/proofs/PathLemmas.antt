@@ -1,4 +1,9 @@
--- A path stays whose rows none who calls owns or may take away.
+-- Where the rows on a path are kept from the callers of a run, the path leads to its row still: `path_stays` and
+-- `guarded_is_left`, for the law `path_stays`; LeadOnLemmas and SystemNames take their steps along names from here.
+-- Whoever may neither retitle a row nor take it away leaves it where it hangs (by Fates), and a directory that
+-- something hangs in can't be removed; so each name leads on, by induction on the names (`along`). The hard part is
+-- that the same must hold after the call: who was to leave rows alone must still be (`alone_after`), so a right that a
+-- call could give without the owner would break it.
 use Rattle.std.proofs.Common.{◌≡◌, ◌≢◌, ◌⊎◌, ℕ, zero, suc, ◌+◌, ◌==◌, ◌||◌, Bool, true, false, List, [], ◌∷◌, Option}
 use Rattle.std.proofs.Common.{None, Some, inl, inr, refl, sym, ap, subst, ◌∙◌, ⊎_elim}
 use Rattle.std.proofs.lemmas.Bool.{eq-eqb, eqb-true, ne_eqb, or_cases, or_from, or_left, or_right}

@@ -1,4 +1,8 @@
--- The laws of what changed of a row, from what came of it.
+-- If a row is gone, moved, rewritten, or has another mode, owner or flags after a call, the call was one that does this
+-- and its caller might: `gone_law`, `moved_law` to `reflagged_law`, for the laws of these names, BetweenLemmas and
+-- EachLemmas. Each is read off from the seven cases of Fates: in all but one the part in question is the same, which is
+-- a contradiction. The exception is a mode, which a write or a change of owner clears of its set-id bits for anyone but
+-- the superuser (`mode_changed`); a call that changes two parts of a row at once needs a new right in each law.
 use Rattle.std.proofs.Common.{◌≡◌, ◌≢◌, ◌⊎◌, ℕ, cond, List, Option, None, Some, inl, inr, refl, sym, ap, subst, ◌∙◌}
 use Rattle.std.proofs.Common.{⊎_elim, ne_eqb}
 use Rattle.std.proofs.lemmas.Bool.{eq-eqb}

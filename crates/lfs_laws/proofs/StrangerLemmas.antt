@@ -1,4 +1,8 @@
--- What strangers leave of a row.
+-- Callers who don't own a row and aren't the superuser leave its kind, owner, group, flags and mode (but for set-id
+-- bits) until someone removes it: `strangers_leave`, for the law of that name. By Fates: all calls that change these
+-- ask for the owner; by induction on the entries, where a row that is gone was removed by a call that might
+-- (`gone_between` of BetweenLemmas). The row's number may be another file's later, so the run ends at the removal; a
+-- call that let a group change a mode would break `whose_fate`.
 use Rattle.std.proofs.Common.{◌≡◌, ◌≢◌, ◌⊎◌, ℕ, ◌==◌, List, [], ◌∷◌, ◌++◌, Option, None, Some, inl, inr, refl, sym, ap}
 use Rattle.std.proofs.Common.{subst, ◌∙◌, ⊎_elim, append_assoc, ne_eqb}
 use Rattle.std.proofs.lemmas.Bool.{or_from}

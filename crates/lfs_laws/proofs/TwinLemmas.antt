@@ -1,4 +1,8 @@
--- Worlds that differ in hidden bytes alone differ so after each call.
+-- Worlds that differ in the bytes of hidden files alone differ in these alone after each call: `effect_twin`, and
+-- `unread_twins` for what such a caller sees; both for UnreadRuns. Paths lead to the same numbers (LawReads), and each
+-- change of a file looks at its bytes only for their number (`Respects`: `written_respects`, `cut_respects`), so sizes
+-- stay equal and files that aren't hidden stay the same. A call whose effect depended on a file's bytes, such as one
+-- that copies them to another file, would break `Respects`.
 use Rattle.std.proofs.Common.{◌≡◌, ◌⊎◌, ℕ, ◌+◌, ◌-◌, ◌==◌, Bool, true, false, cond, List, [], ◌∷◌, length, Option, None}
 use Rattle.std.proofs.Common.{Some, refl, sym, ap, subst, ◌∙◌, ⊎_elim}
 use Rattle.std.proofs.lemmas.Bool.{cases_eq}

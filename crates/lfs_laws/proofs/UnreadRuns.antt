@@ -1,4 +1,8 @@
--- A run in worlds that differ in the bytes of a file that nobody may read.
+-- A run in which nobody may read a file is as legal with other bytes in it: `nobody_reads_in_run`, for the law
+-- `nobody_reads`. By induction on the entries: each is answered alike (LawReads), the worlds differ in that file alone
+-- after it (TwinLemmas), and the file grants no more to a caller who isn't its owner, since only an owner changes mode
+-- or owner and a write only takes set-id bits (`Still`). Once the file is gone its number may be given anew, so from
+-- there nothing may be hidden (`open_run`); a call that lets others change a mode would break `still_denies`.
 use Rattle.std.proofs.Common.{◌≡◌, ◌≢◌, ℕ, ◌==◌, false, List, [], ◌∷◌, Option, None, Some, inl, inr, refl, sym, ap}
 use Rattle.std.proofs.Common.{subst, ◌∙◌, ⊎_elim, ne_eqb}
 use Rattle.std.proofs.lemmas.Bool.{cases_eq, or_from}

@@ -1,4 +1,8 @@
--- Worlds in which a caller has the same view decide his call alike, and answer it alike.
+-- A caller who sees the same along a call's paths in two worlds gets the same decision: `view`, for the law
+-- `same_view`, HiddenLemmas and HiddenRuns. Call by call, the tests come to the same in their order, each only where
+-- those before it were met (`alike_cons`, `alike_behind`), since a row behind a closed directory isn't seen at all.
+-- Whether a directory is empty is the one thing asked that isn't seen (`TellsEmpty`); any other test of a fact that
+-- `sights` doesn't hold ends the proof.
 use Rattle.std.proofs.Common.{◌≡◌, ◌⊎◌, ℕ, ◌+◌, ◌==◌, ◌||◌, not, Bool, true, false, cond, List, [], ◌∷◌, ◌++◌, length}
 use Rattle.std.proofs.Common.{Option, None, Some, inl, inr, refl, sym, ap, subst, ◌∙◌, arith, append-nil, length-append}
 use Rattle.std.proofs.lemmas.Bool.{not-true}

@@ -1,4 +1,8 @@
--- What a caller sees along names is enough for the tests of a walk.
+-- What is seen along names (`sights`) is enough for the tests of a walk: `walk_alike` says that these come to the same,
+-- and `walk_ends` that the walk then goes through the same rows; both for ViewLaw. By induction on the names: the first
+-- sight fixes kind, grants and number of a row, and the rest is the same only if the caller may enter it (`sees_step`),
+-- which the two tests before have just said. A sight is a number with its attributes, so a test of a walk that asked
+-- for more than these (the name or the bytes of a row) has no lemma.
 use Rattle.std.proofs.Common.{◌≡◌, ℕ, ◌+◌, Bool, true, false, cond, List, [], ◌∷◌, ◌++◌, Option, None, Some, refl, sym}
 use Rattle.std.proofs.Common.{ap, subst, ◌∙◌}
 use Rattle.std.proofs.lemmas.Bool.{and_from}

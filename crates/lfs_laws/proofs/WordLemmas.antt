@@ -1,4 +1,9 @@
--- What each word of the rules says, in bits and numbers.
+-- What a test of the rules means in bits and numbers: `read_by_bits` to `group_by_owner`, for the laws
+-- `classes_by_bits` and `owners_by_number`; LockWords and PlaceWords build theirs from the same pieces. Where a Stat
+-- shows the row, its walk passes, so a call on that path is decided by the tests of the shown attributes alone
+-- (`decided`), and each test is a Bool that decides a plain statement (`granted`, `owner`, `on`, `off`). One name more,
+-- for Create and search, is the walk of the path with one step behind it (`walk_last`, `made`); a test added to such a
+-- call must be met where these laws apply, or their statement changes.
 use Rattle.std.proofs.Common.{◌≡◌, ◌⊎◌, ◌↔◌, ◌<◌, ℕ, ◌+◌, ◌/◌, ◌%◌, ◌==◌, ◌||◌, not, Bool, true, false, cond, List, []}
 use Rattle.std.proofs.Common.{◌∷◌, ◌++◌, length, Option, None, Some, refl, sym, ap, subst, ◌∙◌, ⊎_elim, arith, inl, inr}
 use Rattle.std.proofs.Common.{append-nil, eq-eqb, ne_eqb}
