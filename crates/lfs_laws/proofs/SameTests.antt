@@ -1,7 +1,7 @@
 -- Two worlds and two callers of whom each question of the tests has the same answer are decided alike: `decided_same`,
--- on which the three laws of IdleLemmas stand. The record `SameTests` lists the questions (child, kind, size, grants,
--- locks, owner) as equal functions, so each list of tests is equal part by part, with the walk by induction on the
--- names. A test that asks anything else needs a field here, or, as the flags of Chflags and the level have, a line in
+-- on which two laws of IdleLemmas stand. The record `SameTests` lists the questions (child, kind, size, grants, locks,
+-- owner) as equal functions, so each list of tests is equal part by part, with the walk by induction on the names. A
+-- test that asks anything else needs a field here, or, as the flags of Chflags and the level have, a line in
 -- `SameRest`.
 use Rattle.std.proofs.Common.{◌≡◌, ℕ, ◌+◌, ◌==◌, not, Bool, List, [], ◌∷◌, ◌++◌, length, cond, Option, None, Some, refl}
 use Rattle.std.proofs.Common.{ap, ◌∙◌}
