@@ -1,4 +1,8 @@
--- What users are answered doesn't hang on the cleaner's calls between theirs.
+-- Users get the same answers whatever the cleaner does between their calls: `same_answers_law`, for the law
+-- `same_answers`. Without the cleaner's entries, the Syncs and the refusals each entry was decided by the rules
+-- (AllJudged), and these have one answer to a call in a world (`one_answer`); so by induction both lists are the same
+-- entry by entry. A refusal isn't decided by the rules, so runs of which one refused what the other served aren't
+-- compared; an answer that the rules left open would break `one_answer`.
 use Rattle.std.proofs.Common.{◌≡◌, ℕ, List, [], ◌∷◌, ◌++◌, refl, sym, ap, subst, ◌∙◌}
 use Rattle.lfs_types.specs.Caller.{Caller}
 use Rattle.lfs_types.specs.Tree.{World}

@@ -1,4 +1,8 @@
--- Calls that differ only in what they bring are decided alike.
+-- Calls that differ only in what they bring are decided alike: `decides_alike`, for the law of that name. Call by call,
+-- the tests see of bytes only whether they fit, of a mode nothing, of flags the upper half (`may_set_same`,
+-- `keeps_same`), and of a group whether it's one of the caller's (`any_group`). The system's locks are read off the
+-- upper half as well (`immutable_bit`, `append_bit`); a test that looked at a mode or at the user's flags to be set
+-- would break this.
 use Rattle.std.proofs.Common.{◌≡◌, ℕ, ◌/◌, ◌%◌, ◌==◌, ◌&&◌, ◌||◌, not, Bool, true, false, [], ◌∷◌, ◌++◌, length, refl}
 use Rattle.std.proofs.Common.{sym, ap, ◌∙◌, arith}
 use Rattle.lfs_types.specs.Caller.{Caller}

@@ -1,4 +1,8 @@
--- Each entry of a legal list stands lawfully between the worlds around it.
+-- Each entry of a legal list meets all laws of one call in the worlds around it: `each_entry` and `opening_sound`, for
+-- the law `each_entry`. The worlds stay sound (a tree whose files fit, `sound_after`) from the front, and in a sound
+-- world each law of one call holds (`meets`), which are proved in RowLaws, CallLaws, DoneLemmas, OneThingLemmas and
+-- MayLemmas. A file that grows fits as its call was tested (FitsFile); a new law of one call becomes a field of
+-- MeetsLaws and a line in `meets`.
 use Rattle.std.proofs.Common.{◌≡◌, ◌≤◌, ℕ, List, [], ◌∷◌, ◌++◌, length, Option, None, Some, refl, sym, ap, subst}
 use Rattle.std.proofs.Common.{⊎_elim, arith}
 use Rattle.std.specs.FinMap as map

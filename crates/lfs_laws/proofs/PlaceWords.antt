@@ -1,4 +1,9 @@
--- Places, limits, the opening world and the set-id bits, by number.
+-- Where bytes go, which limits hold, how the world opens and when set-id bits go, by number: `writes_at`, `reads_from`,
+-- `length_by_number`, `opens_alone`, `set_ids_go` and their kin, for `bytes_by_place`, `limits_by_number`,
+-- `opens_by_number` and `set_ids_by_bits`. Each is read off another law (DoneLemmas, CallLaws, RowLaws) or decided by
+-- the tests of the attributes shown (`decided` of WordLemmas), where all but the limit are met. For the superuser no
+-- grant is in the way, so only the sum of place and length decides; another limit of a file, or a row more at the
+-- opening, changes the number in the law itself.
 use Rattle.std.proofs.Common.{◌≡◌, ◌≢◌, ℕ, ◌+◌, ◌-◌, [], ◌∷◌, length, get_or, take, drop, min, Option, None, Some, refl}
 use Rattle.std.proofs.Common.{sym, ap, ◌∙◌, ⊎_elim, arith}
 use Rattle.std.proofs.lemmas.Bool.{not_from_false}

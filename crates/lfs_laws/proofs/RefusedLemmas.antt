@@ -1,4 +1,8 @@
--- What a refused call lacked.
+-- A call refused for a resource was allowed and did lack it, in words that need no path: `refused_truly`, for the law
+-- of that name. The first half is `answered_as_may` of MayLemmas; for the second a full directory has so many names as
+-- a List shows, since names put in order are as many as the rows (`names-many`). No number is wanted but by Create and
+-- Mkdir, no space but by changing calls; a call more that may be refused so needs its line in `fills_up` or
+-- `lacks_number`.
 use Rattle.std.proofs.Common.{◌≡◌, ◌≤◌, ℕ, ◌+◌, Bool, true, false, cond, List, [], ◌∷◌, length, None, refl, ◌∙◌, arith}
 use Rattle.std.proofs.lemmas.List.{length-map}
 use Rattle.std.specs.Ordering.{nat_cmp, is_lt}

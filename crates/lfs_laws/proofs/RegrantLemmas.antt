@@ -1,4 +1,8 @@
--- Who gave a right on a row, or took it.
+-- Who gave or took a right on a row changed its mode or its owner: `right_between`, for the law `regranted_between`;
+-- `cleared_grants` is for UnreadRuns too. What a row grants rests on owner, group and mode (`by_parts`), so where it
+-- differs one of them does, and BetweenLemmas finds the call. A write clears set-id bits for ordinary callers, but none
+-- of the nine bits that grant (`cleared_grants`); a right that hung on another bit of the mode would need its line
+-- there.
 use Rattle.std.proofs.Common.{◌≡◌, ◌⊎◌, ℕ, ◌==◌, Bool, true, false, cond, Some, inl, inr, refl, ap, ◌∙◌, ⊎_elim, arith}
 use Rattle.std.proofs.lemmas.Bool.{cases_eq}
 use Rattle.std.specs.FinMap as map

@@ -1,4 +1,8 @@
--- What the system's locks keep of names, above level 0.
+-- Above level 0 a directory with a system lock keeps its names, gets no new one if it's immutable, and a path over such
+-- directories leads on: `system_names_stay`, `no_system_name_comes` and `system_path_stays`, for the law
+-- `system_locks_stay`. One entry keeps the lock and the level (LawFlags) and the names (LockedLemmas), and the
+-- induction on the entries carries all three. The user's flags give no such law, as their owner may clear them; it ends
+-- where init drops the level, so a second way to lower it would have to be excluded in `above_still`.
 use Rattle.std.proofs.Common.{◌≡◌, ℕ, ◌||◌, Bool, true, List, [], ◌∷◌, Some, ap, ◌∙◌, ⊎_elim}
 use Rattle.std.proofs.lemmas.Bool.{or_cases, or_left, or_right}
 use Rattle.std.specs.Prelude.{IsSomeAnd}
