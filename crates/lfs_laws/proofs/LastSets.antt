@@ -1,8 +1,8 @@
--- Each attribute of a row is what the last call that sets it gave: `size_last_set`, `mode_last_set` and their like, and
--- `all_set_since_opening`, for the law `last_set`. One lemma carries all of them, over an attribute `of` and what calls
--- give: after a call a row is the one that the call is about (`becomes`) or as it was (`turn`), and the induction goes
--- over the entries from the back. A new request, or another effect of one, needs its line in `becomes` and in each
--- lemma that says what an attribute gets.
+-- Each attribute of a row is what the last call that sets it gave: `size_last_set`, `permissions_last_set` and their
+-- like, and `all_set_since_opening`, for the law `last_set`. One lemma carries all of them, over an attribute `of` and
+-- what calls give: after a call a row is the one that the call is about (`becomes`) or as it was (`turn`), and the
+-- induction goes over the entries from the back. A new request, or another effect of one, needs its line in `becomes`
+-- and in each lemma that says what an attribute gets.
 use Rattle.std.proofs.Common.{◌≡◌, ◌⊎◌, ◌<◌, ◌≤◌, ℕ, ◌+◌, ◌/◌, ◌%◌, ◌==◌, Bool, true, false, cond, List, [], ◌∷◌}
 use Rattle.std.proofs.Common.{length, Option, None, Some, inl, inr, refl, sym, ap, subst, ◌∙◌, ⊎_elim, arith, eqb-true}
 use Rattle.std.specs.Prelude.{nat_le, unwrap_or}
