@@ -1,5 +1,5 @@
 -- Who gave or took a right on a row changed its mode or its owner: `right_between`, for the law `regranted_between`;
--- `cleared_grants` is for UnreadRuns too. What a row grants rests on owner, group and mode (`by_parts`), so where it
+-- `cleared_grants` is for UnreadRuns too. What a row grants rests on owner, group and mode (`granted`), so where it
 -- differs one of them does, and BetweenLemmas finds the call. A write clears set-id bits for ordinary callers, but none
 -- of the nine bits that grant (`cleared_grants`); a right that hung on another bit of the mode would need its line
 -- there.
