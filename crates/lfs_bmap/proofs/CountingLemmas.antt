@@ -1,4 +1,8 @@
--- Sums over numbers, and the live bytes of a segment.
+-- When one key gets another place, the live bytes of each segment change by that key's weight (`live-placed`), and they
+-- are 0 just where no key lies in it (`live-none`, `live-empty`): LogLemmas and SegmentLemmas stand on these. Both sums
+-- go by induction on their bound; with one term changed the two sums differ in that term (`total-changed`), used for
+-- the row of the number and then for the code in it. `live-empty` needs that a placed key weighs something
+-- (`units-some`): a kind of block of weight 0 would let its segment be cleaned.
 use Rattle.std.proofs.Common.{◌≡◌, ◌≢◌, ℕ, zero, suc, ◌+◌, ◌*◌, ◌<◌, ◌≤◌, ◌⊎◌, inl, inr, refl, ap, ◌∙◌, arith}
 use Rattle.std.proofs.lemmas.Bool.{cases_eq, cond-true, cond-false, eq-eqb, ne_eqb, and_from, and_left, and_right}
 use Rattle.lfs_bmap.specs.Counting.{seg_of, units, total, weight_of, live_bytes, placed}

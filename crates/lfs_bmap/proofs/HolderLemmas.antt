@@ -1,4 +1,8 @@
--- The block that holds a block's address, and the codes on a way.
+-- `table_of` is the block that the rest of a way leads to (`table_of-way`), and the codes on a way are the block's own
+-- before those of its holder (`codes_on-block`): nearly all of `lfs_staging` and `lfs_segwrite` walks up by these, and
+-- `FileBlock::table` and `cell` are proved from this file. `data_table` is the case split for data blocks: below 12,
+-- below 140, or under a child of the double block. That a way has at most three codes (`codes_on-most`) bounds what one
+-- staged block may need; a third level of indirect blocks would raise it.
 use Rattle.std.proofs.Common.{Contains, List, [], ap, arith, inl, inr, length, refl, subst, suc, sym, zero, ℕ, ◌+◌, ◌-◌}
 use Rattle.std.proofs.Common.{◌/◌, ◌%◌, ◌<◌, ◌∙◌, ◌∷◌, ◌≡◌, ◌≢◌, ◌≤◌, ◌⊎◌}
 use Rattle.std.proofs.lemmas.Bool.{cases_eq, cases_lt, cond-false, cond-true, le-ltb, lt-ltb, ne_eqb}

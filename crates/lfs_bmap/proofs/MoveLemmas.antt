@@ -1,4 +1,9 @@
--- Moves of addresses, one after another, and those of each step of the log.
+-- Moves of addresses and dirty segments go on from step to step: `moves-trans` and `StaysDirty-trans`, for StagedLemmas
+-- of `lfs_staging` and GainLemmas, AheadLemmas and MarkedLemmas of `lfs_segwrite`; `present_address-key` is for the
+-- cleaner's calls. Moves says that a key which now lies in some segments lay there before, so it's followed from the
+-- end backwards: the key has a place in the middle too (`between`). The address told for a key of an old version is 0
+-- (`present_address-other`), by which the cleaner knows what is dead; a step that wrote into a segment which the
+-- cleaner empties would be no move in this sense.
 use Rattle.std.proofs.Common.{◌≡◌, ◌≢◌, ℕ, ◌/◌, ◌<◌, ◌≤◌, ◌⊎◌, inl, inr, refl, sym, ap, ◌∙◌, subst, arith}
 use Rattle.std.proofs.lemmas.Bool.{cases_eq, cases_lt, cond-true, cond-false, eq-eqb, ne_eqb, lt-ltb, le-ltb, and_from}
 use Rattle.std.proofs.lemmas.Bool.{and_left, and_right}

@@ -1,4 +1,8 @@
--- What the log names at a place, and what that says of its entries.
+-- What `owner_at` names at a place stands in the entry of its address: a block's own name at unit 0, or the record in a
+-- slot of an inode block (`owner_at-named`; the way back `owner_at-block`, `owner_at-record`, for NameLemmas of
+-- `lfs_log` and of `lfs_fsck`). By cases of the entry's kind; only in an inode block do the slot's bytes decide, so an
+-- owner stays where its entry and its block do (`owner_at-kept`). A kind of block with several owners would need its
+-- bytes here too.
 use Rattle.std.proofs.Common.{◌≡◌, ◌≢◌, ℕ, ◌+◌, ◌*◌, ◌/◌, ◌%◌, ◌<◌, ◌⊎◌, inl, inr, Option, Some, None, option_map}
 use Rattle.std.proofs.Common.{option_and_then, refl, sym, ap, ◌∙◌, arith}
 use Rattle.std.specs.Prelude.{if◌then◌else◌, ◌==◌}

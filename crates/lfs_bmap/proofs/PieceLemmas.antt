@@ -1,4 +1,8 @@
--- The bytes of a file, block by block: what a put, a cut and a read of each block make of them.
+-- Blocks that were put, cut or read one by one are the file's `splice`, `resized` and `slice_of` (`put_splice`,
+-- `cut_resized`, `got_slice`, for the growth, the cut and the reading of `lfs_staging`). Byte i of a file is byte i %
+-- 512 of block i / 512 (`file_bytes-at`), so each law of the whole file is one of a single byte; past the size it rests
+-- on `IsPadded`, the zeros behind the last byte. A block that keeps other bytes past the size breaks `padded-at`, and
+-- with it every file that grows again.
 use Rattle.std.proofs.Common.{◌≡◌, ℕ, zero, suc, ◌+◌, ◌-◌, ◌*◌, ◌/◌, ◌%◌, ◌<◌, ◌≤◌, max, min, inl, inr, List, [], ◌∷◌}
 use Rattle.std.proofs.Common.{◌++◌, length, take, drop, replicate, get_or, refl, sym, ap, ◌∙◌, arith}
 use Rattle.std.specs.Prelude.{if◌then◌else◌, ◌==◌, nat_lt}

@@ -1,4 +1,8 @@
--- What keeps the addresses and the bytes of a file's blocks.
+-- Of a file's tree a change touches the readings that it names and no others: `same_readings`, and the cases of
+-- `Stages`, `Lands` and `Clears` (`staged_others`, `landed_addresses`, `cleared_addresses`), for KeptLemmas and
+-- ClearedLemmas of `lfs_staging` and LandedLemmas of `lfs_segwrite`. By induction on the way: an address is a cell of
+-- the block above, whose bytes stay if its own address does. The hard case is the block that holds the changed address,
+-- where one cell is another; a landing needs besides that no known block had the new address (`IsUnread`).
 use Rattle.std.proofs.Common.{◌≡◌, ◌≢◌, ℕ, ◌<◌, ◌≤◌, inl, inr, List, [], ◌∷◌, Some, None, refl, sym, ap, ◌∙◌, subst}
 use Rattle.std.specs.Prelude.{unwrap_or, if◌then◌else◌, ◌==◌, slice_index, length, slice_set}
 use Rattle.std.proofs.lemmas.Bool.{cases_eq, cond-true, cond-false, eq-eqb, ne_eqb}

@@ -1,4 +1,8 @@
--- Opening and cleaning a segment keep what holds of the log.
+-- `IsLog` holds of a new log, behind an opening and behind a cleaning (`empty_log`, `opened_log`, `cleaned_log`, for
+-- OpeningLemmas of `lfs_staging`, RoomLemmas of `lfs_segwrite` and ReclaimLemmas of `lfs_logstore`). A clean segment
+-- has no key, since each key's place lies in one that isn't (`not_in_clean`), so what it named may go; and a segment
+-- without live bytes has none, as live bytes are a sum over keys (`empty_has_none`). Were `live` not counted from all
+-- keys, cleaning could take a block that a file has.
 use Rattle.std.proofs.Common.{◌≡◌, ◌≢◌, ℕ, zero, suc, ◌+◌, ◌-◌, ◌*◌, ◌<◌, ◌≤◌, inl, inr, Some, refl, sym, ap, ◌∙◌}
 use Rattle.std.proofs.Common.{subst, arith}
 use Rattle.std.proofs.lemmas.Bool.{cases_eq}

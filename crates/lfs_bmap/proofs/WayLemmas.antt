@@ -1,4 +1,8 @@
--- Codes and ways are each other's inverse, and a way leads through ways.
+-- Codes and ways are each other's inverse (`code_at-way_of`, `way_of-code_at`), and the rest of a way is a way
+-- (`up_known`): so the code, which the cache and the map of waiting blocks use, tells blocks apart as the way does, on
+-- which ReadingLemmas goes. `code_ind` takes a code apart into record, two indirect blocks, children and data blocks;
+-- for the last the way's shape turns at 12 and at 140, and arithmetic with 128 gives it back. Another width of a table
+-- changes all these numbers; `no_way_through` says that nothing stands under a data block.
 use Rattle.std.proofs.Common.{◌≡◌, ◌≢◌, ℕ, zero, suc, subst, lit<, ◌+◌, ◌-◌, ◌*◌, ◌/◌, ◌%◌, ◌<◌, ◌≤◌, ◌⊎◌, inl, inr}
 use Rattle.std.proofs.Common.{List, [], ◌∷◌, refl, sym, ap, ◌∙◌, arith}
 use Rattle.std.proofs.lemmas.Bool.{cases_lt, cases_eq, cond-true, cond-false, ne_eqb, lt-ltb, le-ltb}

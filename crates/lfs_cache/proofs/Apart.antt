@@ -1,4 +1,7 @@
--- No key is held twice.
+-- No key is held twice: `all_apart` for FormedLemmas, which gives IsContents, and `locked_apart` for `Cache::locked`.
+-- Each frame stands in one list, once (AreKept counts them), and no two frames have one key (`apart` of AreHeld), so
+-- the keys of lists behind one another differ, by induction on the lists. All that is proved of a block which is dirty
+-- and not clean rests on this; a key put at a second frame before the first is cleared would break it.
 use Rattle.std.proofs.Common.{◌≡◌, ◌≢◌, ℕ, suc, ◌+◌, ◌<◌, ◌≤◌, true, false, cond, ◌==◌, List, [], ◌∷◌, ◌++◌, Option}
 use Rattle.std.proofs.Common.{Some, IsSome, refl, sym, ap, subst, ◌∙◌, inl, inr, arith}
 use Rattle.std.specs.Prelude.{map}

@@ -1,4 +1,8 @@
--- What a cache holds after a key's frame has come to a queue, or a frame was taken for a key.
+-- A frame with a key stands once in LOCKED or LRU (`in_one`), and brought to the front of either the cache is held as
+-- its queues say (`locked_held`, `lru_held`), its entries being the old ones without the key and the key first
+-- (`to_locked`, `to_lru`, `rest_left`): for Steps and Fresh. No other frame has that key (`alone_in`), so to take the
+-- frame's number out of a list is to take the key out of its entries. `but` in `AreHeld` names the frame whose key and
+-- queue don't agree yet, between two calls.
 use Rattle.std.proofs.Common.{◌≡◌, ◌≢◌, ℕ, suc, ◌+◌, ◌<◌, ◌≤◌, false, cond, nat_lt, List, [], ◌∷◌, length, Option, Some}
 use Rattle.std.proofs.Common.{None, IsSome, refl, sym, ap, subst, ◌∙◌, inl, inr, arith}
 use Rattle.std.specs.Prelude.{map}

@@ -1,4 +1,8 @@
--- Lemmas for those who call a cache.
+-- What a cache holds of a key after each call, for those who call it: `filled_locked`, `written_dirty`, `settled_kept`
+-- and `forgotten_gone`, for the calls of Cache, ChangeLemmas and the crates above. Each call takes the key out of its
+-- list and puts it in front of one, so it's found first there (`block_first`), and a look-up of another key passes over
+-- it (`block_other`). No frame is ever taken from LOCKED (`taken_locked`), on which all rests that waits; another order
+-- of giving frames away must keep that.
 use Rattle.std.proofs.Common.{◌≡◌, ℕ, zero, suc, ◌<◌, Bool, true, false, cond, List, [], ◌∷◌, length, get_or, Option}
 use Rattle.std.proofs.Common.{Some, None, IsSome, refl, sym, inl, inr, ap, subst, ◌∙◌, arith}
 use Rattle.lfs_cache.specs.declared.key.Key.{Key}

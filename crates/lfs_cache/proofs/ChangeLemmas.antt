@@ -1,4 +1,8 @@
--- What each call of a cache changes, key by key.
+-- What a call does to keys other than its own is nothing, or a clean block gives way: `used_kept`, `settled_others`,
+-- `forgotten_others`, `filled_gains`, `written_gains`, for each call of `Cache`, on whose clauses `lfs_staging` stands.
+-- The key leaves its list and comes first in one, which another key doesn't see; blocks are lost by `drop_last` of LRU
+-- alone (`last_gone`), so dirty ones never are. The counts need that no key comes twice (`IsContents`), as
+-- `without_key` takes all of its entries away.
 use Rattle.std.proofs.Common.{◌≡◌, ℕ, zero, suc, ◌+◌, ◌≤◌, false, cond, List, [], ◌∷◌, ◌++◌, length, Option, Some, None}
 use Rattle.std.proofs.Common.{IsSome, refl, sym, ap, ap₂, subst, ◌∙◌, inl, inr, arith}
 use Rattle.lfs_cache.specs.declared.key.Key.{Key}

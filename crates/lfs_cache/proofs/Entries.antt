@@ -1,4 +1,8 @@
--- The entries of a list of frames, after a frame has left it or holds another block.
+-- Taking a frame out of a list takes its key's entry out (`entries_without`, `names_kept`), and a key's block is the
+-- one at its frame (`block_found`, `block_absent`, `block_missing`): for Cached and Steps. By induction on the list of
+-- frames, where each is f or has another key (`IsAloneIn`); `without_key` drops every entry of the key, `without` the
+-- one frame, so a key at two frames would break it. `same_is`, that `same_key` tells keys apart, is cited through all
+-- crates above.
 use Rattle.std.proofs.Common.{◌≡◌, ◌≢◌, ◌⊎◌, ℕ, suc, ◌<◌, ◌≤◌, true, false, cond, ◌==◌, List, [], ◌∷◌, Option, Some}
 use Rattle.std.proofs.Common.{None, refl, sym, ap, subst, ◌∙◌, inl, inr, arith}
 use Rattle.std.specs.Prelude.{map}

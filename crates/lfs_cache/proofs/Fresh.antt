@@ -1,4 +1,7 @@
--- A frame that is taken for a key, and one whose key is forgotten.
+-- Some frame can be taken always (`has_next`), and with it the cache is as `with_frame` says (`fresh_held`,
+-- `fresh_taken`); one that is forgotten comes to AGE (`forgotten_held`, `forgotten_view`): for Steps. Were EMPTY, AGE
+-- and LRU all empty, LOCKED would have all of the frames (`covers`), and these are at least 32, where it has 24 at
+-- most; else the case is which of the three gives the frame. `least_frames` must stay above `LOCKED_LIMIT`.
 use Rattle.std.proofs.Common.{◌≡◌, ◌≢◌, ℕ, zero, suc, ◌+◌, ◌<◌, ◌≤◌, cond, nat_lt, List, [], ◌∷◌, length, Option, Some}
 use Rattle.std.proofs.Common.{None, IsSome, refl, sym, ap, subst, ◌∙◌, inl, inr, arith}
 use Rattle.std.specs.Prelude.{map}

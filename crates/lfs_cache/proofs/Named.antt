@@ -1,4 +1,8 @@
--- The index after one more frame is named, and after a key is put or taken away.
+-- The index after one more frame is named, and after a key is put: `named_more` for `rebuild`, `index_put` for
+-- `Index::put`, `index_none` for `Index::new`. While it's rebuilt the frames below one are found and no more places are
+-- taken than these (AreIndexed), and each new one goes to a place that Places says is good. There are six places for a
+-- frame, searches begin in the first four, and at most two are taken before a rebuild, so a search meets a free place
+-- without turning at the end; other factors must leave that sum.
 use Rattle.std.proofs.Common.{◌≡◌, ◌≢◌, ℕ, ◌+◌, ◌-◌, ◌*◌, ◌<◌, ◌≤◌, List, length, Option, Some, None, refl, sym, ap}
 use Rattle.std.proofs.Common.{subst, ◌∙◌, inl, inr, arith}
 use Rattle.std.proofs.Math.ListN.{set, length-set}

@@ -1,4 +1,8 @@
--- The places of an index: a free one comes before all are passed, and a place that is taken leads where it led.
+-- A search from a key's start finds its frame before any free place, and a free place comes before the end: `not_found`
+-- for `find`, `taken_run` for `free_place`, the `entered_` lemmas for Named. A new frame is named at the first free
+-- place, and whoever was reached was reached over taken places only, so none of those on the way is the new one
+-- (`reached-set`). A place that is taken is never freed but by a rebuild of all, since a gap would hide the frames
+-- behind it; a `clear` that freed a place breaks this.
 use Rattle.std.proofs.Common.{◌≡◌, ℕ, zero, suc, ◌+◌, ◌-◌, ◌<◌, ◌≤◌, List, [], ◌∷◌, length, Option, Some, None, IsSome}
 use Rattle.std.proofs.Common.{refl, sym, ap, subst, ◌∙◌, inl, inr, arith}
 use Rattle.std.proofs.Math.ListN.{get_or, set, length-set}

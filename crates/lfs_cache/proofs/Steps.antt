@@ -1,4 +1,8 @@
--- What each call of a cache leaves, as one fact about its frames and keys.
+-- Each call leaves a cache that shows what its definition says: `get_step`, `fill_step`, `write_step`,
+-- `write_fresh_step`, `settle_step`, `forget_step`, for `Cache`'s functions of these names. A key that is held has one
+-- frame, in LOCKED or in LRU (`one_queue`), so moving the frame is moving its entry; a key at no frame gets the one
+-- that is next, whose own key, if it had one, was clean and gives way. The limit of 24 LOCKED keys is kept at each
+-- step, as `has_next` of Fresh rests on it.
 use Rattle.std.proofs.Common.{◌≡◌, ◌≢◌, ◌⊎◌, ℕ, ◌+◌, ◌<◌, ◌≤◌, false, cond, nat_lt, List, [], ◌∷◌, length, Option, Some}
 use Rattle.std.proofs.Common.{None, refl, sym, ap, subst, ◌∙◌, inl, inr, arith}
 use Rattle.std.specs.Prelude.{map}

@@ -1,4 +1,8 @@
--- What was asked of a store, by the state as it was before a call.
+-- What was asked of a store is told from the state before the call: `asks_now` for `put`, `cut` and `set_attrs`,
+-- `asks_from` and `asks_placed` for a Rename, `asked_served` and `asked_refused` for all calls that change files.
+-- Between the start of a call and its changes the store was only read, so its state is as it was (`as_old`), and what
+-- the changes make is the effect of the call, by the lemma that `leaves` is. By this the store's own contract on what
+-- it was asked reaches the caller of a volume; a call that changed the store twice would have no one list of changes.
 use Rattle.std.proofs.Common.{◌≡◌, List, [], ◌∷◌, Result, Ok, Err, refl, sym, subst, ◌∙◌}
 use Rattle.lfs_types.specs.Asking.{WasAsked}
 use Rattle.lfs_types.specs.Caller.{Caller}

@@ -1,4 +1,8 @@
--- What a change of a file's attributes may be answered, and what it leaves.
+-- A Chmod, Chown or Chflags leaves a store that shows the world after it: `attrs_set` and `kind_stored` for these
+-- calls, `sets_attrs` for `set_attrs`. The file's bytes and kind stay, so what users see of it changes just as the
+-- request says (`seen_after`), also of a directory, of which they see no bytes. The attributes that are set are made
+-- from those the store showed, so all fields are given at once; a field that changed by itself between would be
+-- overwritten.
 use Rattle.std.proofs.Common.{◌≡◌, ℕ, List, [], ◌∷◌, length, Some, Ok, refl, sym, ap, subst, ◌∙◌}
 use Rattle.std.specs.Prelude.{IsSomeAnd}
 use Rattle.std.specs.FinMap as map

@@ -1,5 +1,8 @@
--- What a call comes to that a rule denies, that lacks something, that a store refuses, that shows something, or that
--- changes files.
+-- How to prove that a call came to what IsCallAt says, once for each way it can end: `denied`, `lacking`, `refused`,
+-- `shown` and `done`, for the functions that serve calls. Each way fixes what became of the store: nothing changed
+-- where a rule denied or a resource was wanting before, no content where the store refused, and else the change whose
+-- effect the caller of the lemma shows. A field added to IsCallAt is proved here, in five places; what a call leaves as
+-- it was is read off the request (`looks_same`), so a new request needs its line there.
 use Rattle.std.proofs.Common.{◌≡◌, None, Some, Ok, Err, inl, sym, subst, ◌∙◌}
 use Rattle.lfs_types.specs.Caller.{Caller}
 use Rattle.lfs_types.specs.StoreStates.{Follows, StoreState}

@@ -1,4 +1,8 @@
--- What a call that changes a file's bytes or its length may be answered, and what it leaves.
+-- A Write or SetLength whose bytes and mode were changed leaves a store that shows the world after it: `bytes_shows`
+-- and `changes_bytes`, for CutLemmas and WriteLemmas, so for `put` and `cut`. The store is asked for the bytes first
+-- and then for the mode without set-id bits, and the second finds the file with its new bytes (`changed_there`); users
+-- see a file's bytes as they are stored, if it's no directory. The tests give that it isn't (`change_regular`) and that
+-- the new length fits; a change of a file's bytes that sets a further attribute would be another field in ChangesBytes.
 use Rattle.std.proofs.Common.{◌≡◌, ℕ, ◌≤◌, Bool, true, false, List, [], ◌∷◌, ◌++◌, length, None, Some, refl, sym, ap}
 use Rattle.std.proofs.Common.{subst, ◌∙◌}
 use Rattle.std.specs.Prelude.{IsSomeAnd}

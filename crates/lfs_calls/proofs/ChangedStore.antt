@@ -1,4 +1,7 @@
--- The store after the file of a row was changed, and the world that it shows then.
+-- A store in which one row's file was changed shows the world with that file: `change_shows` and `change_tree`, for
+-- AttributeLemmas and ChangeLemmas. No name changes and no directory's bytes do, so listings and tree are as they were,
+-- and the visible file is changed as the world's is. The file must keep its kind and, if it's a directory, its bytes; a
+-- change of a directory's bytes goes through MovedStore, GrownStore or ShrunkStore.
 use Rattle.std.proofs.Common.{◌≡◌, ◌≢◌, ℕ, List, [], length, Some, refl, sym, ap, subst, ◌∙◌, ⊎_elim}
 use Rattle.std.proofs.lemmas.Bool.{cases_eq}
 use Rattle.std.specs.Prelude.{option_map}

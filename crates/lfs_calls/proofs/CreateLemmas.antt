@@ -1,4 +1,9 @@
--- The tree and the store after a new name was put into a directory.
+-- A new row's file and its name's block leave a store that shows the tree with that row: `shows_after` and
+-- `tree_after`, with `gives_name` for the name cache and `enters_first` for the order of entries, all for `make`. The
+-- number is the least free one in store and tree alike, so `effect` adds that same row (`world_is`); the name was free,
+-- so one entry more in one block lists just one row more (ListsRows-added of Listings). The hard part is a full
+-- directory (`crowded_in`, `roomy`): each of its blocks lacks room for a name of at most 255 bytes, hence has at least
+-- one entry, so another block size or entry size breaks these sums.
 use Rattle.std.proofs.Common.{◌≡◌, ◌≢◌, ℕ, ◌+◌, ◌*◌, ◌%◌, ◌<◌, ◌≤◌, List, [], ◌∷◌, length, Option, None, Some, refl}
 use Rattle.std.proofs.Common.{sym, ap, subst, ◌∙◌, ⊎_elim, arith}
 use Rattle.std.proofs.lemmas.Bool.{cases_eq}

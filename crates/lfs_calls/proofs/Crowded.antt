@@ -1,4 +1,8 @@
--- Where a new name fits in no block of a full directory, at least as many rows hang there as it has blocks.
+-- Where a name fits in no block of a directory that has all its blocks, at least as many rows hang there as it has
+-- blocks: `crowded`, for CreateLemmas and RenameEffects, so for the answer DirectoryFull. A block without room for 255
+-- bytes has an entry at least, entries have differing numbers (`listed-apart`), and each is a row that hangs there, so
+-- rows are no fewer than entries (`listed-le-children`). By this the rules, which know no blocks, can bound the
+-- refusal; a smaller block or a longer name could leave a block full without an entry.
 use Rattle.std.proofs.Common.{◌≡◌, ◌≢◌, ℕ, zero, suc, ◌/◌, ◌<◌, ◌≤◌, List, length, get_or, Option, None, Some, sym, ap}
 use Rattle.std.proofs.Common.{◌∙◌, subst, arith, length-append}
 use Rattle.std.specs.Prelude.{All, AllPairs, Contains}

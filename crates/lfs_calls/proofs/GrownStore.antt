@@ -1,4 +1,8 @@
--- The store after a row was made shows the tree with that row.
+-- A store with a new file, which a directory's block lists, shows the tree with the new row: `Shows-grown`, for
+-- CreateLemmas. Each number is the new one, the directory's or another, and each of the three parts of Shows is proved
+-- by these cases (`at_each`): the new file is empty, so it has a length and lists nothing. Nothing hangs in the new row
+-- as no row had that number as its parent (`childless`), which needs the tree; a number that some row still named would
+-- get children.
 use Rattle.std.proofs.Common.{◌≡◌, ◌≢◌, ℕ, List, [], length, None, Some, sym, ap, subst, ◌∙◌, ⊎_elim, arith}
 use Rattle.std.proofs.lemmas.Bool.{cases_eq}
 use Rattle.std.specs.Prelude.{option_map}

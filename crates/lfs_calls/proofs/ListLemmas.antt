@@ -1,4 +1,7 @@
--- What a List may be answered.
+-- A List answers the names of the rows, in byte order: `list_answer`, for `list`; `names_further` carries the loop of
+-- `names_of_directory`. The entries list just the rows that hang there, and the names that they have differ, so sorted
+-- they are the one list in order of these names (ByteOrder of `lfs_model`). It holds for any permutation of the entries
+-- that is sorted; if a directory listed `.` and `..`, the answer would have to leave them out.
 use Rattle.std.proofs.Common.{◌≡◌, ◌≢◌, ℕ, ◌+◌, ◌<◌, true, List, [], ◌++◌, length, map, Some, refl, sym, ap, subst, ◌∙◌}
 use Rattle.std.proofs.Common.{arith, add-one}
 use Rattle.std.specs.Prelude.{AllPairs, Contains}

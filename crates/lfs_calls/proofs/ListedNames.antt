@@ -1,4 +1,9 @@
--- What is found under names after a change, and that a row hangs where it is listed.
+-- What a cache of names says stays true by a change of content that keeps the directories' bytes: `attrs_keep_names`
+-- for `set_attrs`, `bytes_keep_names` for `cut` and `put`; `found_now`, `found_still` and `found_gone` do it for calls
+-- that change names. What is found under a name is what the directory's bytes list, and that is the row which hangs
+-- there (`number-child`), so a name of which the same row hangs after a call is found as before. The hard case is a
+-- name that isn't there: it's said of any number, also of one that has no directory, so a number that is free or given
+-- anew must have nothing in it.
 use Rattle.std.proofs.Common.{◌≡◌, ℕ, false, List, Option, None, Some, refl, sym, ap, subst, ◌∙◌, ⊎_elim}
 use Rattle.std.proofs.lemmas.Bool.{cases_eq}
 use Rattle.std.specs.Prelude.{IsSomeAnd, option_map}

@@ -1,4 +1,9 @@
--- What the bytes of a directory list, after a block of them was written.
+-- If one block of a directory's bytes is written, or one at their end, the directory lists what it listed, with the
+-- entries that the block got or lost: `old_listed` and `new_listed` for ListingsTaken and ListingsSwapped,
+-- `ListsRows-added` for CreateLemmas and MovedStore. Entries are listed block by block, so the list is the blocks
+-- before, the one written and those behind, and a write of 512 bytes at a multiple of 512 leaves the others
+-- (`block_other`). The lemmas on look-ups (`found_in_block`, `absent_further`) carry the loops of `search` and
+-- `find_room`; all stands on `entries_below`, so entries that crossed a block's end would break it.
 use Rattle.std.proofs.Common.{◌≡◌, ◌≢◌, ℕ, zero, suc, ◌+◌, ◌-◌, ◌*◌, ◌/◌, ◌%◌, ◌<◌, ◌≤◌, List, [], ◌∷◌, ◌++◌, length}
 use Rattle.std.proofs.Common.{take, drop, None, Some, refl, sym, ap, subst, ◌∙◌, ⊎_elim, arith, append_assoc}
 use Rattle.std.proofs.Common.{append-nil, add-zero, add-suc, add-one, nat_lt, length-take, length-drop}

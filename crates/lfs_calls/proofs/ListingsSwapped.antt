@@ -1,4 +1,7 @@
--- What the bytes of a directory list, after an entry of one of its blocks got another number.
+-- A directory's bytes with a block in which an entry got another number list the rows with that row in the other's
+-- place: `ListsRows-swapped`, for SwappedStore. The name stands in one block only, so changing it there is changing it
+-- in the whole list (`renumbered-middle`), and all other blocks stay (Listings). The entry keeps its length and its
+-- place, so there is always room; a name that grew with its number wouldn't.
 use Rattle.std.proofs.Common.{◌≡◌, ◌≢◌, ℕ, ◌+◌, ◌*◌, ◌/◌, ◌%◌, ◌^◌, ◌<◌, ◌≤◌, List, ◌++◌, length, Some, sym, ap, subst}
 use Rattle.std.proofs.Common.{◌∙◌, ⊎_elim, arith}
 use Rattle.std.specs.Prelude.{IsSome, bytes_eq}

@@ -1,4 +1,8 @@
--- What the bytes of a directory list, after an entry was taken away from one of its blocks.
+-- A directory's bytes with a block written without an entry list the rows without that one: `ListsRows-taken`, for
+-- TakeLemmas and MovedStore; `absent_before` and `absent_after` are for ListingsSwapped too. The name stands in one
+-- block only, as entries differ, so taking it from that block is taking it from the whole list (`without-middle`), and
+-- all other blocks stay (Listings). The count of blocks stays (`taken_length`), as an emptied block isn't given back;
+-- if it were, `behind` and the places of all later entries would move.
 use Rattle.std.proofs.Common.{◌≡◌, ◌≢◌, ℕ, ◌+◌, ◌*◌, ◌/◌, ◌%◌, ◌≤◌, List, [], ◌∷◌, ◌++◌, length, None, sym, ap, subst}
 use Rattle.std.proofs.Common.{◌∙◌, ⊎_elim, arith}
 use Rattle.std.specs.Prelude.{IsSome, bytes_eq}

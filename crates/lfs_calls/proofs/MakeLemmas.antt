@@ -1,4 +1,9 @@
--- What a call that makes a row may be answered, and what it leaves.
+-- A Create or Mkdir is judged by the walk to its directory and the tests of that: `make_denied`, `to_tests` and
+-- `parent_is_free`, for `judge_make`; `Way`, what the names before the last lead to, serves removals and arrivals too.
+-- A path is split into its front and its last name, so the table of tests is that of the walk with those of the
+-- directory behind, and where the walk ends the row is the one that the store shows. Further, the changes asked of the
+-- store are allowed and give just the new file and the block (`can_make`, `makes_file`), and the number found is that
+-- of `effect` (`least_unused-is`); a third change for a new file would go here.
 use Rattle.std.proofs.Common.{◌≡◌, ◌≢◌, ℕ, zero, suc, ◌+◌, ◌-◌, ◌%◌, ◌<◌, ◌≤◌, ◌==◌, true, false, List, [], ◌∷◌, ◌++◌}
 use Rattle.std.proofs.Common.{length, Option, None, Some, Ok, Err, refl, sym, ap, subst, ◌∙◌, ⊎_elim, arith}
 use Rattle.std.specs.Prelude.{not, is_some, is_none, IsSome}

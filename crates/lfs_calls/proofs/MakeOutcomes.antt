@@ -1,4 +1,7 @@
--- What a call that makes an empty file of a kind may be answered, by what its kinds have in common.
+-- What a Create or Mkdir may be answered, by one lemma for both: `make_denial`, `make_no_inodes`, `make_full`,
+-- `make_done` and `make_refused`, for `make`. The two requests differ in the kind alone, and both come to the same by
+-- unfolding, so each lemma is proved for either. The order of causes is fixed here: rules, numbers, room, then the
+-- store; a third kind of file needs a line in each.
 use Rattle.std.proofs.Common.{◌≡◌, ℕ, ◌≤◌, List, length, None, Some, refl}
 use Rattle.lfs_types.specs.Caller.{Caller}
 use Rattle.lfs_types.specs.Stored.{bytes_of, MayRefuse}

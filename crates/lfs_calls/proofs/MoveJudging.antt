@@ -1,4 +1,8 @@
--- What the judge of a Rename finds, and what the rules say of it.
+-- What the judge of a Rename finds is what the rules say: `move_barred`, `move_beneath`, `move_not_granted` and
+-- `move_granted` for `judge_target`, `way_judged` and `file_apart` for `judge_apart`. The tests of a move are those of
+-- the place, then whether the row is on the way there, then whether it may leave (`to_tests`), each reached only where
+-- those before are met. The judge walks the way only for a directory, since a file is on no way (`file_apart`), while
+-- the rules always ask; another order of the tests in `moving_tests` changes which denial comes first.
 use Rattle.std.proofs.Common.{◌≡◌, ℕ, ◌==◌, ◌+◌, ◌<◌, true, false, cond, nat_eq, List, [], ◌∷◌, ◌++◌, length, Option}
 use Rattle.std.proofs.Common.{None, Some, Ok, Err, refl, sym, ap, ◌∙◌, arith, eq-eqb, ne_eqb, length-append}
 use Rattle.std.specs.Prelude.{not, Result, OnOk, IfErr, IfSome}

@@ -1,4 +1,8 @@
--- What a store is asked where two blocks of directories are written.
+-- A store may be asked for the two blocks of a Rename, with a removal behind them: `can_put_blocks`, `can_swap_blocks`
+-- and `can_put_one`, for `put_blocks` and `put_swapped`. The first block stays within its directory, so all lengths are
+-- the same when the second is checked (`same_length`), also where both are of one directory. If both are one block,
+-- only the second is written, which comes to the same (`splice_twice`, `writes_one`); CanApply bounds how many changes
+-- and bytes there may be, so a third block would need new sums.
 use Rattle.std.proofs.Common.{◌≡◌, ℕ, ◌+◌, ◌%◌, ◌<◌, ◌≤◌, List, [], ◌∷◌, ◌++◌, length, take, drop, Option, None, Some}
 use Rattle.std.proofs.Common.{refl, sym, ap, subst, ◌∙◌, ⊎_elim, arith, length-append}
 use Rattle.std.proofs.lemmas.Bool.{cases_eq}

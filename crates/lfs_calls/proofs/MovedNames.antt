@@ -1,4 +1,8 @@
--- What a store shows and lists after a row got another name.
+-- After a Rename the store shows the moved row, and a cache may say its new name and no more its old one: `moves_free`
+-- and `moves_over`, for `move_free` and `move_over`, with `shows_free` and `shows_over` for RenameEffects. A move
+-- changes where one row hangs and no row's file, so every other name leads where it led (`found_still`), and the two
+-- names of the move are read off the tree after it. Over another row that row's number is gone, and nothing hung in it
+-- (`childless`), so no name that was found in it is lost; a Rename over a filled directory would break this.
 use Rattle.std.proofs.Common.{◌≡◌, ◌≢◌, ℕ, List, None, Some, sym, ap, subst, ◌∙◌, ⊎_elim}
 use Rattle.std.proofs.lemmas.Bool.{cases_eq}
 use Rattle.std.specs.Prelude.{option_map}

@@ -1,4 +1,9 @@
--- The blocks in which a moved row's names are looked for.
+-- In a Rename the room for the new name is looked for in its directory as it's once the old entry is taken away:
+-- `seen_through` and `seen_listing`, for `find_places` and `find_swap`, and `nowhere` and `somewhere` for the answer
+-- DirectoryFull. Nothing is written yet, so the directory's bytes are read through the block in hand if both
+-- directories are one (`seen_same`), and else as they are (`seen_apart`); they list the rows without the moved one. The
+-- hard part is that the two agree block by block (`left_in_one`): a block without the old entry is what `without`
+-- leaves; a Rename that looked for room first would have another meaning of full.
 use Rattle.std.proofs.Common.{◌≡◌, ◌≢◌, ℕ, ◌+◌, ◌*◌, ◌/◌, ◌^◌, ◌<◌, ◌==◌, List, [], ◌∷◌, length, take, drop, Option}
 use Rattle.std.proofs.Common.{None, Some, sym, ap, subst, ◌∙◌, ⊎_elim, arith}
 use Rattle.std.specs.Prelude.{IsSomeAnd}

@@ -1,4 +1,9 @@
--- The store after a row's entry was taken away from one directory and put into another, or into the same.
+-- A store from one of whose directories a row's entry was taken, and in another put, shows the world with the row
+-- moved: `Shows-moved`, for MovedNames; its two halves serve SwappedStore too. A directory's bytes aren't visible, so
+-- files seen stay the same (`seen_same`); lengths and listings hold for the written directory by ListsRows-taken and
+-- ListsRows-added, and for all others as nothing hangs in them anew (`listed_after`). Between the two blocks the store
+-- shows no world, only the listings of the rows without the moved one (`taken_listed`), so the proof carries sizes and
+-- listings apart; it doesn't ask whether the directories differ.
 use Rattle.std.proofs.Common.{◌≡◌, ◌≢◌, ℕ, ◌*◌, ◌≤◌, List, [], length, None, Some, sym, ap, subst, ◌∙◌, ⊎_elim, arith}
 use Rattle.std.proofs.lemmas.Bool.{cases_eq}
 use Rattle.std.specs.Prelude.{option_map}

@@ -1,4 +1,8 @@
--- Calls of what a path leads to: the walk decides, and then tests of attributes do.
+-- A call on what a path leads to is decided by the walk, and then by tests of the attributes that the store shows:
+-- `serves`, `barred` and `not_reached` for eight calls, each with its IsPathCall (`stat_path` to `chflags_path`). The
+-- table of tests is the walk's with those of the row behind, and the store shows the row's attributes but for a
+-- directory's size, which counts for nothing in them (`sizeless`). A test that asked for the size of a directory would
+-- break `sizeless`; a new call on one path needs just its IsPathCall.
 use Rattle.std.proofs.Common.{◌≡◌, ℕ, true, List, length, None, Ok, Err, refl, sym, ap, ◌∙◌, ⊎_elim}
 use Rattle.std.specs.Prelude.{not}
 use Rattle.std.proofs.lemmas.Bool.{cases_Bool, cond-false}

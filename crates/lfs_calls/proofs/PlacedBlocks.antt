@@ -1,4 +1,8 @@
--- The blocks that put a row in its place are blocks of their directories.
+-- The blocks that a Rename writes are blocks of their directories: `old_block` for `move_free` and `move_over`,
+-- `new_block` and `swap_block` for one of these each. The block without the old entry stands in its directory's bytes;
+-- the second was found in the bytes as they are seen after that, which are as many as the stored ones (`seen_length`),
+-- so its place is good in these too. A block that was given back when its last entry goes would make the two lengths
+-- differ.
 use Rattle.std.proofs.Common.{◌≡◌, ◌+◌, ◌%◌, ◌≤◌, List, ℕ, length, ap, arith}
 use Rattle.lfs_types.specs.Stored.{bytes_of}
 use Rattle.lfs_types.specs.Tree.{File, World, Content}

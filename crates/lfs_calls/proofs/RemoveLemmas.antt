@@ -1,4 +1,8 @@
--- What a call that takes away a name may be answered.
+-- A removal is judged by the walk to the directory, the step to the name, and the tests of both rows: `remove_denied`,
+-- `remove_stopped`, `remove_decided` and `removal_is`, for `judge_remove`. The walk along the whole path is that to its
+-- directory with one step more (`walked_last`), so where either stops the call is denied as the rules say; behind it
+-- the store's attributes are those tested. The judge keeps both rows for what comes after (`removal_is`), so the row's
+-- number isn't looked up again; tests that asked for another row would have to be handed on too.
 use Rattle.std.proofs.Common.{◌≡◌, ℕ, ◌+◌, ◌<◌, List, [], ◌∷◌, ◌++◌, length, Option, Some, Result, Ok, Err, refl, sym}
 use Rattle.std.proofs.Common.{ap, ◌∙◌, arith}
 use Rattle.std.specs.Prelude.{not, unwrap_or}

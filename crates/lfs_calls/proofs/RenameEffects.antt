@@ -1,4 +1,9 @@
--- The tree and the store after a Rename.
+-- After a Rename's blocks are written, the store shows the world after it: `shows_after` for a place that was free,
+-- `shows_over` for that of another row, both for RenameOutcomes; `moves_first` and `swaps_place` say where the entries
+-- stand. The judged rows are those to which the paths lead, so `effect` comes to `after_rename` with their numbers
+-- (`to_places`), and that is what MovedNames says the blocks show. A name that is there needs no room (`roomy`), and
+-- one that is free fills its directory just where no room was found (`fills`, `not_full`); if `after_rename` took
+-- another order, both halves change.
 use Rattle.std.proofs.Common.{◌≡◌, ◌≢◌, ℕ, ◌≤◌, ◌==◌, cond, List, length, None, Some, refl, sym, ap, subst, ◌∙◌, eq-eqb}
 use Rattle.std.proofs.Common.{ne_eqb}
 use Rattle.std.specs.Prelude.{if◌then◌else◌}

@@ -1,4 +1,8 @@
--- What a Rename comes to, by what has its new name.
+-- What a Rename comes to, by what has its new name: itself, nothing, or another row: `goes_with`, `halts_so` and
+-- `renamed`, for `rename`. The judge's finding fixes the case (`found_by`); each case puts blocks as MovedPlaces says,
+-- the store then shows the world after it (RenameEffects), and that is a tree by `effect_tree` of `lfs_model`. A
+-- refusal needs its cause: no room only where the name is free and fits nowhere (`lacks`), and a row that gives way has
+-- nothing in it, by the met rules (`gives_way`); another reason of a store is a case more in `IsCauseOf`.
 use Rattle.std.proofs.Common.{◌≡◌, ◌≢◌, ℕ, ◌≤◌, ◌==◌, Bool, true, false, List, length, Option, None, Some, Result, Ok}
 use Rattle.std.proofs.Common.{Err, inl, refl, sym, ap, subst, ◌∙◌, arith, eq-eqb, ne_eqb}
 use Rattle.lfs_types.specs.Caller.{Caller}

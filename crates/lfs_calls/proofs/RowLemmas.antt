@@ -1,4 +1,8 @@
--- What a call that removes a file or an empty directory may be answered.
+-- A removal is decided by the shared tests and its own, and what may be removed has nothing in it: `to_removal` and
+-- `removed_childless` for `judge_removal`, `row_taken` for `remove`. The store tells whether a directory is empty by
+-- its entries, the rules by the rows in it, and these agree as the entries list the rows (`directory_empty`). Nothing
+-- hangs in the row, so the rows without it are a tree, and the store without its file and entry shows them; a directory
+-- that kept entries of removed rows, or `.` and `..`, would break `directory_empty`.
 use Rattle.std.proofs.Common.{◌≡◌, ℕ, ◌<◌, ◌==◌, Bool, true, false, List, [], ◌∷◌, ◌++◌, length, None, Some, refl, sym}
 use Rattle.std.proofs.Common.{ap, subst, ◌∙◌, arith}
 use Rattle.std.specs.Prelude.{Contains, IsTrue, ◌↔◌}

@@ -1,4 +1,9 @@
--- What the store says of a row, and what a step of a walk finds.
+-- What a store says of a number is what the tree has of its row, but for a directory's size: `attrs_reads` and
+-- `child_listed`, on which nearly all lemmas of calls stand; `steps_barred` and `steps_on` serve `step`. Shows makes
+-- the visible files the same, and a directory's bytes are not visible, so its size in the tree is 0; no test asks for
+-- the size of a directory. Each step of a walk ends at a stored row, by induction on the names (`walked-stored`), so
+-- the store never lacks attributes for it (`not_shown`); a test that asked for a directory's size would get two
+-- answers.
 use Rattle.std.proofs.Common.{◌≡◌, ℕ, ◌+◌, Bool, true, false, cond, List, [], ◌∷◌, length, Option, None, Some, Result}
 use Rattle.std.proofs.Common.{Ok, Err, refl, sym, ap, ◌∙◌, subst}
 use Rattle.std.specs.Prelude.{option_map, IsSome, ok_or}

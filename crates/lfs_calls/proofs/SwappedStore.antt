@@ -1,5 +1,8 @@
--- The store after a row's entry was taken away from one directory, another entry, in the same or in another, got its
--- number, and the file that had the place was removed.
+-- A store in which a row's old entry was taken, another entry got its number, and the file that had the place was
+-- removed, shows the tree with the row in that place: `Shows-swapped`, for MovedNames. The first block is written as
+-- for any move (MovedStore), the second lists the same names with one number changed (ListingsSwapped), and the rows
+-- after it are those of SwappedRows. The removal leaves each other file (`left`), so what both blocks make of sizes and
+-- listings holds still; it's for the tree, not for this, that the removed row must be childless.
 use Rattle.std.proofs.Common.{◌≡◌, ◌≢◌, ℕ, ◌^◌, ◌<◌, List, length, None, Some, sym, ap, subst, ◌∙◌, ⊎_elim}
 use Rattle.std.proofs.lemmas.Bool.{cases_eq}
 use Rattle.std.specs.Prelude.{option_map}

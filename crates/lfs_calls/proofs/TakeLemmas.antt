@@ -1,4 +1,8 @@
--- What a store is asked where a row is taken away, and what it shows without it.
+-- A row taken away leaves a store that shows the tree without it: `shows_without` for RowLemmas, `can_take`,
+-- `takes_file` and `loses_name` for `take_row`. The store is asked for the block without the entry and then for the
+-- removal, of two numbers that differ as no row hangs in itself (`unlike`); the block lists all but the name
+-- (ListingsTaken). Nothing hung in the row, so names found elsewhere are found still; both changes are asked for as
+-- one, as between them the store shows no tree.
 use Rattle.std.proofs.Common.{◌≡◌, ◌≢◌, ℕ, List, [], ◌∷◌, length, None, Some, refl, sym, ap, subst, ◌∙◌, ⊎_elim, arith}
 use Rattle.std.proofs.lemmas.Bool.{cases_eq}
 use Rattle.std.specs.Prelude.{IsSome, option_map}

@@ -1,4 +1,8 @@
--- What the judge of what has a row's new name finds, and what the rules say of it.
+-- What has a row's new name is judged as the rules do: `there_kept`, `there_unlike`, `full_is` and `gives_is`, all for
+-- `judge_there`. The tests are those of the directory, then of kinds, then of emptiness, each reached only where those
+-- before were met (`to_kinds`, `to_empty`), and the store's attributes are those tested. Whether a directory is empty
+-- is asked only where it's needed, as a file has no children anyhow (`file_empty`); another order of `replaced_tests`
+-- changes which denial is told.
 use Rattle.std.proofs.Common.{◌≡◌, ℕ, ◌+◌, ◌==◌, Bool, true, false, List, [], ◌∷◌, ◌++◌, length, None, Some, Ok, Err}
 use Rattle.std.proofs.Common.{sym, ap, ◌∙◌}
 use Rattle.lfs_types.specs.Caller.{Caller}

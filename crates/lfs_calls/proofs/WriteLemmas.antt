@@ -1,4 +1,8 @@
--- What a Write may be answered, and what it leaves.
+-- A Write leaves a store that shows the world after it: `write_volume` for `write`, `can_put` for `put`;
+-- `refused_outcome` is for MakeOutcomes. The bytes start where the request says, or at the end by the size that the
+-- store shows, and the spliced bytes fit (`length-splice`), so ChangeLemmas gives the rest. A Write of no bytes changes
+-- nothing, not even the set-id bits (`write_nothing`), and asks the store for nothing; a call that cleared these bits
+-- all the same would need its own case.
 use Rattle.std.proofs.Common.{◌≡◌, ℕ, ◌+◌, ◌≤◌, true, false, List, [], ◌∷◌, length, None, Some, inl, sym, ap, subst}
 use Rattle.std.proofs.Common.{◌∙◌, arith, length-append, length-take, length-drop}
 use Rattle.std.specs.Borrow.{Bor}

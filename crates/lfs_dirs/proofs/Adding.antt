@@ -1,4 +1,8 @@
--- An entry written behind the entries of a directory block.
+-- An entry written behind the others leaves a directory block with the entry last: `block_added` for `push_entry`, and
+-- `zeros_at_tail` for `added`, which asks whether there is room. A block is its entries' bytes and zeros up to 512, so
+-- the entry's bytes written at the end of the first replace as many zeros (`written`). `added` refuses by the bytes at
+-- the end alone, which is right as an entry that fits leaves as many zeros there (`zeros_at_tail`); blocks that kept
+-- old bytes behind their entries would make it refuse too much.
 use Rattle.std.proofs.Common.{◌≡◌, ℕ, ◌+◌, ◌-◌, ◌≤◌, List, [], ◌∷◌, ◌++◌, length, take, drop, replicate, None, refl}
 use Rattle.std.proofs.Common.{sym, ap, ◌∙◌, subst, arith, length-append, append_assoc}
 use Rattle.std.specs.Prelude.{All}

@@ -1,4 +1,8 @@
--- What holds of lists of entries when one is added, taken away or gets another number.
+-- What is found under each name, and that entries stay entries, when one is added, taken away or given another number:
+-- `number_in-without_other`, `number_in-renumbered`, `AreEntries-added`, `AreEntries-without`, for the writing of
+-- blocks here and the listings of `lfs_calls` and `lfs_trees`. By induction on the list, where each entry has the name
+-- or hasn't (`has_name`); a name has one entry at most (`AreEntries`), so what is found first is all there is of it
+-- (`number_in-Contains`). With two entries of one name, taking one away would show the other.
 use Rattle.std.proofs.Common.{◌≡◌, ◌≢◌, ℕ, zero, suc, ◌+◌, ◌^◌, ◌<◌, ◌≤◌, Bool, true, false, not, List, [], ◌∷◌, ◌++◌}
 use Rattle.std.proofs.Common.{length, get_or, None, Some, refl, sym, ap, ◌∙◌, subst, ⊎_elim, arith}
 use Rattle.std.specs.Prelude.{All, AllPairs, Contains, IsSome, bytes_eq, filter, option_map}

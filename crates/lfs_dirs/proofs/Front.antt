@@ -1,4 +1,7 @@
--- The entry that bytes begin with, from the five bytes at their front and the bytes behind those.
+-- The entry that bytes begin with is read off their first five and those behind: `entry_at_front` and `none_at_front`,
+-- both for `first_entry`. Four bytes are the number, one is the name's length, and the name is what is behind; the
+-- bytes are spelled by that entry since the number's bytes are those it spells, as each is below 256. Where the number
+-- is 0, or the name has no room, no entry is read; another order of number and length changes only this file's sums.
 use Rattle.std.proofs.Common.{◌≡◌, ℕ, zero, suc, ◌^◌, ◌<◌, ◌≤◌, false, List, [], ◌∷◌, ◌++◌, length, get_or, take, drop}
 use Rattle.std.proofs.Common.{refl, sym, ap, ◌∙◌, subst, arith}
 use Rattle.std.specs.Int.{w32, to_be_bytes, from_be_bytes}

@@ -1,4 +1,7 @@
--- What holds of directory blocks and their entries.
+-- A block spells one list of entries (`entries_of-block`), and entries have one block (`one_spelling`): for
+-- `is_directory_block`, `push_entry` and all that lists a directory. The bytes are those of the entries and then zeros
+-- (`Spells-bytes`); each entry reads back because its name's length stands before the name, and zeros begin no entry,
+-- since no file has number 0. A number 0 in an entry, or a name of length 0, would end the list where it stands.
 use Rattle.std.proofs.Common.{◌≡◌, ◌≢◌, ℕ, zero, suc, ◌+◌, ◌*◌, min, ⊎_elim, ◌<◌, ◌≤◌, Bool, true, false, cond, List}
 use Rattle.std.proofs.Common.{[], ◌∷◌, ◌++◌, length, take, drop, replicate, Option, None, Some, refl, sym, ap, ◌∙◌}
 use Rattle.std.proofs.Common.{subst, arith, length-append, append_assoc, lt-ltb}

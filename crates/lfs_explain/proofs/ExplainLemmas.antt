@@ -1,4 +1,7 @@
--- What is told of a call is asked as its rules.
+-- The tests told of any call, from its trails, are asked as those of `rule_table`: `told`, for `explain` and ActLemmas
+-- of `lfs_who`. A trail is the rows along its path with their count (`path_is`), so each call is a case of TableLemmas
+-- or MoveLemmas, and its own tests are the same by the attributes. The level is handed over apart from the trails, and
+-- is the world's; a new request needs its line here and in `table_by`.
 use Rattle.std.proofs.Common.{◌≡◌, ℕ, ◌==◌, ◌++◌, List, length, Some, refl, sym, ap, ◌∙◌}
 use Rattle.std.specs.Prelude.{slice_get}
 use Rattle.std.specs.FinMap as fin

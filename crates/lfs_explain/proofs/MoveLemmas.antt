@@ -1,4 +1,8 @@
--- The tests of a row that gets another place, told from the rows that its paths lead through.
+-- The tests of a Rename told from the rows of its two paths are asked as those of the rules: `rename_told`, for
+-- ExplainLemmas. What stands behind the two walks is compared only where both trails are long enough, and there the
+-- moved row, both directories and the row in the new place are rows of the trails (`moving_is`). The way to the place
+-- is the front of the second trail (`trail_is`); whether the row there is childless is known from the trail (IsKnown),
+-- so a test of another row's children couldn't be told.
 use Rattle.std.proofs.Common.{◌≡◌, ℕ, suc, ◌+◌, ◌-◌, ◌<◌, ◌==◌, Bool, cond, List, [], ◌∷◌, ◌++◌, length, take, map}
 use Rattle.std.proofs.Common.{Option, None, Some, refl, sym, ap, ◌∙◌, arith}
 use Rattle.std.specs.Prelude.{not, slice_get}

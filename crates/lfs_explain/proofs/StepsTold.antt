@@ -1,4 +1,8 @@
--- The tests of a trail, step by step; the rows on a trail, one by one; the tests that are asked, one by one.
+-- Loops over a trail and over tests, one item at a time, come to the whole: `told_more` and `told_all` for
+-- `push_trail`, `asks_next` to `asks_all` for `asked_count`, `failing_next` and `failing_here` for `verdict`,
+-- `any_past` and `place_past` for `place_on`. Each takes the first item off what is left of the list (`left_from`):
+-- what was found so far, with what is left, is the whole, and it's told before and after each step. None of them needs
+-- anything of calls or rows; a trail's step with another number of tests changes `step_told` alone.
 use Rattle.std.proofs.Common.{◌≡◌, ℕ, zero, suc, ◌+◌, ◌-◌, ◌<◌, ◌≤◌, ◌==◌, ◌||◌, Bool, true, false, cond, List, [], ◌∷◌}
 use Rattle.std.proofs.Common.{◌++◌, length, min, take, drop, get_or, Option, None, Some, refl, sym, ap, ◌∙◌, add-one}
 use Rattle.std.proofs.Common.{append_assoc, append-nil, arith, eq-eqb}

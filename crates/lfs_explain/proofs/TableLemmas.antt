@@ -1,4 +1,9 @@
--- The tests that are told from the rows that paths lead through are asked as those of the rule table.
+-- The tests that are told from the rows on a path are asked as those of `rule_table`: `reaching_told`, `making_told`,
+-- `removing_told` and the two behind it for ExplainLemmas, `arriving_told` for MoveLemmas; ActLemmas of `lfs_who` uses
+-- them too. Only the tests up to the first unmet one are compared (`asked`), so what stands behind a walk must be the
+-- same only where the rows go so far, and there the last row and its directory are those of the path (`end_is`,
+-- `dir_is`). The whole tables aren't the same, since `rule_table` goes on with row 0 where a name isn't there; a test
+-- asked of another row than the last or its directory has no place in a trail.
 use Rattle.std.proofs.Common.{◌≡◌, ℕ, zero, suc, ◌-◌, ◌<◌, ◌==◌, Bool, true, List, [], ◌∷◌, ◌++◌, length, take, Option}
 use Rattle.std.proofs.Common.{None, Some, refl, sym, ap, ◌∙◌, arith, append_assoc}
 use Rattle.std.proofs.lemmas.List.{take_all}

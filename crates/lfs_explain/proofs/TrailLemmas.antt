@@ -1,4 +1,9 @@
--- What the rows that names lead through say of a walk.
+-- The rows that names lead through tell all that a walk asks: `walk_told`, with `seat` (which row stands where),
+-- `end_told` (what has the last name) and `visited_told` (the way as numbers), for TableLemmas and MoveLemmas. By
+-- induction on the names: a trail goes on just where the next name is there, so its length answers NameThere, and the
+-- attributes of its rows the two other tests. The hard side is the trail's end, where the walk would go on with row 0,
+-- so all lemmas ask that the trail be long enough; a step that needed more than number and attributes breaks
+-- `walk_told`.
 use Rattle.std.proofs.Common.{◌≡◌, ℕ, zero, suc, ◌+◌, ◌<◌, ◌≤◌, true, List, [], ◌∷◌, ◌++◌, length, take, map, Option}
 use Rattle.std.proofs.Common.{None, Some, refl, sym, ap, subst, ◌∙◌, arith}
 use Rattle.std.specs.Prelude.{is_some, unwrap_or, option_map, slice_get}

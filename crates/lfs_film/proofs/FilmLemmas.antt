@@ -1,4 +1,8 @@
--- Lists of rows grow, row by row, and a page of its parts.
+-- Changed rows are listed one by one, and a page is written part by part: `rows_kept` and `rows_more` for
+-- `changed_rows`, `parts_written` for the writers of the page, `page_same` and `page_bounded` for `write_page`. The
+-- rows so far are those that differ among the first ones, so a row more is added just if it differs from the old row in
+-- its place. What stands round the frames is short and fixed (`told_short`), so the page is bounded where the frames
+-- are; longer texts change the sum of `five_short`.
 use Rattle.std.proofs.Common.{◌≡◌, ℕ, suc, ◌+◌, ◌≤◌, Bool, true, false, not, List, [], ◌∷◌, ◌++◌, length, map, bytes_eq}
 use Rattle.std.proofs.Common.{Bor, Option, refl, sym, ◌∙◌, arith, append-nil, length-append, subst}
 use Rattle.std.specs.Io.KnownBytes.{Appends}

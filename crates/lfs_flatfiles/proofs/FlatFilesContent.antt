@@ -1,4 +1,8 @@
--- The files at places, as a finite map.
+-- The content of a list of places is a map with the file at each place (`get-content_of`), so a place written is an
+-- insertion, one emptied a removal, one changed a change (`content_of-set`, `content_of-gone`, `content_of-changed`):
+-- for each call of `FlatFiles`. By induction on the list, whose places are numbered from 0 in order; two maps are the
+-- same where each number has the same (`same_map`). Room goes the same way (`grows_at`): no place loses any, which is
+-- why a change that had room has it still.
 use Rattle.std.proofs.Common.{◌≡◌, ◌≢◌, ℕ, zero, suc, ◌+◌, ◌<◌, ◌≤◌, List, [], ◌∷◌, ◌++◌, length, set, get_or, Option}
 use Rattle.std.proofs.Common.{None, Some, option_map, is_some, IsSome, IsFalse, refl, sym, ap, ◌∙◌, inl, inr}
 use Rattle.std.proofs.Common.{arith}

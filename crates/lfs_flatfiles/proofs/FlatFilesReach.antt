@@ -1,4 +1,8 @@
--- Changes that may be asked for name places, and end within the limit of a file.
+-- Changes that may be asked for name places of the list and end within a file's limit: `all_in_reach` for `apply`,
+-- `content_below`, `end_of_file` and `used_within` for `make_change`. Each file of the content is at a place of the
+-- list, and each change keeps it so, by induction on the changes as they are made (`below_changed`). A Put ends where
+-- the spliced bytes end or before (`end_within`), so the room made for it is within the limit; a change that named a
+-- number without a file, other than Make, would have to say that it's below the count.
 use Rattle.std.proofs.Common.{◌≡◌, ℕ, zero, suc, ◌<◌, ◌≤◌, List, [], ◌∷◌, length, Option, None, Some, is_some, IsSome}
 use Rattle.std.proofs.Common.{IsSomeAnd, All, refl, sym, ap, ◌∙◌, inl, inr, arith}
 use Rattle.std.specs.FinMap as map

@@ -1,4 +1,9 @@
--- Keys that are counted one by one.
+-- The check counts the live bytes of each segment key by key, and what is counted at the end is all of them:
+-- `count_one`, `count_none` and `count_number`, for `count_block`, `count_record` and `check_number`, with `live_all`
+-- for `check_segment`. The invariant is IsCounted: the keys of earlier numbers, and of this one below a code, have good
+-- places, and the counts are their sum (`before-more`); a key with a place adds 512 bytes or, for a record, 128 to its
+-- segment. The hard jump is over a child block without address and over a free number, whose keys are passed at once as
+-- none has a place (`child_none`, `free_nowhere`); a new kind of block must get a code and be walked in that order.
 use Rattle.std.proofs.Common.{◌≡◌, ◌≢◌, ℕ, zero, suc, ◌+◌, ◌-◌, ◌*◌, ◌/◌, ◌%◌, ◌<◌, ◌≤◌, ◌^◌, List, [], ◌∷◌, length}
 use Rattle.std.proofs.Common.{None, Some, false, set, refl, sym, ap, ◌∙◌, subst, inl, inr, arith}
 use Rattle.std.specs.Prelude.{slice_index, slice_set}

@@ -1,4 +1,8 @@
--- What the log names at the place of a key, by the entry of its address.
+-- An entry names a key just if the log does so at the key's place: `name_block` and `named_block` for `check_name`,
+-- `name_record` and `named_record` for `check_record_name`. A block's place is four times its address, where the entry
+-- names its first unit; a record's is the slot of an inode block, where the bytes in the slot must say the number and
+-- version too. Each direction is needed: one to go on, the other to make a fault of what isn't so; a kind of block more
+-- needs its line in `owner_in-first`.
 use Rattle.std.proofs.Common.{◌≡◌, ◌≢◌, ℕ, ◌+◌, ◌*◌, ◌/◌, ◌<◌, Option, None, Some, refl, sym, ap, ◌∙◌, subst, inl, inr}
 use Rattle.std.proofs.Common.{arith}
 use Rattle.lfs_segments.specs.declared.entry.LogicalBlock.{LogicalBlock}

@@ -1,4 +1,8 @@
--- A segment's log, read block by block.
+-- A segment read block by block gives the entries that the log has: `passed_named`, `passed_summary` and `read_on` for
+-- `Reader::pass` and `goes_on`, `named_here` for `name_at`. The reader holds the entries of the last summary that
+-- aren't passed yet, or has ended, which is just what `expected` is by induction on the blocks; it has ended where a
+-- summary is expected and none stands. The label at address 0 is no block of the log (`label_named`), so the first
+-- segment begins one later; another block outside the log would need its own case.
 use Rattle.std.proofs.Common.{◌≡◌, ℕ, zero, suc, ◌+◌, ◌-◌, ◌*◌, ◌/◌, ◌<◌, ◌≤◌, Bool, true, false, List, [], ◌∷◌, ◌++◌}
 use Rattle.std.proofs.Common.{Option, Some, None, if◌then◌else◌, length, get_or, take, drop, refl, sym, ap, ◌∙◌, inl}
 use Rattle.std.proofs.Common.{inr, arith}

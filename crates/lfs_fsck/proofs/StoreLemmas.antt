@@ -1,4 +1,9 @@
--- A log that was checked is one that a store may stand on.
+-- A log whose checks all passed is one that a store may stand on: `is_stored`, for `check_parts`; `other_frames` says
+-- that the number of frames makes no difference. With an empty cache and nothing waiting, all that IsStore asks of
+-- locks and mirrors holds of none, so what is left is just what was checked: files (`checked_file`), keys and their
+-- sums, reserved numbers and the end of the log. A block past a file's size has no address, as each counted key lies
+-- below it (`none_past`); whatever IsStore is made to ask of the log must be checked by `check_parts`, or
+-- `settled_store` can't be built.
 use Rattle.std.proofs.Common.{◌≡◌, ◌≢◌, ℕ, ◌-◌, ◌*◌, ◌<◌, ◌≤◌, List, [], length, Some, true, false, is_some, refl, sym}
 use Rattle.std.proofs.Common.{ap, ◌∙◌, subst, inl, inr, arith}
 use Rattle.std.specs.Prelude.{IsSome}

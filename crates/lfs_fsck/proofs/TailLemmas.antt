@@ -1,4 +1,8 @@
--- The bytes past a file's size.
+-- A file whose last block is zeros past its size is padded: `is_padded` and `last_zeros`, for `check_tail`. A block
+-- past the size has no address, as each key that was counted lies below it (KeyLemmas), so it reads as zeros; only the
+-- last block can have bytes past the size, and only where the size isn't a whole number of blocks. Each block has 512
+-- bytes as it lies in the volume (`whole_at`); a key past the size that was let through would be an unread block of old
+-- bytes.
 use Rattle.std.proofs.Common.{◌≡◌, ◌≢◌, ℕ, ◌+◌, ◌*◌, ◌/◌, ◌%◌, ◌<◌, ◌≤◌, List, [], length, sym, ap, ◌∙◌, subst, inl}
 use Rattle.std.proofs.Common.{inr, arith}
 use Rattle.std.specs.Prelude.{slice_index}

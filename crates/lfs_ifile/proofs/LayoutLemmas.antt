@@ -1,4 +1,7 @@
--- Lemmas about the bytes of an ifile: how long its parts are, and what is read back from it.
+-- Each number of `ifile_bytes` is read back where it was put (`laid_out-ifile_bytes`, `use-ifile_bytes`), and their
+-- length is known (`length-ifile_bytes`): for `Ifile::bytes`, LoadingLemmas, `lfs_image` and `lfs_logstore`. The bytes
+-- are split round one segment's eight, before which 12 + 8 * seg stand, by induction over the segments
+-- (`length-segments`). Another width of a field changes each of these lengths, `row_place`, and all that reads by them.
 use Rattle.std.proofs.Common.{◌≡◌, ℕ, ◌+◌, ◌*◌, ◌^◌, ◌<◌, ◌≤◌, List, [], ◌∷◌, ◌++◌, length, get_or, take, drop, refl}
 use Rattle.std.proofs.Common.{sym, ap, ◌∙◌, arith, append_assoc, length-append}
 use Rattle.std.specs.List.{flat_map, zip}

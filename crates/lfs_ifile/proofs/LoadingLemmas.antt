@@ -1,4 +1,8 @@
--- What is read from the bytes of an ifile, and that bytes which say the same tables are the same.
+-- Bytes say one ifile at most: `spelled` and `one_ifile` for `Ifile::parse`; and none where there is a fault:
+-- `no_ifile`, for `Ifile::read` and `lfs_image`. The bytes go word by word of four: `ReadsTables` fixes the number in
+-- each, and equal numbers have equal bytes (`same_bytes`); the hard word is that of a row which holds the slot and the
+-- use together. A field that no clause of `ReadsTables` fixes breaks `same_bytes`, and a fault that `IsIfile` doesn't
+-- forbid breaks `no_ifile`.
 use Rattle.std.proofs.Common.{◌≡◌, ℕ, zero, suc, ◌+◌, ◌-◌, ◌*◌, ◌/◌, ◌%◌, ◌<◌, ◌≤◌, Bool, true, false, List, [], ◌∷◌}
 use Rattle.std.proofs.Common.{◌++◌, length, get_or, take, drop, refl, sym, ap, subst, ◌∙◌, inl, inr, arith}
 use Rattle.std.proofs.Common.{append_assoc, length-append}

@@ -1,4 +1,7 @@
--- The numbers of a head as its bytes say them.
+-- The numbers of a head are read off its bytes, and bytes have one head: `head_told` and `same_level` for ImageLemmas,
+-- `no_head` for `Head::read`. Each number is below 2^32 by its range (MayHead), so four bytes spell it, and the seven
+-- stand one behind the other from the first byte on. Bytes behind them must be those of the head with these numbers, or
+-- the fault Gap is told (`no_head`); a number more takes its place before the zeros.
 use Rattle.std.proofs.Common.{◌≡◌, ℕ, ◌^◌, ◌<◌, List, ◌++◌, take, drop, refl, sym, ap, subst, ◌∙◌, arith}
 use Rattle.std.proofs.lemmas.List.{take-append-drop}
 use Rattle.std.proofs.lemmas.Nat.{from_be_bytes-to_be_bytes_4}

@@ -1,4 +1,9 @@
--- Bytes are the image of one log at most, and of none that a store may stand on where they have a fault.
+-- Bytes are the image of one log at most (`one_image`), and of none that a store may stand on where a fault was told of
+-- them (`no_image`), both for `load` and VolumeLemmas of `lfs_checking`. The head is read off the first block, its
+-- numbers fix how many blocks there are and where the ifile begins, and blocks of 512 bytes behind one another are the
+-- same if the bytes are (`same_blocks`); the ifile fixes its tables by `one_ifile`. The count of clean segments isn't
+-- in the image, so it must follow from the tables; each fault is a case of `no_fault`, and the one that two parts don't
+-- fit together rests on `stands_apart`.
 use Rattle.std.proofs.Common.{◌≡◌, ℕ, suc, ◌*◌, ◌<◌, ◌≤◌, List, [], ◌∷◌, ◌++◌, length, take, drop, refl, sym, ap, subst}
 use Rattle.std.proofs.Common.{◌∙◌, inl, inr, arith, append_assoc, length-append}
 use Rattle.std.specs.Prelude.{All}

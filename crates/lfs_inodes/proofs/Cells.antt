@@ -1,4 +1,9 @@
--- Addresses side by side in a block.
+-- Addresses stand side by side in a block: a write of one changes one (`numbers-put`), and blocks with the same
+-- addresses are the same (`numbers-one`), for `with_entry` and `with_address`. Four bytes each don't overlap, so a
+-- block's other numbers stay; and a file's block is looked up in just one table (direct, single or a child), so one
+-- cell changes one block's address (`address_of-single`, `address_of-child`). With a child the others of the double
+-- indirect block are left out (SameChild), as they stand in other blocks; other counts of direct or indirect addresses
+-- change all cases here.
 use Rattle.std.proofs.Common.{◌≡◌, ◌≢◌, ℕ, ◌+◌, ◌-◌, ◌*◌, ◌/◌, ◌%◌, ◌<◌, ◌≤◌, List, cond, eqb, length, get_or, set}
 use Rattle.std.proofs.Common.{slice_index, refl, sym, ap, ◌∙◌, arith, inl, inr}
 use Rattle.std.proofs.lemmas.Bool.{cases_lt, cases_eq, lt-ltb, le-ltb, eq-eqb, ne_eqb}

@@ -1,4 +1,7 @@
--- The bounds of what is read of a record.
+-- What is read of a record keeps the bounds of its fields: `AreFields-fields_in` for `decode`, and
+-- `AreFields-fields_of` for callers that have an inode. Bytes of which fields are read passed `is_record` (FieldTests),
+-- so they are the record of an inode (`inode_in`), whose type has the bounds. Bytes of a kind that is neither file nor
+-- directory are read as nothing; a bound in Inode that `is_record` doesn't test would make `inode_in` false.
 use Rattle.std.proofs.Common.{◌≡◌, ℕ, Bool, true, false, cond, List, refl, sym}
 use Rattle.std.proofs.Common.{subst, ◌∙◌, arith, inl, inr}
 use Rattle.std.specs.Prelude.{Some, None}

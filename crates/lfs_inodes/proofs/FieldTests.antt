@@ -1,4 +1,8 @@
--- What the tests of a record's fields say.
+-- The test `is_record` holds of just the bytes that keep the bounds of a record of that kind: `record_decides`, for
+-- FieldLemmas and FieldsRead. Each part of the test decides its bound and the whole is their conjunction; direct
+-- addresses and zeros are decided one by one, by induction on how many there are. An address is asked to be 0 only from
+-- the file's block count on (`place_decides`), which ties addresses to the size; a bound added to Inode needs its part
+-- in `is_record`, its field in Holds and its line here.
 use Rattle.std.proofs.Common.{◌≡◌, ℕ, ◌+◌, ◌-◌, ◌*◌, ◌%◌, ◌<◌, ◌≤◌, ◌&&◌, ◌||◌, not, List, length, slice_index, ltb}
 use Rattle.std.proofs.Common.{leb, eqb, refl, arith, inl, inr, Decides, bit_and}
 use Rattle.std.proofs.lemmas.Bool.{cases_lt, le-leb, leb-true}

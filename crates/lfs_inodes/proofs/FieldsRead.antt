@@ -1,4 +1,7 @@
--- What is read of a record's bytes is its inode.
+-- `fields_in` reads of bytes the fields of the inode whose record they are, and None where they are none
+-- (`fields_in-is`, `fields_in-answer`, for `Inode::encode` and `decode`). `Holds` has the tests as facts: a record
+-- passes them, and of bytes that pass `made` is the inode, so that bytes of no inode fail a test. A field more in
+-- `IsRecord` needs its test in `is_record` and its line in `read`, else `made-record` can't be shown.
 use Rattle.std.proofs.Common.{◌≡◌, ℕ, ◌<◌, false, List, length, get_or, eqb, refl, sym, ap, ◌∙◌, arith, inl, inr}
 use Rattle.std.specs.Prelude.{Option, Some, None, IfSome, IfNone, replicate}
 use Rattle.std.specs.Option.{option_map}

@@ -1,4 +1,7 @@
--- A record is that of one inode, and an inode has one record.
+-- A record is that of one inode (`IsRecord-one`, for `Inode::decode`), and an inode has one record of each record
+-- version (`IsRecord-same`, for `encode`). Each stretch of the 128 bytes is a number that the grammar fixes, or zero;
+-- equal numbers have equal bytes, and the stretches are joined from 0 to 128. A byte that no clause names breaks
+-- `IsRecord-same`, and a field of `Inode` that no byte holds breaks `IsRecord-one`.
 use Rattle.std.proofs.Common.{◌≡◌, ℕ, zero, suc, ◌+◌, ◌*◌, ◌<◌, ◌≤◌, List, refl, sym, ap, ◌∙◌, arith, inl, inr}
 use Rattle.std.specs.Prelude.{Option, Some, None, IfNone, replicate}
 use Rattle.std.proofs.lemmas.Bool.{cases_lt}

@@ -1,4 +1,8 @@
--- Numbers of any width at places of a list of bytes.
+-- A number of any width at a place of bytes is read and written there alone: `number_at-read` for `u16_at` to `u64_at`,
+-- `Puts-from_write` for `put_u16` to `put_u64`, `number_at-same` and `number_at-one` for Grammar and Cells. By
+-- induction on the width: the first byte is the highest, and what is behind it is below its weight, so equal numbers
+-- have the same first byte and the same rest (`big_from-one`). Bytes in another order would change that induction and
+-- nothing else.
 use Rattle.std.proofs.Common.{◌≡◌, ℕ, zero, suc, ◌+◌, ◌-◌, ◌^◌, ◌<◌, ◌≤◌, List, [], ◌++◌, length, take, drop, get_or}
 use Rattle.std.proofs.Common.{slice_index, refl, sym, ap, subst, ◌∙◌, arith, inl, inr}
 use Rattle.std.proofs.lemmas.Bool.{cases_lt}

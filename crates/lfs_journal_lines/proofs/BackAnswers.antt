@@ -1,4 +1,8 @@
--- What was answered is read back.
+-- An answer and what came of a cleaner's call are read back from their words: `tells_answer` and `tells_outcome`, for
+-- BackLine. Each part is read back by ReadBack of `lfs_words` or BackNames, and rules, kinds and faults case by case
+-- (`rule_back`), where a rule's code must be found in the list `rules` as its own. A journal has no entry of a want of
+-- memory nor of more than 4,096 bytes of a Read (IsKept), so these aren't read; a rule that is added without its place
+-- in `rules` fails in `rule_back`.
 use Rattle.std.proofs.Common.{◌≡◌, ℕ, ◌^◌, ◌<◌, true, List, Some, Ok, refl, arith}
 use Rattle.std.specs.Prelude.{decimal, nat_le}
 use Rattle.std.specs.List.{list_all}

@@ -1,4 +1,7 @@
--- What was asked is read back.
+-- A call is read back from its verb and operands: `tells`, for BackLine. The line is that of a script, but a path which
+-- no script can spell is read as the root first, and then put in its place (`tells_by`, `paths_put`); all calls of one
+-- path are one lemma (`tells_one`) over their Form, and only Rename puts two. No other operand may look like an escaped
+-- path (IsOperand); a new call needs a line here, by `tells_one` if it has one path in front.
 use Rattle.std.proofs.Common.{◌≡◌, ℕ, List, [], ◌∷◌, ◌++◌, map, codes, Option, None, Ok, refl, ap, sym, ◌∙◌}
 use Rattle.std.specs.Prelude.{decimal}
 use Rattle.lfs_types.specs.declared.level.Level.{Level}

@@ -1,4 +1,8 @@
--- Names and paths are read back.
+-- Names and paths are read back: `names_back` and `names_words` for BackAnswers, `spelled` for BackCalls. A byte that
+-- may stand in a word stands for itself, and each other is a percent sign with two digits, so the text is read byte by
+-- byte from the front (`byte_back`, `bytes_back`); a percent sign itself is one of the others, so no name is read as an
+-- escape. A path is spelled as in a script if it can be (`as_script`) and else behind a percent sign (`as_escape`),
+-- which begins no path of a script; if a script's path could begin with that sign, `text_plain` fails.
 use Rattle.std.proofs.Common.{◌≡◌, ℕ, zero, suc, ◌+◌, ◌*◌, ◌/◌, ◌%◌, ◌<◌, ◌==◌, true, false, List, [], ◌∷◌, ◌++◌}
 use Rattle.std.proofs.Common.{length, map, Option, None, Some, Result, Ok, Err, refl, ap, sym, subst, ◌∙◌, inl, inr}
 use Rattle.std.proofs.Common.{arith, append_assoc, length-append, rules, tests}

@@ -1,4 +1,8 @@
--- The words of an entry: each may stand in a line, and is no bar.
+-- The words of an entry may stand in a line and none is a bar: `long_operand`, `mode_operand`, `flags_operand`,
+-- `bytes_operand` and `level_operand` for BackCalls, `field_more` and AreField for BackLine. A word that is read as
+-- something is no bar, since a bar is read as nothing of that kind (`no_bar`), so reading back gives it for free.
+-- Digits are no percent sign, so no operand looks like an escaped path (`plain`); an operand spelled otherwise must
+-- exclude both signs.
 use Rattle.std.proofs.Common.{◌≡◌, ℕ, ◌/◌, ◌%◌, ◌^◌, ◌<◌, ◌==◌, true, false, List, [], ◌∷◌, codes, Result, Ok, Err}
 use Rattle.std.proofs.Common.{refl, ap, inl, inr, arith, rules, tests}
 use Rattle.std.specs.Prelude.{decimal}

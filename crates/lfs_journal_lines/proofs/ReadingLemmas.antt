@@ -1,4 +1,9 @@
--- What is read, step by step.
+-- The steps by which lines are read come to what the specification reads at once: `names_more` to `names_all` for the
+-- loop of `names_told`, `plain_first` and `escape_first` for `first_byte`, `cut_there` for `cut_at_bar`, `four_there`
+-- and `seven_there` for denials and stats. Names are read from the front, and what was read, with what is left, is the
+-- whole; a text is read by its first byte, which is one for itself or a percent sign with two digits. The code counts
+-- words where the specification takes lists apart, so each count has its lemma; another number of words in a denial or
+-- a stat changes these alone.
 use Rattle.std.proofs.Common.{◌≡◌, ℕ, suc, ◌+◌, ◌-◌, ◌<◌, ◌≤◌, ◌==◌, Bool, true, false, cond, List, [], ◌∷◌, ◌++◌}
 use Rattle.std.proofs.Common.{length, map, take, drop, get_or, None, Some, Result, Ok, Err, Bor, refl, ap, sym, subst}
 use Rattle.std.proofs.Common.{◌∙◌, arith, append_assoc, add-one, length-drop}

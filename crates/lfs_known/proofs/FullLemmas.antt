@@ -1,4 +1,8 @@
--- What hints say after a change of a content, and after one was entered.
+-- What hints say of a directory's room stays true as a content changes: `full_made`, `full_removed`, `full_attrs` and
+-- `full_lower` for `follow_one`, `full_entered` for `enter_hint` of `lfs_calls`. A hint says that no name of a length
+-- fits in the blocks before one; a change touches one number, so hints of others stay (`full_put`), and its own is
+-- forgotten, or lowered to the blocks before the bytes that were put (`full_spliced`). A hint is lowered by any Put,
+-- whatever the block got; a change of bytes that left it would let it speak of blocks that have room again.
 use Rattle.std.proofs.Common.{min, ◌≡◌, ◌≢◌, ℕ, ◌+◌, ◌*◌, ◌-◌, ◌<◌, ◌≤◌, List, [], ◌∷◌, ◌++◌, length, take, drop}
 use Rattle.std.proofs.Common.{Option, None, Some, refl, sym, ap, subst, ◌∙◌, arith, append_assoc, length-append}
 use Rattle.std.proofs.Common.{length-take, length-drop}

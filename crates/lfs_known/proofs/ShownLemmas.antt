@@ -1,4 +1,7 @@
--- What a cache of attributes says after a change of a content.
+-- What a cache of attributes says stays what the content shows: `shown_made`, `shown_removed`, `shown_mapped` and
+-- `shown_within`, for `follow_one`. A change touches one number, so what is said of the others stays (`shown_put`), and
+-- of its own it says the changed attributes or nothing. Bytes put within a file leave its size (`length-within`), so
+-- nothing need be changed then; an attribute that such a Put changed, like a time, would have to be followed.
 use Rattle.std.proofs.Common.{◌≡◌, ◌≢◌, ℕ, ◌+◌, ◌≤◌, List, [], ◌∷◌, length, Option, None, Some, refl, sym, ap, subst}
 use Rattle.std.proofs.Common.{◌∙◌, arith}
 use Rattle.std.specs.Prelude.{IfSome, option_map}

@@ -1,4 +1,8 @@
--- What slots say after one of them was put.
+-- A pair put into its slot is what the cache says of its name, and of all other names it says no more than before:
+-- `its_own` and `put_no_more`, for `NameCache::enter`, with `kept_short` and `kept_long` for `look`. A slot is told by
+-- a name's hash, so another name may have the same one; then the new pair isn't its own, and the cache says nothing of
+-- it (`put_apart`), which is always true. Names of more than 24 bytes aren't kept, as a pair has no room for them;
+-- comparing hashes instead of names would make it say what isn't so.
 use Rattle.std.proofs.Common.{◌≡◌, ◌≢◌, ℕ, ◌<◌, ◌≤◌, Bool, true, false, cond, List, length, take, get_or, Option, None}
 use Rattle.std.proofs.Common.{Some, refl, sym, ap, ◌∙◌, ⊎_elim, arith}
 use Rattle.std.specs.Prelude.{◌==◌, nat_le, bytes_eq}

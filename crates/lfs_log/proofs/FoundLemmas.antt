@@ -1,4 +1,8 @@
--- The infos of a segment are those of what its log names at its places.
+-- The infos of a segment are those of the owners whom its log names, all of them (`infos_of-named`) and no others
+-- (`infos_of-only`): `Log::infos`, from which cleaning starts, and the account of `lfs_logstore` stand on these two. An
+-- info of the list comes from one name, that from one address of the log, and there `owner_in` is taken by the kind of
+-- block; an inode block has one info for each slot that is a record. A kind of block added to `LogicalBlock` needs its
+-- case in `block_infos` and in `owner_in` alike.
 use Rattle.std.proofs.Common.{◌≡◌, ℕ, zero, suc, ◌-◌, ◌/◌, ◌%◌, ◌<◌, ◌≤◌, inl, inr, ⊎_elim, List, [], ◌∷◌, Option, Some}
 use Rattle.std.proofs.Common.{None, option_map, length, get_or, refl, sym, ap, subst, ◌∙◌, arith, ◌+◌, ◌*◌}
 use Rattle.std.specs.Prelude.{if◌then◌else◌, ◌==◌}

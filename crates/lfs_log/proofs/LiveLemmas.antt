@@ -1,4 +1,8 @@
--- Live bytes as keys move.
+-- Moving live bytes from one segment to another, and cleaning one, keep `IsParts` and are `Assigns` as keys see it
+-- (`Assigns-parts`, `IsParts-moved`, `IsParts-reclaimed`, for `Log::place_record`, `move_live`, `reclaim`).
+-- `live-gained` and `live-lost` turn bytes added to or taken from one segment into `weight_of` at every segment;
+-- address 0 weighs nothing. A record's place has its slot besides, but the slot is below 4, so it weighs where its
+-- address does (`weight-record`): five slots would reach into the next block.
 use Rattle.std.proofs.Common.{◌≡◌, ◌≢◌, ℕ, ◌+◌, ◌-◌, ◌*◌, ◌/◌, ◌<◌, ◌≤◌, inl, inr, get_or, length, refl, sym, ap, subst}
 use Rattle.std.proofs.Common.{◌∙◌, arith}
 use Rattle.std.proofs.lemmas.Bool.{cases_eq, cond-false, cond-true, eq-eqb, ne_eqb}

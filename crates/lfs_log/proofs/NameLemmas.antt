@@ -1,4 +1,9 @@
--- What the log names at a place, as the log is written and a segment is opened.
+-- What the log names at a place stays as it is written on and as a segment is opened: `Writes-extended` for `begin` and
+-- `put`, `Opens-opened` for `open`; `named_at-entry` and its kin tell it from an entry, for FoundLemmas, `lfs_segwrite`
+-- and `lfs_fsck`. The owner of a place rests on the summary's entry for its address and, for a record, on the block
+-- there (`named_at-same`), and both stay at each address before the log's end or in another segment. An opened segment
+-- must have been clean, since its entries go; another thing that `owner_in` looked at would have to be kept by Extends
+-- too.
 use Rattle.std.proofs.Common.{◌≡◌, ◌≢◌, ℕ, ◌+◌, ◌*◌, ◌/◌, ◌%◌, ◌<◌, ◌≤◌, inl, inr, List, Option, Some, None}
 use Rattle.std.proofs.Common.{option_and_then, option_map, length, refl, ap, ◌∙◌, ⊎_elim, arith}
 use Rattle.std.proofs.lemmas.Bool.{cases_eq, cases_lt}

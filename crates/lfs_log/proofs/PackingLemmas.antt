@@ -1,4 +1,8 @@
--- An inode block while it is packed, and what its slots are read as.
+-- Up to four inodes packed one after another make an inode block: `IsPackedBelow-more` and `IsInodeBlock-packed`, for
+-- `packed`; `decoded_slot` and `record_in-read` say what `inode_in` reads of a slot. The invariant is that the slots so
+-- far have the records and the others are zeros; a record put into its slot leaves the others, as they are 128 bytes
+-- each. A slot of zeros is read as none because no inode's number is 0; records of another size, or an unused slot with
+-- other bytes, would break that.
 use Rattle.std.proofs.Common.{◌≡◌, ◌≢◌, ℕ, ◌+◌, ◌<◌, ◌≤◌, List, [], Option, Some, None, option_map, length, get_or, set}
 use Rattle.std.proofs.Common.{replicate, refl, sym, ap, subst, ◌∙◌, ⊎_elim, arith}
 use Rattle.std.specs.List.{slice_get}

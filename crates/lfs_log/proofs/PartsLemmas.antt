@@ -1,4 +1,8 @@
--- What holds of a log's parts when they are new and when a segment is opened.
+-- `IsParts` holds of a new log and behind an opening (`IsParts-fresh`, `IsParts-opened`, for `Log::format` and
+-- `activate`), and gives `AreSegments` (`AreSegments-kept`). An opening changes two states, the opened segment to
+-- active and the last active one to dirty; only the first was clean, so the count of clean segments falls by one
+-- (`clean_count-changed`). A third state that counts as clean, or a segment opened that was not clean, would break
+-- `opened_count`.
 use Rattle.std.proofs.Common.{◌≡◌, ◌≢◌, ℕ, zero, suc, ◌+◌, ◌-◌, ◌<◌, ◌≤◌, inl, inr, length, refl, sym, ap, ◌∙◌, arith}
 use Rattle.std.proofs.lemmas.Bool.{cases_eq}
 use Rattle.std.proofs.lemmas.List.{get_or-replicate, get_or-set_other, get_or-set_same, length-replicate, length-set}

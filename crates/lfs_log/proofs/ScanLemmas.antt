@@ -1,4 +1,8 @@
--- A segment scanned block by block: the infos so far, and what its log expects.
+-- `infos::scan` keeps two facts at each address: the infos so far are those of the names before it, and what it still
+-- has of the last summary is what the log expects (`scan_named`, `scan_next`, `scan_summary`, `scan_ended`). An address
+-- that is expected gives its block's infos, one that isn't is a summary or the end, behind which nothing is named.
+-- `scan_room` says why 248 infos are enough: 62 names with four each; it falls with another `ENTRY_LIMIT` or more slots
+-- in an inode block.
 use Rattle.std.proofs.Common.{◌≡◌, ◌≢◌, ℕ, suc, ◌+◌, ◌-◌, ◌*◌, ◌<◌, ◌≤◌, ◌⊎◌, inl, inr, List, [], ◌∷◌, ◌++◌, Option}
 use Rattle.std.proofs.Common.{Some, None, option_map, length, get_or, take, drop, append-nil, refl, sym, ap, ◌∙◌, arith}
 use Rattle.std.specs.List.{cons_option, filter_map, flat_map}

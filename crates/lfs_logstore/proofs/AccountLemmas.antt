@@ -1,4 +1,8 @@
--- What holds of segments and keys between the calls of a store.
+-- Between calls the live bytes of each segment are those of the keys with an address in it, and a clean one has none:
+-- `accounted`, for `ifile_bytes` of the cleaned store, with `has_key` and `segment_is` for ReclaimLemmas. A present
+-- address that isn't 0 is one of a key at its number's version (`has_key`), which has a place, so what the store knows
+-- of its keys is what the cleaner sees by addresses. A key's place is four times its address with the slot, so both
+-- name the same segment (`segment_is`); another count of records in a block changes that.
 use Rattle.std.proofs.Common.{List, length, Result, Ok, Err, IfOk, ◌≡◌, ◌≢◌, ℕ, ◌/◌, inl, inr, sym, ap, ◌∙◌, subst}
 use Rattle.std.proofs.Common.{arith}
 use Rattle.std.proofs.lemmas.Bool.{cases_eq, cases_lt}

@@ -1,4 +1,8 @@
--- Making a dirty segment without live bytes clean keeps all else.
+-- A dirty segment in which no key has a place is made clean and all else stays: `cleaned` for `LogStore::reclaim`,
+-- `reclaimed_state` for `segclean`. Nothing but one state and the count of clean segments changes, and no record, block
+-- or place is read off these, so files, keys and content are the same by computing alone. `IsLog` holds still by
+-- `cleaned_log` of `lfs_bmap`: live bytes are counted over all keys, so none left means no key there; a definition of a
+-- file that read the states would end the `refl`s.
 use Rattle.std.proofs.Common.{◌≡◌, ℕ, ◌+◌, ◌≤◌, Some, refl, sym, ◌∙◌, subst, inl, inr, arith}
 use Rattle.lfs_ifile.specs.declared.segment.SegState.TheVariants.{Clean}
 use Rattle.lfs_ifile.specs.Tables.{with_state}

@@ -1,4 +1,8 @@
--- What a call that the rules allow has passed.
+-- What a call that the rules allow has passed, as a record of facts: `may_change`, `may_make`, `may_remove`,
+-- `may_arrive`, `may_go`, for EffectTree and for nearly all of `lfs_laws` and `lfs_calls` that asks what a served call
+-- could do. No test of the list fails, so the first is met and no other fails (`met_first`, again and again); a walk
+-- whose tests are met ends at a row that is there (`walk_there`, by induction on the names). A test put into
+-- `rule_table`, or moved in it, moves the steps here by one: this is the file that such a change breaks first.
 use Rattle.std.proofs.Common.{◌≡◌, ℕ, ◌+◌, ◌==◌, ◌||◌, not, Bool, true, false, cond, List, [], ◌∷◌, ◌++◌, length}
 use Rattle.std.proofs.Common.{Option, None, Some, Result, Ok, Err, refl, sym, ap, subst, ◌∙◌, arith, append-nil, ne_eqb}
 use Rattle.std.proofs.lemmas.Bool.{cond-true, not-true}

@@ -1,4 +1,8 @@
--- Names in byte order: distinct names have one list in order.
+-- Names have one list in byte order: `sorted-is-in_byte_order`, by which ListLemmas shows that a sorted list of the
+-- store is what List answers; `any-in_byte_order` and `sorted-in_byte_order` are for NameLists of `lfs_laws`. The
+-- specification puts each name into a sorted list, which keeps it sorted and has just the names (induction on both);
+-- two strictly sorted lists with the same members are one. Names must differ, or one would stand twice in one list and
+-- once in the other; another order needs to be total and to tell names apart (`same_name-Decides`).
 use Rattle.std.proofs.Common.{◌≡◌, ℕ, ◌+◌, Bool, true, false, List, [], ◌∷◌, get_or, refl, sym, ap, subst, ◌∙◌, ⊎_elim}
 use Rattle.std.proofs.Common.{arith}
 use Rattle.std.specs.Prelude.{◌||◌, Contains, Decides}

@@ -1,4 +1,8 @@
--- The row that hangs under a parent and a name, as a look-up and as a fact.
+-- The look-up `child` answers what hangs under a parent and a name (`child-is`, `child-none`), and where no two rows
+-- hang there it has one answer (`child-answer`): with a new row (`child-new`, `child-new_other`) and with one that
+-- stays (`child-stays`). The test of the look-up is the fact `IsChild` as a Bool; a new row hangs at its own place
+-- alone, and all others hang where they did. All of the trees stand on `IsUnique`: without it the look-up would find
+-- the first of two, and an insertion could hide a row.
 use Rattle.std.proofs.Common.{◌≡◌, ◌≢◌, ℕ, true, false, List, Option, None, Some, refl, sym, ap, ◌∙◌, subst, ⊎_elim}
 use Rattle.std.specs.Prelude.{◌==◌, ◌&&◌, not, bytes_eq}
 use Rattle.std.proofs.lemmas.Bool.{and_parts, and_from, eqb-true, eq-eqb, ne_eqb, cases_eq}

@@ -1,4 +1,8 @@
--- How the counts of a journal grow by an entry, and that no number of them is past the journal's length.
+-- The counts that are kept with a journal are those over its entries: `counts_push` and `counts_few` for
+-- `Volume::enter`, and the cases of `Counts::add_answer` and `add_outcome`. A sum over entries grows by one where the
+-- last one passes the test; a denial counts for one rule alone because no two of the 20 rules have one code, which is
+-- computed (`are_apart`). A rule more needs its place in the list of all rules and a code of its own, else
+-- `denial_counted` falls.
 use Rattle.std.proofs.Common.{◌≡◌, ℕ, zero, suc, ◌+◌, ◌-◌, ◌^◌, ◌<◌, ◌≤◌, Bool, true, false, not, ◌&&◌, List, [], ◌∷◌}
 use Rattle.std.proofs.Common.{◌++◌, length, get_or, map, None, Some, refl, ap, sym, subst, ◌∙◌, arith}
 use Rattle.std.specs.Prelude.{cond, count_by, slice_get, slice_index_or, slice_set}

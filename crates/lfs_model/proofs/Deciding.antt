@@ -1,4 +1,8 @@
--- The first failing test of a call: that of a walk, or of the tests behind it.
+-- The first failing test of a walk and others is the walk's denial, or that of the others where it ends at a row
+-- (`failing_walk`, `walk_denied`, `walk_passed`); and lists of tests are taken apart at a seam (`failing-front`,
+-- `failing-behind`, `passes-append`): for Allowed and each judge of `lfs_checks` and `lfs_calls`. By induction on names
+-- and on tests; a step asks three tests, of which the one that fails is the denial. The order of the tests is the order
+-- of blame: where it changes, the code that asks them has to change with it.
 use Rattle.std.proofs.Common.{◌≡◌, ℕ, ◌+◌, Bool, true, false, cond, List, [], ◌∷◌, ◌++◌, Option, None, Some, Result, Ok}
 use Rattle.std.proofs.Common.{Err, refl, sym, ap, ◌∙◌}
 use Rattle.std.specs.Prelude.{is_some, unwrap_or}

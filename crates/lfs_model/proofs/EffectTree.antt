@@ -1,4 +1,8 @@
--- Each call that the rules allow leaves a tree.
+-- Each call that the rules allow leaves a tree: `effect_tree`, for the Rename of `lfs_calls` and for LegalTrees and
+-- LeadOnLemmas of `lfs_laws`. Call by call: a changed file keeps its kind, a new row's number is unused and its name
+-- free, what is removed has no children, and all these are facts of Allowed. Rename is the hard one: a row moved
+-- beneath itself would hang in no way to the root, which the test of the rows on the new way rules out (`no_ancestor`);
+-- without `apart_test` the tree is lost.
 use Rattle.std.proofs.Common.{◌≡◌, ◌≢◌, ℕ, ◌+◌, ◌==◌, Bool, true, false, cond, List, [], ◌∷◌, length, Option, None}
 use Rattle.std.proofs.Common.{Some, refl, sym, ◌∙◌, arith, eqb-true}
 use Rattle.std.proofs.lemmas.Bool.{eqb-false, not-true}

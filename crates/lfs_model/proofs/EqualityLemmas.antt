@@ -1,4 +1,8 @@
--- What `==` of requests and of answers says: that they are the same.
+-- `==` of requests, answers and callers is true only of the same ones (`requests_same`, `answers_same`,
+-- `callers_same`), for `Entry::is_call`, by which a journal is compared. Each goes variant by variant and field by
+-- field; two different variants are `==` false by computing. A caller's groups lie in sixteen places of which `==`
+-- compares all: those past the length are zeros in both, so the lists are the same (`groups_same`); a variant or a
+-- field more needs its line here.
 use Rattle.std.proofs.Common.{◌≡◌, ℕ, ◌-◌, Bool, true, false, not, List, ◌++◌, ◌&&◌, length, take, replicate, refl, sym}
 use Rattle.std.proofs.Common.{ap, subst, ◌∙◌}
 use Rattle.std.proofs.lemmas.Bool.{and_parts, not-false, true≢false}

@@ -1,4 +1,8 @@
--- The rows that hang in a directory, and their names.
+-- The rows of a directory are just those that hang there, each once and by rising number, and their names differ:
+-- `children-has`, `children-hang`, `children-sorted`, and `names_in-has` to `names_in-apart`, for the calls' lemmas and
+-- the laws. `children` filters the map's keys by a test on the row, and the keys rise strictly since a map's entries
+-- are sorted (`keys_rise`). Names differ as no two rows hang under one parent and name (IsUnique); `children` from
+-- another list of numbers would need each in it once.
 use Rattle.std.proofs.Common.{◌≡◌, ◌≢◌, ℕ, ◌<◌, Bool, true, false, List, [], ◌∷◌, length, get_or, T, Option, None, Some}
 use Rattle.std.proofs.Common.{refl, sym, ap, subst, ◌∙◌, arith}
 use Rattle.std.specs.Prelude.{◌==◌, not, map as mapped, AllPairs, Contains, Decides}

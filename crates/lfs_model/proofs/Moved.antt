@@ -1,4 +1,7 @@
--- The tree after a row got another place in it.
+-- The rows with one at another place are a tree if the new parent is a directory that isn't below it: `IsTree-moved`,
+-- for EffectTree. Ways up that don't pass the row stay (`stays`), its own goes through the new parent (`climb_moved`),
+-- and any other goes up to the row as before and then on from there (`climb`). Since the row is no ancestor of the new
+-- parent, that way ends at the root; else the row and all beneath it would be a ring.
 use Rattle.std.proofs.Common.{◌≡◌, ◌≢◌, ◌≤◌, ℕ, zero, suc, List, [], None, Some, refl, sym, ap, subst, ◌∙◌, ⊎_elim}
 use Rattle.std.proofs.lemmas.Bool.{cases_eq}
 use Rattle.std.specs.Prelude.{IsSomeAnd}

@@ -1,4 +1,8 @@
--- What hangs where after a row got another place: it is as if the row had been removed and put there.
+-- A row at another place is as if it had been removed and put there: `child-moved`, `child-moved_other` and
+-- `unique-moved`, for Moved and the stores' lemmas on a Rename. Both maps answer alike at each number (`put_back`), and
+-- look-ups rest on the answers alone (`child-same`), so what Shrunk and Grown say of removal and growth holds of the
+-- move. The place must be free without the row too (`free_still`); a Rename within one directory to another name is no
+-- special case for that.
 use Rattle.std.proofs.Common.{◌≡◌, ℕ, List, Option, None, Some, refl, sym, ap, ◌∙◌, ⊎_elim}
 use Rattle.std.proofs.lemmas.Bool.{cases_eq}
 use Rattle.std.specs.FinMap as map

@@ -1,4 +1,8 @@
--- The rows that a walk leads through are the ancestors of the row at which it ends.
+-- The rows that a walk leads through are the ancestors of its end, so a row that isn't among them may be moved there:
+-- `no_ancestor` for EffectTree and MayLemmas, `no_file_on_way` for MoveJudging, `way_further` for `judge_way`. By
+-- induction on the names: what is no ancestor of a directory, and not the row that hangs there, is no ancestor of that
+-- row (`one_down`). The root is everybody's ancestor, so it must be another row; IsNotBeneathItself asks just for this,
+-- and without it a Rename could cut a ring off the tree.
 use Rattle.std.proofs.Common.{◌≡◌, ◌≢◌, ℕ, zero, suc, ◌+◌, ◌==◌, true, false, List, [], ◌∷◌, Some, Ok, sym, ap, subst}
 use Rattle.std.proofs.Common.{◌∙◌, arith}
 use Rattle.std.specs.Prelude.{◌||◌, unwrap_or}

@@ -1,4 +1,8 @@
--- The world at the opening, and lists of entries with one more.
+-- The world at the opening is a tree with the root alone (`opening_tree`, `only_root`), and a list of entries with one
+-- more is legal just by that one in the world which the others leave (`IsLegal-append`, `world_after-append`), for the
+-- journal, the trace checker and the laws. The opening rows are a map with one value, so whatever is there is it; lists
+-- are taken apart from the front, as `world_after` goes. `list_copies` and `kept-append` are for the journal of
+-- `lfs_volume`; a second row at the opening would change `only_root` and all that rests on it.
 use Rattle.std.proofs.Common.{◌≡◌, ℕ, List, [], ◌∷◌, ◌++◌, length, Some, refl, sym, ap, subst, ◌∙◌, arith, append_assoc}
 use Rattle.std.specs.Prelude.{IsSomeAnd}
 use Rattle.std.proofs.lemmas.List.{append-nil}

@@ -1,4 +1,8 @@
--- The rows, the look-ups and the tree after a row was removed.
+-- The rows without one in which nothing hangs are a tree, and all else hangs where it hung: `IsTree-shrunk` for
+-- EffectTree and RowLemmas of `lfs_calls`, `child-removed` and `child-left_elsewhere` for the listings of stores. No
+-- row has the removed one as its parent, so each one's way up to the root passes it by (`climb`, by induction on the
+-- steps), and what a look-up finds elsewhere is as before, as a row hangs in one place only. The row must be childless
+-- and not the root; where it isn't, rows would hang in nothing, which is why Rmdir asks for emptiness.
 use Rattle.std.proofs.Common.{◌≡◌, ◌≢◌, ℕ, zero, suc, List, [], Option, None, Some, refl, sym, ap, subst, ◌∙◌, ⊎_elim}
 use Rattle.std.proofs.lemmas.Bool.{cases_eq}
 use Rattle.std.specs.Prelude.{IsSomeAnd}

@@ -1,4 +1,8 @@
--- The steps of a walk.
+-- A walk takes a step only from a directory to its child, and goes on from there: `stepped-directory`, `stepped-child`,
+-- `walked_on` and `walked_end` for `walk` and `judge_way`, `walked_last` for RemoveLemmas. A step is three tests in
+-- order, so what it leads to is the child that was looked up, and a walk with one name more is the walk and one step
+-- (induction on the names). The last step needs the count of the names before it, as denials tell the component;
+-- another order of the three tests changes `stepped_row` alone.
 use Rattle.std.proofs.Common.{◌≡◌, ℕ, ◌+◌, ◌<◌, Bool, true, false, cond, List, [], ◌∷◌, ◌++◌, length, get_or, drop}
 use Rattle.std.proofs.Common.{Option, None, Some, Result, Ok, Err, refl, sym, ap, ◌∙◌, add-one, arith}
 use Rattle.std.specs.Prelude.{ok_or}

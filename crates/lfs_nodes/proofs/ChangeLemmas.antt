@@ -1,4 +1,8 @@
--- Nodes stay true of a tree through look-ups, removals and renames.
+-- Nodes stay true of the tree through look-ups, removals and changes of counts: `looked_up_nodes`, `removed_nodes`,
+-- `counted_nodes`, for `Nodes::look_up`, `removed`, and `Parts::open`, `close`, `forget`. The id at a place is that of
+-- the row's node (`its_row`, `its_id`), since names are unique in a tree and nodes apart; a look-up that finds none
+-- gives the next id, which is of no node. Two nodes of one row would give a file two identities in the kernel, and a
+-- removal would reach one of them.
 use Rattle.std.proofs.Common.{◌≡◌, ◌≢◌, ℕ, Bool, List, [], Option, None, Some, true, false, refl, sym, ap, subst, ◌∙◌}
 use Rattle.std.proofs.Common.{⊎_elim, length, ◌+◌, Result, Ok, Err, arith}
 use Rattle.std.specs.Prelude.{IsSome, IsSomeAnd, IfOk, OnErr, ◌==◌, if◌then◌else◌}

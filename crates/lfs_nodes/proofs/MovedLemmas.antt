@@ -1,4 +1,7 @@
--- Nodes stay true of a tree through a rename.
+-- Nodes stay true of the tree through a Rename: `stayed_nodes` and `renamed_nodes`, for `Nodes::moved`. The node at the
+-- old place is the moved row's and no other is (`its_row`, `its_id`), so hanging it at the new place says what the row
+-- says; a node that hung there is gone first, as its row is (`to_taken`). That row had no children, so no node hangs
+-- beneath it; were a directory replaced with its rows, nodes would hang in one that is gone.
 use Rattle.std.proofs.Common.{◌≡◌, ◌≢◌, ℕ, List, [], Option, None, Some, true, false, refl, sym, ap, subst, ◌∙◌, ⊎_elim}
 use Rattle.std.proofs.Common.{length}
 use Rattle.std.specs.Prelude.{IsSome, ◌==◌, if◌then◌else◌}

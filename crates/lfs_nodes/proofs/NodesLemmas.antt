@@ -1,4 +1,8 @@
--- Nodes are true of a tree after it changed, and they with it.
+-- `AreNodes` after each kind of change, of rows and nodes as functions: `nodes_same`, `nodes_fewer`, `nodes_new`,
+-- `nodes_removed`, `nodes_moved`, for ChangeLemmas, MovedLemmas and `Parts::close` and `forget`. A node's row hangs by
+-- the name and in the row of the node above (`stands_there`), so one row more, less or elsewhere changes what is said
+-- of its node alone. `nodes_removed` needs that nothing hangs beneath the row, and `nodes_fewer` that the node above
+-- each place is known still.
 use Rattle.std.proofs.Common.{◌≡◌, ◌≢◌, ◌⊎◌, ℕ, List, Option, None, Some, true, false, refl, sym, ap, subst, ◌∙◌, inl}
 use Rattle.std.proofs.Common.{inr, ⊎_elim}
 use Rattle.std.specs.Prelude.{IsSome, IsSomeAnd}

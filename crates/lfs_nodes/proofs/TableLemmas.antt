@@ -1,4 +1,8 @@
--- What nodes are after one of them changed.
+-- What nodes are after one of them changed: `changed_there` and `changed_none` for the methods of Table, `rehung_here`
+-- and `recounted_here` for `hang`, `unhang` and `lift` of Parts. Each method finds a node or none, and its new table
+-- answers as the old one but at that node; what a change keeps of each node is read as before (`changed_keeps`). To
+-- hang a node is two changes, the node's place and the count of its directory, which touch different fields
+-- (`counts_before`, `same_hang`), so they hold also if both are one node.
 use Rattle.std.proofs.Common.{◌≡◌, ◌≢◌, ℕ, Option, None, Some, true, false, refl, sym, ap, ◌∙◌, ⊎_elim}
 use Rattle.std.specs.Prelude.{◌==◌, nat_eq}
 use Rattle.std.specs.Option.{option_map}

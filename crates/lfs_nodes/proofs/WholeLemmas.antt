@@ -1,4 +1,8 @@
--- The maps of nodes agree after each change.
+-- The maps of nodes agree after each change of them: `whole_hung`, `whole_unhung`, `whole_grown`, `whole_dropped`,
+-- `whole_alone`, for `Parts::hang`, `unhang`, `add`, `drop_unheld` and `Nodes::new`. A change touches one id, its place
+-- and its directory's count, so each clause of `AreWhole` splits by whether it speaks of that id; the id next in turn
+-- is of no node yet. The hard clause is `counted`: the count of a directory is a sum over all ids, from which one place
+-- goes or to which one comes; a node dropped while others hang beneath it breaks `parents`.
 use Rattle.std.proofs.Common.{◌≡◌, ◌≢◌, ℕ, zero, suc, ◌+◌, ◌-◌, ◌<◌, ◌≤◌, Option, None, Some, true, false, refl, sym}
 use Rattle.std.proofs.Common.{ap, subst, ◌∙◌, ⊎_elim, add-one, arith}
 use Rattle.std.specs.Prelude.{◌==◌, IsSome, min}

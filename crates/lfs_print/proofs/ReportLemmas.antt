@@ -1,4 +1,8 @@
--- The report grows by its lines.
+-- A report grows line by line to what the specification says of the journal: `report_added`, `rule_more` and
+-- `rules_all` for `append_report` and `push_rules`, `denials_more` for `push_denials`; `report_same` says that counts
+-- give the same report. Each loop appends one rule's line to those of the rules before it; a rule that denied nothing
+-- has no line (`rule_none`). The entries are served, denied, refused or the cleaner's, just one of them (`four`), so
+-- their count is the sum of the four counts (`sum_of`); a fifth kind of answer would break that sum.
 use Rattle.std.proofs.Common.{◌≡◌, ℕ, ◌+◌, ◌<◌, ◌≤◌, List, [], ◌∷◌, ◌++◌, length, take, get_or, map, codes, refl, ap}
 use Rattle.std.proofs.Common.{sym, ◌∙◌, append_assoc, arith}
 use Rattle.std.specs.Prelude.{◌≢◌, cond, count_by, decimal}

@@ -1,4 +1,8 @@
--- What each frame's fields are after the links have changed.
+-- Each link, number and queue after `unlink` and `link_front`, as a choice by the frame's number: `unlinked_told`,
+-- `linked_told`, and for Linked `unlinked-next`, `linked-prev` and the like. Both calls write into two or three frames
+-- of one list, one behind the other; a write changes its own field at its own number (`field-set`) and no other field
+-- (`field-kept`). The frames may be one and the same, as in a ring of one, so each is read again after the write before
+-- it.
 use Rattle.std.proofs.Common.{◌≡◌, ℕ, ◌+◌, ◌-◌, ◌*◌, ◌/◌, ◌<◌, cond, ◌==◌, List, length, refl, sym, ap, subst, ◌∙◌, inl}
 use Rattle.std.proofs.Common.{inr, arith}
 use Rattle.std.proofs.Math.ListN.{get_or, set, length-set}

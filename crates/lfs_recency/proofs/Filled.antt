@@ -1,4 +1,8 @@
--- The frames are put into EMPTY one after another.
+-- At the start all frames come into EMPTY, one after another: `filled_step` for `link_all`, `kept_filled` for
+-- `Frames::new`. The invariant AreFilled says that the first are linked behind EMPTY's head and each other one is in a
+-- ring of its own, so it may be left out of what AreLinked says (`linked_but`) until its turn, and then it's linked as
+-- any frame is. What must be shown is that no frame of the list is one of the lone ones (`apart`), which their own
+-- `prev` tells; frames that began in other rings would break it.
 use Rattle.std.proofs.Common.{◌≡◌, ◌≢◌, ℕ, zero, suc, ◌+◌, ◌<◌, ◌≤◌, true, false, cond, ◌==◌, nat_lt, List, [], length}
 use Rattle.std.proofs.Common.{refl, sym, ap, subst, ◌∙◌, inl, inr, zero-add, add-one, arith}
 use Rattle.std.specs.Prelude.{take}

@@ -1,4 +1,8 @@
--- What the links show is what the lists say, also after a frame has come to the front of a queue.
+-- The lists that callers see, `shown`, follow the links: `front_is` for `Frames::to_front`, `oldest_some` and
+-- `oldest_none` for `oldest`, `queue_is` for `queue`, `kept_written` for `bytes_mut`. A ring that is linked as a list
+-- reads as this list (`ring_is`), and each number stands in one list, once (`IsWhole`), so a frame that moves leaves
+-- one list and stands in one. `chain` ends at the first number that is no frame's, that of a head: heads that lay among
+-- the frames would cut lists short.
 use Rattle.std.proofs.Common.{◌≡◌, ℕ, ◌+◌, ◌<◌, ◌≤◌, cond, nat_lt, min, List, [], ◌∷◌, length, refl, sym, ap, subst}
 use Rattle.std.proofs.Common.{◌∙◌, inl, inr, arith}
 use Rattle.std.specs.Prelude.{map, take, Some, None}

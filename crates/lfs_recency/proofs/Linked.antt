@@ -1,4 +1,8 @@
--- The frames stay linked, as the lists say, after a frame has left its queue and come into one.
+-- Links stay well formed when a frame leaves its ring and comes in behind a head: `unlinked_linked` and
+-- `linked_linked`, for Kept and Filled. Fields says what each link is then, and Rings that the steps forth and back
+-- still undo each other; a ring that lacks the frame keeps its path, the one that it joins begins with it
+-- (`listed-pushed`). Between the two calls the frame is in no ring, which `IsLinked` says by `but`: without that its
+-- clauses would fail there.
 use Rattle.std.proofs.Common.{◌≡◌, ◌≢◌, ℕ, ◌+◌, ◌<◌, Bool, true, false, cond, ◌==◌, List, length, refl, sym, ap, subst}
 use Rattle.std.proofs.Common.{◌∙◌, inl, inr, arith}
 use denote.RawPtr.{Ptr, InBlock}

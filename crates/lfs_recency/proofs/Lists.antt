@@ -1,4 +1,7 @@
--- The lists of the queues after a number has left them or come in.
+-- Each number stands once in the four lists, also when it left one and came first in another: `whole-pushed` with
+-- `times-taken_same` and `times-taken_other`, for Kept and for Steps of `lfs_cache`. It is counting: `without` leaves
+-- none of its number and as many of each other, by induction on the list, and a push adds one. A fifth queue is a fifth
+-- list in each of the sums here, and a head more in `head_low`.
 use Rattle.std.proofs.Common.{◌≡◌, ◌≢◌, ◌⊎◌, ℕ, suc, ◌+◌, ◌<◌, ◌≤◌, Bool, true, false, cond, ◌==◌, nat_lt, List, []}
 use Rattle.std.proofs.Common.{◌∷◌, length, refl, sym, ap, subst, ◌∙◌, inl, inr, zero-add, arith}
 use Rattle.std.proofs.lemmas.Bool.Decides.{eqb_tells, nat_tests}

@@ -1,4 +1,8 @@
--- Rings as functions from number to number: what a ring is after a number has left it or come in.
+-- A ring is a function from number to number with another one back: they undo each other still when a number is passed
+-- over or put in (`passed_there`, `put_there`, `put_back`), and a path then is the list without it, or with it
+-- (`path_without`), for Linked. Each goes by cases: the number before, the number itself, all others, which no change
+-- reaches because no two numbers lead to one. `chain_is` reads a path back as its list, as long as its numbers are
+-- below n and its end isn't.
 use Rattle.std.proofs.Common.{◌≡◌, ◌≢◌, ℕ, zero, suc, ◌<◌, ◌≤◌, true, false, cond, ◌==◌, nat_lt, List, [], ◌∷◌, length}
 use Rattle.std.proofs.Common.{refl, sym, ap, subst, ◌∙◌, inl, inr, arith}
 use Rattle.std.proofs.lemmas.Bool.Decides.{eqb_tells, nat_tests}

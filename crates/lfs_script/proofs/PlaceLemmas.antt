@@ -1,4 +1,8 @@
--- Where a fault stands, from one byte or word to the next.
+-- The place of a fault in a line is found from one byte or word to the next: `byte_on` and `byte_here`, `bare_on` and
+-- `bare_here`, `unread_on` and `unread_here`, each for the loop of its function (`push_byte_place`, `push_bare_place`,
+-- `push_unread_place`). What is told of the rest of the line from here is what is told of the whole, so each step
+-- passes what is good, with its column, and stops at the first that isn't. Where none is found nothing is told
+-- (`byte_none` and its like); a text that told two places would need another invariant.
 use Rattle.std.proofs.Common.{◌≡◌, ℕ, Bool, ◌+◌, ◌<◌, ◌≤◌, true, false, List, [], ◌∷◌, ◌++◌, length, map, drop, get_or, Bor, refl}
 use Rattle.std.proofs.Common.{◌∙◌, OnOk, Result}
 use Rattle.std.proofs.Math.ListN.{drop_of_length-le}

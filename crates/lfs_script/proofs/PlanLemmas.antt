@@ -1,4 +1,9 @@
--- A plan grows line by line.
+-- A plan is read line by line, and what was read with what is left is the plan of the whole text: `plan_step`,
+-- `plan_end` and `plan_cut` for `take_line` and `parse_script`, `verb_first` for `parse_words`; SameLemmas of
+-- `lfs_live` reads streams by them. `lines_of` splits at line feeds, so a text with a first line is that line and the
+-- lines of the rest (`lines_first`), and one without a feed is cut off, unless it's empty. The hard part is that the
+-- fault told is the first: no line before the one in hand is at fault (`plan_least`), so a check that could fail a line
+-- by what stands behind it would break this.
 use Rattle.std.proofs.Common.{◌≡◌, ℕ, zero, suc, ◌+◌, ◌-◌, ◌<◌, ◌≤◌, ◌==◌, Bool, true, false, cond, List, [], ◌∷◌}
 use Rattle.std.proofs.Common.{length, map, take, drop, get_or, None, Some, Result, Ok, Err, refl, sym, ap, subst, ◌∙◌}
 use Rattle.std.proofs.Common.{arith}

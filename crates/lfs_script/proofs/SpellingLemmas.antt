@@ -1,4 +1,8 @@
--- A line of words says what its words say.
+-- A line of words is read as its words, so a call that is spelled is the one said: `line_back` for `push_request` and
+-- BackCalls of `lfs_journal_lines`, `words_split` and `line_printable` for BackLine. No word has a space and none is
+-- empty, so the line is split into just these words (induction), and it's printable, so it's no fault. No verb begins
+-- as a comment does, and each is found in the table by its own name (`is_verb`); a new call needs its line there, and a
+-- verb like `#` would be skipped.
 use Rattle.std.proofs.Common.{◌≡◌, ℕ, ◌<◌, ◌≤◌, ◌==◌, Bool, true, false, cond, List, [], ◌∷◌, ◌++◌, length, get_or}
 use Rattle.std.proofs.Common.{codes, None, Some, Ok, refl, ap, sym, subst, ◌∙◌, arith, rules, tests}
 use Rattle.std.specs.Prelude.{decimal, nat_le, not, ◌&&◌}

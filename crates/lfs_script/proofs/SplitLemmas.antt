@@ -1,4 +1,8 @@
--- Calls are sorted by session one by one.
+-- Calls are sorted by session one by one: `sorted_push` and `sorted_skip` for `calls_by_session`, `with_call-push` for
+-- `push_call`, `empty_more` and `script_more` for the lists before and after. The invariant is that each session's list
+-- has its calls among the steps so far, in order; a step more adds its call to its own session's list and leaves the
+-- others (`here`, `elsewhere`). Steps of the cleaner ask for no user's call and leave all lists (`calls_of-other`); a
+-- step with two calls would need `here` twice.
 use Rattle.std.proofs.Common.{◌≡◌, ◌≢◌, ℕ, ◌+◌, ◌<◌, ◌==◌, true, false, cond, List, [], ◌∷◌, ◌++◌, length, get_or}
 use Rattle.std.proofs.Common.{Option, None, Some, refl, sym, ap, map, subst, ◌∙◌, inl, inr, arith, length-set}
 use Rattle.std.proofs.Math.ListN.{set}

@@ -1,4 +1,7 @@
--- Numbers in bytes that stay, and bytes of equal numbers.
+-- Numbers in a summary's bytes stay where these stay, and equal numbers have equal bytes: `word_kept` and `half_kept`
+-- for `encode`, `word_bytes` and `half_bytes` for EntryLemmas and SummaryLemmas. A number is its bytes weighed by
+-- powers of 256, and each is below 256 (IsBlock), so it fixes them. Without that bound two blocks could spell the same
+-- summary, and a summary wouldn't be told by its bytes.
 use Rattle.std.proofs.Common.{◌≡◌, ℕ, zero, suc, ◌+◌, ◌-◌, ◌<◌, ◌≤◌, List, length, get_or, slice_index, take, drop}
 use Rattle.std.proofs.Common.{replicate, refl, sym, ap, ◌∙◌, ⊎_elim, arith}
 use Rattle.std.proofs.lemmas.Bool.{cases_lt}

@@ -1,4 +1,9 @@
--- What the log of a segment expects and names, address by address.
+-- What a log expects and names at an address rests on the earlier blocks of its segment (`expected-same`,
+-- `entry_at-same`), and what it expects it names in turn (`entry_at-pending`): WritingLemmas stands on these, and the
+-- scan of `lfs_log` on the steps between (`expected_at-more`, `names_from-more`). Each goes by induction on the number
+-- of blocks, as `expected` does; None stays None (`expected-ended`), and zeros behind whole partial segments are no
+-- summary, so they end the log (`expected-zeros`). Nothing here would hold of an `expected` that looks ahead, or that
+-- goes on behind a block that is no summary.
 use Rattle.std.proofs.Common.{◌≡◌, ℕ, zero, suc, ◌+◌, ◌-◌, ◌*◌, ◌/◌, ◌<◌, ◌≤◌, List, [], ◌∷◌, ◌++◌, Option, Some, None}
 use Rattle.std.proofs.Common.{option_and_then, length, drop, refl, sym, ap, ◌∙◌, arith, append_assoc, append-nil}
 use Rattle.std.specs.List.{slice_get}

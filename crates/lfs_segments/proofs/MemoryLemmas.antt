@@ -1,4 +1,7 @@
--- The memory stays laid out.
+-- `IsLaidOut` holds of a new memory, after an append and after an opening: `fresh_laid_out`, `appended_laid_out`,
+-- `opened_laid_out`, for `Segments::format`, `append` and `open_next`. `written` puts in as many blocks as it takes
+-- out, each of 512 bytes, so the length and all places outside of the run stay. Other files know `written` by
+-- `get_or-written_before`, `get_or-written_inside` and `get_or-written_after` alone: a change of it is mended here.
 use Rattle.std.proofs.Common.{◌≡◌, ℕ, zero, suc, ◌+◌, ◌-◌, ◌*◌, ◌/◌, ◌<◌, ◌≤◌, List, [], ◌∷◌, ◌++◌, All, length, get_or}
 use Rattle.std.proofs.Common.{take, drop, set, replicate, refl, sym, ap, ◌∙◌, arith}
 use Rattle.std.proofs.lemmas.List.{append_assoc, drop_more, get_or-append_right, get_or-drop, get_or-take}

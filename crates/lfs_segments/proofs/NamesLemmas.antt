@@ -1,4 +1,7 @@
--- What a log names are entries, and a segment has at most 62 of them.
+-- All that a log names are entries (`IsEntry-named`), and a segment has at most 62 (`names_from-at_most`, for the scan
+-- of `lfs_log`). `IsCounted` goes block by block and counts summaries beside names: the two together are at most 64
+-- blocks, and each summary names at most 40, so one summary leaves 40 names and two leave 62. The 62 is another as soon
+-- as `ENTRY_LIMIT` or `SEGMENT_BLOCKS` is.
 use Rattle.std.proofs.Common.{◌≡◌, ℕ, zero, suc, ◌+◌, ◌-◌, ◌*◌, ◌/◌, ◌<◌, ◌≤◌, Bool, true, false, List, [], ◌∷◌, Option}
 use Rattle.std.proofs.Common.{Some, None, length, get_or, ⊎_elim, refl, sym, ap, subst, ◌∙◌, arith}
 use Rattle.std.specs.List.{Contains}

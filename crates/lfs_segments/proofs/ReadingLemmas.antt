@@ -1,4 +1,8 @@
--- A block that spells a summary passes the tests and names its entries; another names none.
+-- `summary_entries` names a block's entries just where the grammar `IsSummaryBlock` has a summary for it:
+-- `entries_read` for `Summary::decode`, `summary_entries-spelled` for `encode`. `PassesEach` takes `is_summary` apart,
+-- a fact for each test; from these `summary_of` makes the summary, filled up to 40 entries with `unused`, and shows
+-- that the bytes spell it. A field more in the grammar needs its test in `is_summary`, else `summary_of` can't be
+-- shown.
 use Rattle.std.proofs.Common.{◌≡◌, ℕ, ◌+◌, ◌-◌, ◌*◌, ◌<◌, ◌≤◌, Bool, true, false, ◌&&◌, nat_lt, nat_le, ◌==◌, List}
 use Rattle.std.proofs.Common.{◌++◌, Option, Some, None, IfSome, option_map, get_or, slice_index, length, replicate}
 use Rattle.std.proofs.Common.{refl, sym, ap, subst, ◌∙◌, ⊎_elim, arith}

@@ -1,4 +1,8 @@
--- What the tests on bytes say.
+-- The tests on a summary's bytes say what the types ask for: `may_name-true` and `true-may_name`, `entry_from-spelled`
+-- and `spelled-entry_from`, for ReadingLemmas and EntryLemmas. The kinds of blocks have numbers apart from one another
+-- and from each index that a file can have, so a block is read back from its number (`block_from-block_number`) and a
+-- number from its block (`block_number-block_from`). The latter holds of any number, as what is none of the others
+-- counts as data; a new kind of block needs a range of its own, and its line in `may_name-true`.
 use Rattle.std.proofs.Common.{◌≡◌, ℕ, zero, suc, ◌+◌, ◌*◌, ◌<◌, ◌≤◌, Bool, true, false, ◌&&◌, nat_lt, nat_le, ◌==◌}
 use Rattle.std.proofs.Common.{List, get_or, length, refl, sym, ap, ◌∙◌, ⊎_elim, inl, inr, arith}
 use Rattle.std.proofs.lemmas.Bool.{cases_lt, eqb-true, leb-true, ltb-true, le-leb, lt-leb, le-ltb, lt-ltb}

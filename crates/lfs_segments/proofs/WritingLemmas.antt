@@ -1,4 +1,8 @@
--- What each change of the memory leaves, and what the log expects then.
+-- What the log expects and names behind each change of the memory: `Expects-put`, `Expects-opened`, `Extends-appended`,
+-- for `Segments::begin`, `put` and `open_next`. A put writes the address at the fill alone, and an entry rests on
+-- earlier blocks of its segment, so all that is older stays and the expectation takes one `after_block`; an opened
+-- segment is zeros, which are no summary, so its old names are gone. Both fall if a name could rest on a later block,
+-- or if `summary_entries` made something of `zero_block`.
 use Rattle.std.proofs.Common.{◌≡◌, ◌≢◌, ℕ, ◌+◌, ◌-◌, ◌*◌, ◌/◌, ◌<◌, ◌≤◌, ◌⊎◌, inl, inr, List, [], ◌∷◌, Some, None}
 use Rattle.std.proofs.Common.{length, get_or, replicate, refl, ap, ◌∙◌, ⊎_elim, arith}
 use Rattle.std.specs.List.{slice_get}

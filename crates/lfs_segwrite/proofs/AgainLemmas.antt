@@ -1,4 +1,8 @@
--- A block of a file waits with what it has.
+-- A block that has a place may wait with what it has (`place_may`, `place_within`, `place_address`), and then no file
+-- shows otherwise and only keys on its way wait more (`record_again`, `block_again`): for `marking::stage_info` and
+-- `stage_again`. A number that isn't in use has no key with a place, so this one is in use (`place_used`); a block past
+-- the size has no address, so it lies within. So the cleaner needs no right of its own: it stages what any change could
+-- stage.
 use Rattle.std.proofs.Common.{◌≡◌, ◌≢◌, ◌⊎◌, ℕ, zero, suc, ◌*◌, ◌/◌, ◌<◌, length, Some, IsSome, is_some, true, refl}
 use Rattle.std.proofs.Common.{sym, ap, ◌∙◌, subst, inl, inr, arith}
 use Rattle.std.proofs.lemmas.Bool.{cases_Bool, cases_eq, cases_lt}

@@ -1,4 +1,8 @@
--- Room made, changes staged and all of it written, as one.
+-- Writing what waits, and staging changes behind that, moves no key into a dirty segment and changes no block that was
+-- written: `writes_waiting` for `writing::write_waiting`, `makes_changes` for `applying::apply`. What is written lies
+-- in the active segment, which was active before or clean, so it wasn't dirty (`active_other`) and its old blocks lie
+-- before the end (`outside`). That one opening is enough is arithmetic: what waits takes 41 blocks at most
+-- (`waits_few`), changes take 22, and a segment has 63.
 use Rattle.std.proofs.Common.{◌≡◌, ◌≢◌, ◌⊎◌, ℕ, zero, suc, ◌+◌, ◌*◌, ◌/◌, ◌<◌, ◌≤◌, List, [], length, IsSome, refl, sym}
 use Rattle.std.proofs.Common.{ap, ◌∙◌, subst, inl, inr, arith}
 use Rattle.std.specs.Prelude.{slice_index_or, if◌then◌else◌, ◌==◌, true}

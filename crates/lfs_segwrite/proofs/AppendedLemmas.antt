@@ -1,4 +1,8 @@
--- A block was put at the log's end: each file is as it was, and the log has spare bytes.
+-- A summary or a block of records put at the log's end changes no file, and makes 512 bytes spare: `appended_staged`,
+-- `appended_advances`, `summary_put`, for `flushing::begin_partial` and RecordsLemmas. Each key's place lies before the
+-- end of the log or in another segment, so no file has a block at the address that is written (`unread`), and all
+-- readings stay (`kept_blocks` of `lfs_bmap`). A put into the middle of the log would need that fact for each address
+-- anew.
 use Rattle.std.proofs.Common.{◌≡◌, ℕ, zero, suc, ◌+◌, ◌<◌, ◌≤◌, List, [], length, IsSome, refl, sym, ap, ◌∙◌, subst}
 use Rattle.std.proofs.Common.{inl, inr, arith}
 use Rattle.std.specs.Prelude.{All}

@@ -1,4 +1,8 @@
--- What changes that may be asked for are of: files in use, of lengths that they may have.
+-- Changes that may be asked for by a content are of files in use, and keep their sizes allowed: `put_sized`,
+-- `length_sized`, `may_change` and `shown_used`, for `put_some` and `stage_change`. A content shows a file just for a
+-- number in use, its bytes are as many as its record's size, and what CanApply asks of the new length is what the
+-- record must keep (`size_of`). No bytes put change nothing (`put_nothing`), so such a change isn't staged at all; a
+-- kind of file with other lengths changes IsLength here and IsSizeOf in the record alike.
 use Rattle.std.proofs.Common.{◌≡◌, ℕ, ◌+◌, ◌<◌, ◌≤◌, max, List, [], ◌∷◌, length, Option, None, Some, is_some, IsSome}
 use Rattle.std.proofs.Common.{IsSomeAnd, true, false, refl, sym, ap, ◌∙◌, subst, inl, inr, arith}
 use Rattle.std.specs.FinMap as map

@@ -1,4 +1,8 @@
--- How much changes take at most, that may be asked for in one call.
+-- What one call may ask takes at most 20 frames, 24 while it is staged, a record for each change, and 22 blocks:
+-- `frames_most`, `peak_most`, `records_most`, `needs_few`, for `applying::apply`. The frames are summed change by
+-- change: a put of n bytes takes (n + 2558) / 512 at most, a new length three, and `CanApply` bounds bytes, puts and
+-- lengths; a cut needs four more for a while. With other bounds in `CanApply`, or a level more of indirect blocks, the
+-- sums pass `LOCKED_LIMIT` and one summary.
 use Rattle.std.proofs.Common.{◌≡◌, ℕ, zero, suc, ◌+◌, ◌-◌, ◌*◌, ◌/◌, ◌%◌, ◌<◌, ◌≤◌, List, [], ◌∷◌, All, length, refl}
 use Rattle.std.proofs.Common.{inl, inr, arith}
 use Rattle.std.specs.FinMap as map

@@ -1,4 +1,8 @@
--- What waits to be written, counted.
+-- `collecting::to_land` lists an entry for each block that waits, pass by pass, and then one for each four records:
+-- `collected_more`, `collected`, with `collected_room` and `all_entries`. Each key is in just one of three passes, as
+-- its rank is below 3 (`rank_of-few`), so the order is as long as the list of keys (`in_order-length`, by induction on
+-- it). They fit one summary: 24 frames and the 16 blocks of 64 records are its 40 entries; a higher limit of either
+-- needs a second one.
 use Rattle.std.proofs.Common.{◌≡◌, ◌≢◌, ℕ, zero, suc, ◌+◌, ◌<◌, ◌≤◌, List, [], ◌∷◌, ◌++◌, All, Bool, true, false}
 use Rattle.std.proofs.Common.{length, map, replicate, take, drop, get_or, cond, refl, sym, ap, ◌∙◌, subst, inl, inr}
 use Rattle.std.proofs.Common.{arith, length-append}

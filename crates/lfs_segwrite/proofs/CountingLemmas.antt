@@ -1,4 +1,8 @@
--- How many keys and numbers some infos have.
+-- The frames and records that some infos take are counted without repeats (`gathered`, `records_more`, for
+-- `counting::frames_to_mark` and `records_to_mark`), and no more come to wait (`frames_counted`, `records_counted`, for
+-- StagesLemmas). One element more counts where it isn't there yet (`count_push`), and a list without repeats is no
+-- longer than the distinct elements of one that has all of its elements (`part_count`). Were it counted with repeats,
+-- eight blocks under one indirect block would seem to need more frames than there are.
 use Rattle.std.proofs.Common.{◌≡◌, ℕ, zero, suc, ◌+◌, ◌*◌, ◌<◌, ◌≤◌, List, [], ◌∷◌, ◌++◌, get_or, length, length-append}
 use Rattle.std.proofs.Common.{map, take, None, Some, IsSome, is_some, Bool, true, false, cond, refl, sym, ap, ◌∙◌}
 use Rattle.std.proofs.Common.{subst, inl, inr, arith}

@@ -1,4 +1,8 @@
--- All that waits is written: the blocks in their order, then the records.
+-- `flushing::flush` writes all that waits, blocks first and then records: `keys_more` for `land_blocks`,
+-- `remains_fewer` for `land_all_records`, `flushed` for the whole. Of the keys in order the first k are written, the
+-- others wait, and the log expects the entries from k on (`LandsKeys`); then come the records by four (`Remains`). The
+-- hard part is that no block waits whose address the next one holds (`IsNext`): such a block has a lower rank, and so
+-- came before; by another order an indirect block would be written without an address.
 use Rattle.std.proofs.Common.{◌≡◌, ◌≢◌, ℕ, zero, suc, ◌+◌, ◌-◌, ◌<◌, ◌≤◌, List, [], ◌∷◌, length, map, replicate, take}
 use Rattle.std.proofs.Common.{drop, get_or, IsSome, is_some, true, false, refl, sym, ap, ◌∙◌, subst, inl, inr, arith}
 use Rattle.std.specs.Prelude.{◌==◌, Bool, if◌then◌else◌}

@@ -1,4 +1,9 @@
--- Blocks of a segment that are written again by eights: what it takes, and that none is left.
+-- A gainful segment is emptied by eights, and that gains room: `eights_more`, `emptied`, `spent_gains`, for
+-- `gaining::mark_by_eights` and `empty_segment`. A marked block gets a place outside of the dirty segments and no key
+-- moves into one later, so an info that was marked names nothing any more (`marked_gone`, `named_before`); and each key
+-- that lies in the segment has an info there (`placed_listed`), so none lies there at the end. `Spends` adds up what
+-- the eights take, with what is left behind where a segment is opened; `IsWorth` keeps it below a whole one, and a call
+-- that wrote more than it was reckoned would break `spent_next`.
 use Rattle.std.proofs.Common.{◌≡◌, ◌≢◌, ◌⊎◌, ℕ, zero, suc, ◌+◌, ◌*◌, ◌/◌, ◌<◌, ◌≤◌, List, [], ◌∷◌, ◌++◌, drop, get_or}
 use Rattle.std.proofs.Common.{length, map, take, Bool, true, false, cond, max, refl, sym, ap, ◌∙◌, subst, inl, inr}
 use Rattle.std.proofs.Common.{arith}

@@ -1,5 +1,8 @@
--- The infos of a segment: each names a block that a file can have, and those of the keys that have places there stand
--- among them.
+-- Each key that has a place in a segment has an info there that names it (`placed_listed`, `live_kept`), for
+-- GainLemmas; the live infos are of that segment (`live_here`), for `gaining::empty_segment`, and each info's logical
+-- number is that of a block (`info_block`). `IsLog` says that the log names the key at its place, and `lfs_log` that
+-- the infos are those of what the log names (`infos_of-named`, `infos_of-only`). A key at whose place the log named
+-- something else would be passed over, and lost when its segment is opened anew.
 use Rattle.std.proofs.Common.{◌≡◌, ◌≢◌, ℕ, zero, suc, ◌-◌, ◌/◌, ◌<◌, List, [], ◌∷◌, get_or, None, Option, Some, Bool}
 use Rattle.std.proofs.Common.{true, refl, sym, ap, ◌∙◌, subst, inl, inr, arith}
 use Rattle.std.specs.Prelude.{◌==◌, All, not, option_map}

@@ -1,4 +1,8 @@
--- What holds of the files holds still when a block landed.
+-- When a block landed, `AreFiles` holds still, the content is the same, and what else was LOCKED is so: `files_kept`,
+-- `content_kept`, `frames_kept`, `frames_only`, for `landing::land_block`. By LandedLemmas each data block reads as
+-- before, and the one address that changed is of a block within the size; the record that holds it has the same
+-- attributes. For `Mirrors` the block is clean now and is what the log has at its new address, while the address of
+-- every other clean block stayed.
 use Rattle.std.proofs.Common.{true, ◌≡◌, ◌≢◌, ℕ, ◌/◌, ◌%◌, ◌<◌, ◌≤◌, ◌⊎◌, List, [], ◌∷◌, length, Some, IsSome, false}
 use Rattle.std.proofs.Common.{is_some, refl, sym, ap, ◌∙◌, subst, inl, inr}
 use Rattle.std.specs.Prelude.{slice_index}

@@ -1,4 +1,8 @@
--- A block that waits was written: what else waits still does, and its key alone has another place.
+-- When a block landed, its key waits no more, every other one does still, and no other has another place:
+-- `landed_staged`, `landed_advances`, `landed_gone`, for `flushing::land_waiting`. The frame of one key is made clean
+-- and its place alone changes (`GetsPlace`), so it is a matter of telling keys apart. The hard clause is `ParentsWait`:
+-- the block that landed may not hold the address of one that waits (`free` of `LandsKey`), which is why FlushLemmas
+-- goes by ranks.
 use Rattle.std.proofs.Common.{◌≡◌, ◌≢◌, ℕ, zero, suc, ◌*◌, ◌/◌, ◌<◌, ◌≤◌, ◌⊎◌, List, [], ◌∷◌, length, Some, is_some}
 use Rattle.std.proofs.Common.{false, refl, sym, ap, ◌∙◌, subst, inl, inr, arith}
 use Rattle.std.proofs.lemmas.Bool.{cases_eq, false≢true}

@@ -1,4 +1,8 @@
--- A block that waits lands: what that makes of each file, and of the log.
+-- A block put at the log's end, its address set and its frame made clean is `Lands` for its file, and no data block of
+-- any file reads otherwise: `lands`, `data_same`, `place_after`, `log_after`, for `landing::land_block` and
+-- KeepingLemmas. No block of any file had that address (`unread`), so ReadingLemmas of `lfs_bmap` applies; for the log
+-- the put makes 512 bytes spare, which the key takes (`written_log`, `taken_log`). The log must name the key there: a
+-- block that lands out of the summary's order breaks `log_after`.
 use Rattle.std.proofs.Common.{◌≡◌, ◌≢◌, ℕ, ◌+◌, ◌-◌, ◌*◌, ◌/◌, ◌<◌, ◌≤◌, ◌⊎◌, List, [], ◌∷◌, length, None, Some, IsSome}
 use Rattle.std.proofs.Common.{false, sym, ap, ◌∙◌, subst, inl, inr, arith}
 use Rattle.std.specs.Prelude.{slice_set}

@@ -1,4 +1,8 @@
--- Blocks that were staged with what they had were written again.
+-- The blocks that some infos name were written again, and keys that are on no way to them stayed: `marks_again` for
+-- `marking::mark_settled`, `marks_after` for `mark`. They were staged with the bytes that they had and then flushed: so
+-- the content is the same, and a key that waited lies behind the old end of the log, elsewhere than before
+-- (`elsewhere`) and in no dirty segment (`outside`). Where nothing waited before, what waits is on those ways
+-- (`on_way`); a mark over waiting changes would move other keys too.
 use Rattle.std.proofs.Common.{◌≡◌, ◌≢◌, ◌⊎◌, ℕ, zero, suc, ◌+◌, ◌*◌, ◌/◌, ◌<◌, ◌≤◌, List, All, get_or, length, refl}
 use Rattle.std.proofs.Common.{sym, ap, ◌∙◌, subst, inl, inr, arith}
 use Rattle.std.specs.Prelude.{Contains, if◌then◌else◌, ◌==◌, slice_index_or}

@@ -1,4 +1,9 @@
--- The block that an info names, and that it is there.
+-- `code_named` turns the logical number of an info into the code of its block, `BLOCK_CODES` where there is none
+-- (`code_named-block`, `code_named-none`), and a named info has its block at its address (`named_there`,
+-- `named_place`), for `counting` and `marking`; `named_address` is for the `bmapv` of `lfs_logstore`. A number is of
+-- one of five kinds or of no block (`kinds`), and no two numbers have one code (`same_lbn`), so infos that name one
+-- block are the same (`same_named`). Another kind of logical number is another case of `kinds`, apart from all the
+-- others.
 use Rattle.std.proofs.Common.{◌≡◌, ◌≢◌, ◌⊎◌, ℕ, ◌-◌, ◌/◌, ◌<◌, ◌≤◌, List, [], length, min, refl, sym, ap, ◌∙◌, subst}
 use Rattle.std.proofs.Common.{inl, inr, arith}
 use Rattle.std.specs.Prelude.{◌&&◌, if◌then◌else◌, nat_le, nat_lt}

@@ -1,4 +1,8 @@
--- The order in which what waits is written names each key once.
+-- The order of writing has each key that waits, once (`in_order-locked`, for `collecting::to_land`), and behind a key
+-- none of a lower rank (`in_order-after`, for FlushLemmas). The passes filter one list by rank: keys of two passes
+-- differ (`lacks_pass`), each key comes in the pass of its rank (`passes_have`), and no key is twice in what isn't
+-- twice in the list. `in_order-after` is why an indirect block is written with all its addresses; a fourth rank would
+-- need a fourth pass.
 use Rattle.std.proofs.Common.{◌<◌, ◌≤◌, refl, ◌-◌, length-append, get_or, sym, ◌≡◌, ◌≢◌, ℕ, zero, suc, List, [], ◌∷◌}
 use Rattle.std.proofs.Common.{◌++◌, All, map, replicate, Bool, true, false, cond, length, Some, IsSome, ap, ◌∙◌, subst}
 use Rattle.std.proofs.Common.{inl, inr, arith}

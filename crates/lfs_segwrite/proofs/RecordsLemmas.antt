@@ -1,4 +1,8 @@
--- The records that wait are written, up to four into one block.
+-- The records that wait are written four to a block and land from the last: `recording_more` and `record_stands`, for
+-- `land_records`. The invariant IsRecording says that those which wait still are the first of the old list and that 128
+-- bytes are spare for each record in the block that hasn't landed, so each landing takes just its share. A record
+-- stands in the slot by its place in the list (`record_stands`), and the log names it there; another number of records
+-- in a block changes the spare bytes and the slots.
 use Rattle.std.proofs.Common.{◌≡◌, ℕ, ◌+◌, ◌-◌, ◌*◌, ◌<◌, ◌≤◌, List, [], ◌∷◌, ◌++◌, length, take, drop, get_or, Some}
 use Rattle.std.proofs.Common.{option_map, refl, sym, ap, ◌∙◌, subst, arith, length-append}
 use Rattle.std.specs.List.{slice_get}

@@ -1,4 +1,7 @@
--- Opening a segment keeps what the files show.
+-- Opening a clean segment keeps every file, key and frame: `opens_segment`, for `room::open_segment`. Each key that has
+-- a place has it in a segment that isn't clean (`away`), so the blocks of all records and files are outside of the
+-- zeros; a record without an address is read off block 0, the label, which an opening leaves (`label_kept`). Were a
+-- segment counted clean while a key lies in it, its blocks would be gone here.
 use Rattle.std.proofs.Common.{◌≡◌, ◌≢◌, ℕ, zero, suc, ◌+◌, ◌-◌, ◌*◌, ◌/◌, ◌<◌, ◌≤◌, List, [], length, None, Some}
 use Rattle.std.proofs.Common.{Option, option_map, is_some, refl, sym, ap, ◌∙◌, subst, inl, inr, arith}
 use Rattle.std.specs.Prelude.{slice_index, true}

@@ -1,4 +1,8 @@
--- A record that stands in the log waits no more.
+-- A record that stands in a slot of the log waits no more, and all files are what they were: `settled_staged`,
+-- `settled_advances`, for `records::settle_record`. Read at its new place it is the one that waited (`record_here`);
+-- its key takes the place and with it 128 of the spare bytes that the inode block brought (`taken_log`). The last
+-- record is popped, and as no number waits twice none of its number is left (`last_once`); nothing else may wait by
+-- then, which `no_frame` says.
 use Rattle.std.proofs.Common.{◌≡◌, ◌≢◌, ℕ, zero, suc, ◌+◌, ◌-◌, ◌*◌, ◌/◌, ◌<◌, ◌≤◌, List, [], ◌∷◌, ◌++◌, length, None}
 use Rattle.std.proofs.Common.{Some, IsSome, is_some, true, length-append, option_and_then, refl, sym, ap, ◌∙◌, subst}
 use Rattle.std.proofs.Common.{inl, inr, arith}

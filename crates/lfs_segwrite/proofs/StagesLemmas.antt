@@ -1,4 +1,8 @@
--- The blocks of several infos wait, one after another.
+-- The blocks of several infos are staged again one after another: `stages_none` and `stages_more`, for `stage_named`.
+-- Behind each info all that waits is on the way to the block of one of them (StagesNamed), and staging one more with
+-- what it has changes no address, so a later info names still what it named (`stages_named`). An info takes three
+-- frames and one record at most (`stages_frames`, `stages_records`), so frames for all are known to be there; a deeper
+-- tree of addresses would take more.
 use Rattle.std.proofs.Common.{◌≡◌, ℕ, zero, suc, ◌+◌, ◌*◌, ◌<◌, ◌≤◌, List, [], ◌∷◌, ◌++◌, All, get_or, length, map}
 use Rattle.std.proofs.Common.{take, IsSome, is_some, sym, ap, ◌∙◌, subst, inl, inr, arith}
 use Rattle.std.specs.Prelude.{◌==◌}

@@ -1,4 +1,8 @@
--- A journal as an interleaving, call by call and session by session.
+-- A journal is compared with scripts and transcripts session by session: `session_agrees`, `lone_script`,
+-- `lone_transcript` and `agreed_more` for `differing_session`, `begun_whole` for `behind_setup`. The loop takes both
+-- lists apart from the front, and what is left of them stands at the places from the session on (`left_head`,
+-- `left_more`), so each step decides the next session alone. Behind both lists no session has a script or a transcript
+-- (`all_agree`); a session with one and not the other is told as differing.
 use Rattle.std.proofs.Common.{◌≡◌, ◌↔◌, ℕ, ◌+◌, ◌-◌, ◌<◌, ◌≤◌, suc, Bool, List, [], ◌∷◌, length, Option, None, Some}
 use Rattle.std.proofs.Common.{refl, sym, ap, subst, ◌∙◌, inl, inr, arith}
 use Rattle.std.proofs.lemmas.Bool.{cases_lt}

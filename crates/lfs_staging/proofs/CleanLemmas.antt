@@ -1,4 +1,8 @@
--- The clean blocks that a cache holds are what the log has: how that is kept.
+-- Each clean block that the cache holds is what the log has at its address (Mirrors), and stays so: `mirrors_log`,
+-- `mirrors_read` and `logged_kept`, for GrowthLemmas, KeptLemmas, GivingLemmas and `lfs_segwrite`. A clean block is
+-- kept if its number is in use, and its address and the log's block there are the same; a block that doesn't wait reads
+-- as what the log has (`log_read`), so equal readings do as well. No call may make a block clean that the log hasn't; a
+-- removal that left a clean block of its number would break `present`.
 use Rattle.std.proofs.Common.{◌≡◌, ◌≢◌, ◌⊎◌, ℕ, ◌<◌, List, [], None, Some, length, false, true, refl, sym, ap, ◌∙◌}
 use Rattle.std.proofs.Common.{subst, inl, inr}
 use Rattle.std.proofs.lemmas.Bool.{cases_eq, false≢true}

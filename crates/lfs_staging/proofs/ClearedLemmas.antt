@@ -1,4 +1,7 @@
--- A block of a file is given back: what that makes of each file, and of the log.
+-- A block given back in three steps is `Clears` for its file, nothing for other files, and keeps `IsLog`: `clears`,
+-- `others_same`, `log_after`, for GivingLemmas and GivenBackLemmas. UnstagedLemmas has the address set and the frame
+-- gone; the block holds no address itself (`beneath`), so nothing else is read otherwise, and for the log its key loses
+-- its place (`left_log`). With an address left in the block, what stands there would keep a place that no way leads to.
 use Rattle.std.proofs.Common.{◌≡◌, ◌≢◌, ℕ, ◌+◌, ◌<◌, ◌⊎◌, List, [], ◌∷◌, length, None, IsSome, false, sym, ap, ◌∙◌}
 use Rattle.std.proofs.Common.{subst, inl, inr, arith}
 use Rattle.std.specs.Prelude.{⊤}

@@ -1,4 +1,8 @@
--- Blocks of a file are given back one after another.
+-- Data blocks of a file are given back one after another: `clears_none`, `may_clear` and `clears_more`, for
+-- `Parts::clear_blocks`; DroppingLemmas and EmptiedLemmas use besides that two steps that keep the rest keep it
+-- together (`rest_trans`). A step takes one address and one frame away, so what is gone stays gone (`gone_still`), and
+-- what lies past the size was gone from the start (`past_gone`). The holders of the data blocks wait all the while, as
+-- none of them is a data block.
 use Rattle.std.proofs.Common.{◌≡◌, ℕ, ◌+◌, ◌<◌, ◌≤◌, List, ◌∷◌, Option, None, Some, IsSome, true, refl, sym, ap, ◌∙◌}
 use Rattle.std.proofs.Common.{subst, inl, inr, arith}
 use Rattle.std.proofs.lemmas.Bool.{cases_eq, cases_lt, cond-true}

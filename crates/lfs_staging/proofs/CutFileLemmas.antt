@@ -1,4 +1,7 @@
--- A file is cut, step by step.
+-- `Parts::cut` in four steps, the record staged, the last block zeroed, the blocks past it dropped and the size set, is
+-- one cut of the file: `may_drop_all`, `may_shorten`, `cut_file`. Each data block is cut: below the last one by
+-- `below_cut`, the last by its zeros, and those past it because a block that is gone reads as zeros (`gone_zeros`). The
+-- four free frames that it asks for are those of `cut_codes`; one more for the record's holder would break `own_room`.
 use Rattle.std.proofs.Common.{◌≡◌, ℕ, ◌+◌, ◌-◌, ◌/◌, ◌<◌, ◌≤◌, List, length, Some, refl, sym, ap, ◌∙◌, subst, inl, inr}
 use Rattle.std.proofs.Common.{arith}
 use Rattle.std.specs.List.{Contains}

@@ -1,4 +1,7 @@
--- What a block of a file has past a length is zeroed.
+-- What the last block of a length has past it is zeroed, and nothing where the length ends with a block: `cut_one`,
+-- `last_whole`, `last_cut`, for `Parts::cut_block` and `cut_last`. The blocks before it are whole, so a cut leaves them
+-- as they are (`below_cut` of `lfs_bmap`). What it has wait is among what the drop behind it may have wait
+-- (`length_codes-cut`, by `codes_on-behind`), which is why one count of frames serves both in CutFileLemmas.
 use Rattle.std.proofs.Common.{◌≡◌, ◌≢◌, ℕ, ◌+◌, ◌-◌, ◌*◌, ◌/◌, ◌%◌, ◌<◌, ◌≤◌, List, [], ◌∷◌, ◌++◌, length, suc}
 use Rattle.std.proofs.Common.{zero-add, refl, sym, ap, ◌∙◌, subst, inl, inr, arith}
 use Rattle.std.specs.Prelude.{if◌then◌else◌, ◌==◌}

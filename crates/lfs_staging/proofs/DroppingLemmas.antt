@@ -1,4 +1,8 @@
--- The blocks of a file past a length are given back, one block that holds addresses after another, the last first.
+-- All that leads only to data blocks past a length is given back: `drop_whole`, `drops_more`, `drops_all`, for
+-- `Parts::drop_table`, `drop_tables` and `drop_blocks`. It goes down by codes: `GoneDown` says that from one code on
+-- all is gone, and a turn adds an indirect block and what stands in it; codes rise from holder to held
+-- (`table_of-less`), so a block goes behind all whose addresses it holds. The hard case is the double block, code 2,
+-- which waits until its turn (`down_codes`): that bounds the frames, and another order of codes would not.
 use Rattle.std.proofs.Common.{Bool, List, [], ◌++◌, Some, IsSome, IsTrue, false, true, length, ap, arith, inl, inr}
 use Rattle.std.proofs.Common.{refl, subst, sym, ℕ, ◌+◌, ◌-◌, ◌<◌, ◌∙◌, ◌∷◌, ◌≡◌, ◌≢◌, ◌≤◌, ◌↔◌, ◌⊎◌, min, max}
 use Rattle.std.specs.List.{Contains}

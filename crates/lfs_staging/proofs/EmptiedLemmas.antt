@@ -1,6 +1,8 @@
--- The blocks whose addresses stand in an indirect block are given back, and then it: the addresses stay in it until it
--- goes. What the files are meanwhile is told of parts in which it waits with other bytes, without the addresses of the
--- blocks that went.
+-- The data blocks of an indirect block and then it go as if each were given back alone (`emptied_more`, `emptied_all`,
+-- for `Parts::clear_whole`), though their addresses stay in the block until it goes. `Emptied` holds of parts that no
+-- code makes: in these the block waits with bytes that lack the addresses of what went (OtherBytesLemmas); once it goes
+-- too, its bytes are nowhere, and the made-up parts and the true ones are the same (`given_table`). So `clear_whole`
+-- may not return before the block itself went.
 use Rattle.std.proofs.Common.{◌≡◌, ◌≢◌, ℕ, ◌+◌, ◌-◌, ◌*◌, ◌/◌, ◌%◌, ◌<◌, ◌≤◌, List, [], ◌∷◌, length, slice_index, Some}
 use Rattle.std.proofs.Common.{IsSome, is_some, false, refl, sym, ap, ◌∙◌, subst, inl, inr, arith}
 use Rattle.std.specs.Prelude.{All, slice_set}

@@ -1,4 +1,8 @@
--- What the parts contain at a number, and what a file shows.
+-- The content at a number is the file that its record and blocks make (`get-content_of`, `file_at-some`), so what is
+-- shown of it is the record's (`shown-record`, `bytes_of-record`, `least_shown`): for `Parts::attrs`, `read` and
+-- `least_free`. `content_below` is gone through number by number, and past the inode map no number is in use; the size
+-- shown is the record's because `file_bytes` is cut to it. `tree_from-of` needs `IsFile`: a record with another number
+-- or version would name another file's frames.
 use Rattle.std.proofs.Common.{◌≡◌, ℕ, zero, suc, ◌<◌, ◌≤◌, [], length, Option, None, Some, option_map, is_some, IsSome}
 use Rattle.std.proofs.Common.{true, false, refl, sym, ap, ◌∙◌, inl, inr, arith}
 use Rattle.std.specs.Ordering.{nat_cmp}

@@ -1,4 +1,8 @@
--- Clean blocks come into the cache and go: each file, and what waits, stays.
+-- Reading changes no file: where clean blocks alone came or went (`SameButClean`), records, trees, content and store
+-- are what they were (`same_trees`, `same_content`, `same_store`), for `Parts::read_blocks` and
+-- `LogStoreFileStore::read`. A tree reads LOCKED frames and the log, never LRU, which stands in `Mirrors` alone; and
+-- that holds still because the block that comes is what the log has (`held_clean`). A reader that left other bytes in
+-- LRU would break `Mirrors`, and later reads.
 use Rattle.std.proofs.Common.{◌≡◌, ℕ, ◌≤◌, List, [], All, length, None, Some, IsSome, is_some, true, refl, sym, ap, ◌∙◌}
 use Rattle.std.proofs.Common.{subst, inl, inr}
 use Rattle.lfs_inodes.specs.declared.inode.Inode.{Inode}

@@ -1,4 +1,8 @@
--- A block leaves what waits: what leads to it, the live bytes that it had, and what waits still.
+-- What is known of a block that leaves what waits: its old segment has its live bytes (`live_had`), its holder waits
+-- (`waited_parent`), and what waits else stays (`stays_landed`), for GivenBackLemmas, EmptiedLemmas and `land_block`.
+-- Live bytes are a sum over keys, and a key with an address is one of its terms; a block's way is its index and the way
+-- of the block above (`way_some`, by the three ranges of indices). If live bytes were counted another way than by keys,
+-- subtracting could go below zero here.
 use Rattle.std.proofs.Common.{◌≡◌, ◌≢◌, ℕ, ◌-◌, ◌*◌, ◌/◌, ◌%◌, ◌<◌, ◌≤◌, List, [], ◌∷◌, length, IsSome, true, refl, sym}
 use Rattle.std.proofs.Common.{ap, ◌∙◌, subst, inl, inr, arith}
 use Rattle.std.proofs.lemmas.Bool.{cases_lt, false≢true}

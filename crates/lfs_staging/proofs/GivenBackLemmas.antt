@@ -1,4 +1,8 @@
--- A block is given back: what its live bytes, its frame and the block with its address make of the parts.
+-- A block whose address was set to 0 and whose live bytes went is given back: `given_back`, with `may_lose` and
+-- `gives_forgotten`, for `clear` and EmptiedLemmas. Two steps make it: the holder of the address has 0 now and waits
+-- (Sets), then the table of live bytes lets the block's go, and its frame is forgotten (Gives), so sums and places
+-- agree again. The block must not stay clean in the cache, as a clean block must have an address (`unclean`); a `clear`
+-- that kept its frame would break Mirrors.
 use Rattle.std.proofs.Common.{◌≡◌, ◌≢◌, ℕ, ◌*◌, List, ◌∷◌, None, false, true, refl, sym, ap, ◌∙◌, subst, arith}
 use Rattle.lfs_inodes.specs.declared.inode.Inode.{Inode}
 use Rattle.lfs_inodes.specs.Reading.{fields_of}

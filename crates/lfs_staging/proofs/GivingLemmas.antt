@@ -1,4 +1,7 @@
--- What holds of the files and of what waits holds still when a block was given back.
+-- Behind a block that was given back the parts are staged still and the rest of the file is what it was: `cleared`, for
+-- GivenBackLemmas and so for `Parts::clear`. Of what waits the block alone is gone (`frames_only`, `frames_kept`), and
+-- each data block is the same or zeros, so the file stays padded. The hard clause is `ParentsWait`: the block could
+-- hold the address of one that waits, and doesn't because `MayClear` has what stands beneath it go before.
 use Rattle.std.proofs.Common.{◌≡◌, ◌≢◌, ℕ, ◌+◌, ◌/◌, ◌%◌, ◌≤◌, ◌⊎◌, List, [], ◌∷◌, length, Some, IsSome, is_some, true}
 use Rattle.std.proofs.Common.{false, refl, sym, ap, ◌∙◌, subst, inl, inr, arith}
 use Rattle.std.specs.Prelude.{slice_index}

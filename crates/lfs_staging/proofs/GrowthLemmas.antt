@@ -1,4 +1,7 @@
--- A file whose record waits with a greater size, and one into which bytes were put.
+-- A greater size, bytes put and other attributes show as the content says: `grown_to`, `put_shown`, `attrs_shown`, for
+-- `Parts::grow`, `put` and `set_attrs`. A record that waits with the same addresses leaves each block
+-- (`record_changed`), and blocks put one by one are the `splice` of the file (`put_splice` of `lfs_bmap`). The size may
+-- only grow here, since what is zero past it is zero past a greater one; a smaller one is ShorterLemmas'.
 use Rattle.std.proofs.Common.{◌≡◌, ◌≢◌, ℕ, ◌+◌, ◌*◌, ◌<◌, ◌≤◌, max, List, length, Some, option_map, is_some, sym, ap}
 use Rattle.std.proofs.Common.{◌∙◌, subst, inl, inr, arith}
 use Rattle.std.specs.Cmp.{nat_cmp_total}

@@ -1,4 +1,8 @@
--- What a cache holds: no key is dirty and clean at once, and which blocks are clean after another one came to wait.
+-- Which blocks are clean after another came to wait, was forgotten or was settled: `gains_none` for StagingLemmas,
+-- `forgets_none` for GivenBackLemmas, `filled_clean` for FilledLemmas, `settled_own` for `land_block`. No key is dirty
+-- and clean at once (AreApart), so a block that is clean now isn't among the dirty ones, and was clean before unless
+-- it's the one that the call was about (`clean_was`). CleanLemmas rests on this for the invariant Mirrors; a cache with
+-- two blocks for a key has none of it.
 use Rattle.std.proofs.Common.{◌≡◌, ◌⊎◌, ℕ, List, [], ◌∷◌, ◌++◌, Option, None, Some, IsSome, is_some, false, cond, refl}
 use Rattle.std.proofs.Common.{sym, ap, ◌∙◌, subst, inl, inr}
 use Rattle.std.proofs.lemmas.Bool.{false≢true}

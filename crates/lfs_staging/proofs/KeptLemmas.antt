@@ -1,4 +1,8 @@
--- What stays of the files and of the log where something is staged.
+-- What is staged with the bytes that it has changes no file, and what is staged with others changes its own block
+-- alone: `own_staged`, `table_again`, `data_again`, `data_kept`, for `Parts::stage_own_record`, `stage_with_parents`
+-- and `stage_data`. Staging touches neither the log nor an address, so `IsLog` stays (`log_kept`); and a data block
+-- stands on no other block's way, so other bytes in it show nowhere else. The hard clause is `ParentsWait`: the record
+-- and the holder are staged before the block, and in another order `block_parents` falls.
 use Rattle.std.proofs.Common.{◌≡◌, ◌≢◌, ◌⊎◌, ℕ, ◌+◌, ◌*◌, ◌/◌, ◌%◌, ◌<◌, ◌≤◌, List, [], ◌∷◌, All, length, Some, IsSome}
 use Rattle.std.proofs.Common.{is_some, true, refl, sym, ap, ◌∙◌, subst, inl, inr, arith}
 use Rattle.std.specs.Prelude.{slice_index}

@@ -1,4 +1,8 @@
--- Where the keys of a store have their places.
+-- A record's place is the one in the inode map, another block's is four times its address, and all lie in the volume
+-- (`place-record`, `place-block`, `lies_in`); of these `present-record`, `present-block`, `present-stale` and
+-- `present-unused` make the answers of `Parts::address_at`. `IsLog` bounds the place of each key that has one; a number
+-- that isn't in use has no record and no frame, so none of its keys has one. The version is compared: without that the
+-- cleaner would take an older file's block for a live one.
 use Rattle.std.proofs.Common.{◌≡◌, ◌≢◌, ℕ, ◌+◌, ◌*◌, ◌/◌, ◌<◌, ◌≤◌, ◌⊎◌, List, [], ◌∷◌, length, None, Some, refl, sym}
 use Rattle.std.proofs.Common.{ap, ◌∙◌, subst, inl, inr, arith}
 use Rattle.std.specs.Prelude.{slice_index, ◌==◌, ◌&&◌, nat_lt, Bool, true, false, cond}

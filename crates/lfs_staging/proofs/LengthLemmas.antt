@@ -1,4 +1,8 @@
--- The content with another length of a file.
+-- The content after `set_length` is the old one with another length of that file: `cut_content` and `grown_content`,
+-- and `grown_length` for a file that grows. The new bytes are the old ones resized if each block is cut as the length
+-- says (IsBlockCut), and bytes past the size are zeros (IsPadded), so a file that grows shows zeros without writing a
+-- block. If a cut left old bytes behind the new end, a later growth would show them again: that is what `padded` keeps
+-- out.
 use Rattle.std.proofs.Common.{◌≡◌, ◌≢◌, ℕ, ◌≤◌, max, Some, option_map, sym, ap, ◌∙◌, subst, inl, inr, arith}
 use Rattle.std.specs.Cmp.{nat_cmp_total}
 use Rattle.std.specs.FinMap as map

@@ -1,4 +1,7 @@
--- What stays where one number is given out or taken back.
+-- Where one number is given out or taken back, every other file, frame and key stays: `files_still`, `staged_still`,
+-- `log_still`, for NewFileLemmas and TakingLemmas. Rows and records that wait are looked up by number, so those of
+-- others are the same; and the number itself has no block before or after (`HasNoBlock`), so none of its keys has a
+-- place that could move. Clean blocks that are held must not be the number's either, which `files_still` asks for.
 use Rattle.std.proofs.Common.{false, ◌≡◌, ◌≢◌, ℕ, ◌+◌, ◌*◌, ◌<◌, ◌≤◌, List, All, length, None, Some, IsSome, is_some}
 use Rattle.std.proofs.Common.{option_and_then, option_map, true, refl, sym, ap, ◌∙◌, subst, inl, inr, arith}
 use Rattle.std.specs.Prelude.{if◌then◌else◌, ◌==◌, slice_index}

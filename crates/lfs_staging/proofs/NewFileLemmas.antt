@@ -1,4 +1,7 @@
--- A number that is given out to an empty file.
+-- A free number is given out to an empty file, and nothing else of the content changes: `made_staged`, `made_content`,
+-- `made_versions`, for `Parts::make`. Frames are of numbers in use, so a free one has none, and its new record has no
+-- address: each block reads as zeros, and the file is well formed at any size; MakingLemmas has the rest. The version
+-- is raised each time, which is what tells the new file's keys from those of an older one in the log.
 use Rattle.std.proofs.Common.{◌≡◌, ◌≢◌, ℕ, ◌+◌, ◌/◌, ◌%◌, ◌<◌, ◌≤◌, List, [], ◌∷◌, All, length, Some, is_some, false}
 use Rattle.std.proofs.Common.{refl, sym, ap, ◌∙◌, subst, inl, inr, arith}
 use Rattle.std.specs.Prelude.{slice_index, if◌then◌else◌, ◌==◌, replicate}

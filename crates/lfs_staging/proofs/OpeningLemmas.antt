@@ -1,4 +1,8 @@
--- A volume that was just laid out is a store, and has the root directory alone.
+-- A volume just laid out is a store that has the root directory alone: `opening_store` and `opening_shown`, for
+-- `Parts::format`, and `root_entered` for `enter_root`. The log is the empty one with 128 spare bytes, where the root's
+-- record takes place 8 by `taken_log`; no other key has an address, so every block reads as zeros. Place 8 is slot 0 of
+-- block 2, behind the label and a summary: another layout of the first blocks changes `HasRootBlock` and the numbers
+-- here.
 use Rattle.std.proofs.Common.{◌≡◌, ◌≢◌, ℕ, ◌+◌, ◌*◌, ◌/◌, ◌%◌, ◌<◌, ◌≤◌, List, All, length, None, Some, option_map}
 use Rattle.std.proofs.Common.{is_some, refl, sym, ap, ◌∙◌, subst, inl, inr, arith}
 use Rattle.std.specs.Prelude.{replicate, slice_index, slice_index_or}

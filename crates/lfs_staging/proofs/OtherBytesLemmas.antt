@@ -1,4 +1,8 @@
--- Other bytes for a block that waits: what the cache holds then.
+-- A cache with other bytes for a key that waits has each other key's block as it was (`bytes_here`, `bytes_other`,
+-- `bytes_only`, `bytes_formed`), and an indirect block with four bytes zeroed has one address less
+-- (`cells-four_zeros`): for EmptiedLemmas alone. By induction on the entries, of which at most one has the key; the
+-- numbers of a table stand side by side, so four zeros reach no other one. No code makes such a cache: it stands in
+-- proofs in place of addresses that aren't written any more.
 use Rattle.std.proofs.Common.{◌≡◌, ◌≢◌, ◌⊎◌, ℕ, ◌+◌, ◌*◌, ◌<◌, ◌≤◌, suc, List, [], ◌∷◌, ◌++◌, length, set, slice_index}
 use Rattle.std.proofs.Common.{Some, IsSome, is_some, false, cond, refl, sym, ap, ◌∙◌, subst, inl, inr, arith}
 use Rattle.std.proofs.lemmas.Bool.{cases_eq, cases_lt}

@@ -1,4 +1,8 @@
--- Bytes put into a file, block by block.
+-- `Parts::put_blocks` puts bytes into one block after another, and at the end each block has what falls into it
+-- (`put_one`, `put_more`, `put_all`). Below the loop's index all is put, from it on nothing (`PutsBelow`); what waits
+-- more has a code of `put_codes`, which is as long as `frames_of_put` says, so the room that was asked for once is
+-- enough for every block (`takes_room`). The length rests on `table_of-later`: the holders of a run of data blocks have
+-- codes from the first one's to the last one's.
 use Rattle.std.proofs.Common.{◌≡◌, ℕ, zero, suc, ◌+◌, ◌*◌, ◌/◌, ◌%◌, ◌-◌, ◌<◌, ◌≤◌, List, [], ◌∷◌, ◌++◌, length}
 use Rattle.std.proofs.Common.{length-append, refl, sym, ap, ◌∙◌, subst, inl, inr, arith}
 use Rattle.std.specs.Prelude.{slice_index, ◌≢◌}

@@ -1,4 +1,7 @@
--- Filling a buffer block by block.
+-- A buffer is filled block by block with a file's bytes: `filled_more` and `filled_all` for `read_blocks`, `read_front`
+-- and `read_past` for `Parts::read`. The invariant is that of the bytes asked for, those in blocks before one are
+-- there; a block more gives those of its range and leaves the others, so past the last block touched all are. A read
+-- that ends past the file gives what there is and leaves the rest of the buffer (`take_least`).
 use Rattle.std.proofs.Common.{◌≡◌, ℕ, ◌+◌, ◌-◌, ◌/◌, ◌%◌, ◌<◌, ◌≤◌, min, List, [], ◌∷◌, ◌++◌, length, take, drop}
 use Rattle.std.proofs.Common.{get_or, refl, sym, ap, ◌∙◌, inl, inr, arith}
 use Rattle.std.specs.Prelude.{slice_index}

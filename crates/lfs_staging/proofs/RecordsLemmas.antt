@@ -1,4 +1,7 @@
--- Records told apart by number: what each change of them keeps.
+-- The table of which numbers have a record that waits stays true: `put_kept`, `removed_kept`, `replaced_kept`,
+-- `popped_kept`, for `Records::put`, `remove`, `replace` and `pop`. A change of the list changes the answer for one
+-- number, as no number stands in it twice (`AreOnce`): with its record gone none is left. With two records of a number,
+-- `remove` would say that none waits while one does.
 use Rattle.std.proofs.Common.{◌≡◌, ◌≢◌, ℕ, ◌<◌, ◌≤◌, List, [], ◌∷◌, ◌++◌, All, Bool, length, None, Some, IsSome}
 use Rattle.std.proofs.Common.{is_some, true, false, refl, sym, ap, ◌∙◌, subst, inl, inr, arith}
 use Rattle.std.specs.Prelude.{replicate, slice_index_or, slice_set}

@@ -1,4 +1,8 @@
--- What setting an address makes of a file that waits.
+-- An address set in what holds it changes that one cell: `sets_record` and `stays_record`, `sets_entry` and
+-- `stays_entry`, for the two arms of `Parts::set_address`. At the empty way the record that waits is replaced by one
+-- with the same attributes; else four bytes of a LOCKED frame change, and the table of a block that waits is the cells
+-- of its frame (`held_table`). It stands on `ParentsWait`: were the holder in the log alone, there would be nothing to
+-- write into.
 use Rattle.std.proofs.Common.{◌≡◌, ◌≢◌, ℕ, List, length, [], ◌∷◌, Option, None, Some, IsSome, false, option_and_then}
 use Rattle.std.proofs.Common.{is_some, refl, sym, ap, ◌∙◌, subst}
 use Rattle.std.specs.Prelude.{slice_set, All}

@@ -1,4 +1,7 @@
--- The record of a file waits with a smaller size.
+-- The record of a file waits with a smaller size once nothing is left past it: `shortened`, with `cut_addresses`, for
+-- `Parts::shorten`. `MayShorten` has all that `IsFile` asks for at the new size, no address and no frame past it and
+-- zeros behind, so the size alone changes; the record's cells past it are 0 already, so to zero them changes nothing.
+-- Called before the blocks went, it would leave addresses past the size.
 use Rattle.std.proofs.Common.{◌≡◌, ◌≢◌, ℕ, ◌+◌, ◌≤◌, List, [], ◌∷◌, length, Some, is_some, sym, ap, ◌∙◌, subst, inl}
 use Rattle.std.proofs.Common.{inr, arith}
 use Rattle.std.specs.Prelude.{slice_index}

@@ -1,4 +1,8 @@
--- What what waits allows, and what a staged change leaves of the log.
+-- What waits allows changes, and a change that only stages leaves the log: `staged_change` for `set_length`,
+-- `parents_again` for `stage_with_parents`, the `stays-` lemmas for CutFileLemmas and the changes of `lfs_segwrite`. A
+-- block staged with the bytes that it has leaves each file as it reads (SameFiles), so the content is the same and the
+-- file's blocks may be staged on (`may_again`). Of the file one record waits at most, so the count is kept by what else
+-- waits (`few_records`); a change that moved addresses would need more than `stays_same`.
 use Rattle.std.proofs.Common.{◌≡◌, ℕ, ◌*◌, ◌<◌, List, length, true, refl, sym, ap, ◌∙◌, subst, arith}
 use Rattle.std.specs.Prelude.{⊤}
 use Rattle.lfs_ifile.specs.Tables.{row_of}

@@ -1,4 +1,9 @@
--- What staging keeps.
+-- A record or a block that is staged changes what its own number or block reads and nothing else: `staged_record` for
+-- `stage_record`, `staged_block` for `stage_block`; `version-same` and `key-apart` serve all of the crate. A key is
+-- number, version and code, so two blocks have two keys (`key-apart`), and the tree of a number is told from what waits
+-- under the keys of its blocks (`tree-others`, `tree-staged`). A block that waits is dirty and so not clean, by which
+-- no clean block is gained (`grown`); keys that left out the version would let a removed file's blocks stand for a new
+-- one's.
 use Rattle.std.proofs.Common.{◌≡◌, ◌≢◌, ℕ, ◌+◌, ◌≤◌, List, ◌∷◌, length, Some, is_some, true, false, refl, sym, ap, ◌∙◌}
 use Rattle.std.proofs.Common.{subst, inl, inr}
 use Rattle.lfs_ifile.specs.Tables.{place_of, row_of}

@@ -1,4 +1,8 @@
--- Keys that differ, and the tables of a file in which the addresses of its blocks stand.
+-- The table in which a block's address stands is the same if the record is, or the bytes of the holder wait as they
+-- did: `table_same`, for UnstagedLemmas, EmptiedLemmas and LandedLemmas of `lfs_segwrite`; `room_at` says that the
+-- block's index is inside it. By the block's way: the record has fourteen addresses and each table 128, and the five
+-- kinds of blocks have their index below that (`room_at`). Keys of two numbers or codes differ (`apart_number`,
+-- `apart_code`), so what one block's staging changes is no other's; other counts of addresses change `room_at`.
 use Rattle.std.proofs.Common.{◌≡◌, ◌≢◌, ℕ, ◌+◌, ◌-◌, ◌*◌, ◌/◌, ◌%◌, ◌<◌, List, [], ◌∷◌, length, IsSome, false, refl}
 use Rattle.std.proofs.Common.{sym, ap, ◌∙◌, inl, inr, arith}
 use Rattle.std.specs.Prelude.{if◌then◌else◌, ◌==◌}

@@ -1,4 +1,8 @@
--- Frames that a change takes, as codes of blocks of one number.
+-- A change whose new frames are of some codes of one number takes as many frames as there are codes (`taken_most`), and
+-- where so many are free each of these finds one (`frames_enough`, `block_room`): for each call of `Parts` that stages.
+-- No key is held twice, so those that wait are at most the old ones and one for each code. `HasFrames` speaks of any
+-- cache on the way there, so the order of staging doesn't matter; a call that stages a block off its list breaks
+-- `TakesOnly`.
 use Rattle.std.proofs.Common.{◌≡◌, ◌≢◌, ℕ, zero, suc, ◌+◌, ◌<◌, ◌≤◌, ◌⊎◌, List, [], ◌∷◌, ◌++◌, length, Option, None}
 use Rattle.std.proofs.Common.{Some, IsSome, is_some, true, refl, sym, ap, ◌∙◌, subst, inl, inr, arith, length-append}
 use Rattle.std.specs.List.{Contains}

@@ -1,4 +1,7 @@
--- A number that is taken back.
+-- A number is taken back and its file leaves the content: `taken_staged`, `taken_content` and `removed_content`, for
+-- `Parts::give_back` and `remove`. A file of size 0 has no block (`empty_no_block`), so its record's place is all that
+-- goes; the key loses it and the number is renewed (`last_log`), and the other numbers stay by MakingLemmas. That is
+-- why `remove` cuts the file first: live bytes of a block that is left would be counted for no key.
 use Rattle.std.proofs.Common.{◌≡◌, ◌≢◌, ℕ, ◌+◌, ◌*◌, ◌/◌, ◌<◌, ◌≤◌, List, [], ◌∷◌, All, length, Option, None, Some}
 use Rattle.std.proofs.Common.{true, refl, sym, ap, ◌∙◌, subst, inl, inr, arith}
 use Rattle.std.specs.Prelude.{slice_index}

@@ -1,4 +1,8 @@
--- The address of a block is set in what holds it, and the block waits no more: what that makes of each file.
+-- What a landing (LandedLemmas of `lfs_segwrite`) and a giving back (ClearedLemmas) share: an address is set in the
+-- holder and the block waits no more (`waits_none`, `waits_rest`, `parent_set`), so its key alone has another place
+-- (`place_after`). Codes tell the ways apart (`code_apart`), so one frame goes, the holder's has the new cell, and
+-- every other key has what it had. Were two keys alike, of two codes or of an older version, the frame of another block
+-- would go.
 use Rattle.std.proofs.Common.{◌≡◌, ◌≢◌, ℕ, ◌*◌, ◌<◌, ◌⊎◌, List, [], ◌∷◌, None, IsSome, false, refl, sym, ap, ◌∙◌, subst}
 use Rattle.std.proofs.Common.{inl, inr}
 use Rattle.std.specs.Prelude.{slice_set}

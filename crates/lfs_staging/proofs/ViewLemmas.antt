@@ -1,4 +1,8 @@
--- What the record of a number is, and the bytes that wait.
+-- Which record a number has and where a block's address stands: `record_of-waiting` and `record_of-logged`, `root_cell`
+-- and `held_cell`, for `Parts::record`, `address_of` and most lemmas of the crate. The record that waits comes before
+-- the log's; an address is a cell of the record or of the bytes of the block above, which wait or lie in the log. Where
+-- the record has no address and nothing waits, no block has one and each reads as zeros (`nowhere`, `all_zeros`), by
+-- induction on the way; `record_like` lists all that a record rests on.
 use Rattle.std.proofs.Common.{◌≡◌, ◌≢◌, ℕ, List, [], ◌∷◌, Option, None, Some, option_and_then, is_some, refl, sym, ap}
 use Rattle.std.proofs.Common.{◌∙◌}
 use Rattle.std.specs.Prelude.{slice_index}

@@ -1,4 +1,8 @@
--- The list of records that wait.
+-- What the list of waiting records has after one is staged or dropped: `waiting-staged`, `once_staged` and
+-- `length-without`, for RecordsLemmas, KeptLemmas, TakingLemmas and `lfs_segwrite`; `without-at` is for `drop_record`.
+-- By induction on the list: `without` takes the first record of a number away, and the others of other numbers stay.
+-- The invariant AreOnce, that no number waits twice, is what makes the dropped one gone (`once_gone`); a stage that put
+-- a record without dropping the old one would let the old one come back.
 use Rattle.std.proofs.Common.{◌≡◌, ◌≢◌, ℕ, zero, suc, ◌+◌, ◌<◌, ◌≤◌, List, [], ◌∷◌, All, length, get_or, None, Some}
 use Rattle.std.proofs.Common.{IsSome, refl, sym, ap, ◌∙◌, subst, inl, inr, arith}
 use Rattle.std.specs.List.{remove}

@@ -1,4 +1,9 @@
--- What the answer of a call over a plain store says of an entry.
+-- What the answer of a call over a plain store says of an entry: served as told, the entry is legal (`served_checked`),
+-- and otherwise it isn't (`unserved_checked`), both for the checker's `make`. A plain store never lacks space nor room
+-- for a name, so but for want of memory its answer is the rules' own (`ruled`), and these have one answer to a call in
+-- a world. If the answers differ the checker must stand where it stood, which holds as a call that isn't served changes
+-- nothing and one served with another answer only looked (`left_alone`); a changing call that showed something would
+-- break that.
 use Rattle.std.proofs.Common.{◌≡◌, ◌≢◌, ℕ, List, None, Some, refl, sym, ap, subst, ◌∙◌, arith, ⊎_elim}
 use Rattle.std.specs.Prelude.{Result, Ok, Err, Option, MatchOption}
 use Rattle.lfs_types.specs.Caller.{Caller}

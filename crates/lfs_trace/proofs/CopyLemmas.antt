@@ -1,4 +1,9 @@
--- A file copied piece by piece, and a store file by file.
+-- A store copied into a fresh one, file by file and piece by piece, has the same content: `all_copied`, for `copy_of`,
+-- with `put_next` and `whole` for `put_file` and `copied_over` for `copy_file`. Within a file the invariant is that its
+-- first bytes are there (IsPartly), since a piece put at the end of what is there is the next bytes (`splice_next`);
+-- over files, that the numbers below are copied and those above as in a fresh store (AreCopied). The root is the hard
+-- one, as a fresh store has it already, so it's given its attributes instead of made (`may_begin`); a length between
+-- whole pieces must be one that the file may have (`part_length`).
 use Rattle.std.proofs.Common.{◌≡◌, ◌≢◌, ℕ, ◌+◌, ◌*◌, ◌<◌, ◌≤◌, ◌%◌, ◌==◌, suc, Bool, true, false, List, []}
 use Rattle.std.proofs.Common.{◌∷◌, ◌++◌, length, take, drop, Option, None, Some, refl, sym, ap, subst, ◌∙◌, arith, inl}
 use Rattle.std.proofs.Common.{inr}

@@ -1,4 +1,8 @@
--- Where a checker stands, and what it says where it stands.
+-- A checker's standing follows a trace: `behind_more` and `first_illegal` for `check_trace`, `refusal_checked` for
+-- `refused`, `looked_on` and `still_stands` for calls that only look. Behind so many entries these are legal and the
+-- checker stands at the world that they leave (IsBehind), so the next entry is legal in it just if the trace with it
+-- is. A refusal isn't made over the store but judged from whether the rules allow the call and a number is left
+-- (`either`, `none_when`); a resource that depended on more of the world would need its own question to the store.
 use Rattle.std.proofs.Common.{◌≡◌, ◌<◌, ◌+◌, ℕ, suc, Bool, true, false, List, [], ◌∷◌, ◌++◌, length, get_or, take, None}
 use Rattle.std.proofs.Common.{Some, Option, refl, sym, ap, subst, ◌∙◌, arith, inl, inr}
 use Rattle.std.specs.Prelude.{◌↔◌, Result, Ok, Err, IsTrue, IsFalse, IsSome, if◌then◌else◌, is_some, not}

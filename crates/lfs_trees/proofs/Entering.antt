@@ -1,4 +1,7 @@
--- An entry of a directory is read: a row hangs there that is a new one.
+-- An entry whose number is new and has a file is a new row in the tree that the walk reached: `entered`, for Parts. The
+-- rows so far are a tree, the number isn't among those reached and the name none of the directory's, so the tree grows
+-- by one row; in the directory hangs now what was read of it and this (`hangs_here`). Nothing hangs in the new row yet,
+-- as its own entries weren't read; numbers reached twice are refused before, or a directory could hang in itself.
 use Rattle.std.proofs.Common.{◌≡◌, ◌≢◌, ◌≤◌, ℕ, true, false, List, [], ◌∷◌, ◌++◌, None, Some, refl, sym, ap, subst, ◌∙◌}
 use Rattle.std.proofs.Common.{⊎_elim}
 use Rattle.std.specs.Prelude.{IsSomeAnd, is_some, bytes_eq}

@@ -1,4 +1,8 @@
--- Numbers in the order in which a walk reached them.
+-- The numbers that a walk reached are marked, each once: `unmarked` and `marked_more` for `Walk::new` and `push`,
+-- `no_more` for `next`, `among-same` and `among-other` for Entering and Turning. A number is pushed only if it isn't
+-- marked, and marks say just which numbers are among those reached (AreMarked), by cases of the number asked for.
+-- Distinct numbers below a bound are no more than that (`no_more`), by which the walk needs no counter of its own; a
+-- number pushed twice would break it.
 use Rattle.std.proofs.Common.{◌≡◌, ◌≢◌, ℕ, zero, suc, ◌+◌, ◌<◌, ◌≤◌, Bool, true, false, List, [], ◌∷◌, ◌++◌, length}
 use Rattle.std.proofs.Common.{take, get_or, replicate, set, refl, sym, ap, subst, ◌∙◌, ⊎_elim, arith, length-set}
 use Rattle.std.specs.Prelude.{◌||◌, nat_eq}

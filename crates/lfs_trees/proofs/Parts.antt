@@ -1,4 +1,8 @@
--- A block of a directory, entry by entry.
+-- A block of a directory is read entry by entry: `part_more` and `part_fault`, for `read_block`. The invariant HasPart
+-- says that what was read and what is left is the block, that the names so far are those kept, and that the walk
+-- reaches a tree with the rows read (IsReading); an entry more is a row more (Entering). What an entry is refused for
+-- is a fault of the content itself (`part_fault`): the entry is listed only if its name is none of those before it, so
+-- a name found twice is told before anything else.
 use Rattle.std.proofs.Common.{◌≡◌, ◌+◌, ◌<◌, ℕ, true, false, List, [], ◌∷◌, ◌++◌, length, take, get_or, None, Some, sym}
 use Rattle.std.proofs.Common.{ap, subst, ◌∙◌, arith, append_assoc, length-append}
 use Rattle.std.specs.Prelude.{bytes_eq, ◌||◌}

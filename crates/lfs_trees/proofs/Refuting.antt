@@ -1,4 +1,8 @@
--- A fault of a content is a fault of no tree.
+-- A content with a fault shows no tree: `no_world`, for `check_tree` and VolumeLemmas of `lfs_checking`, so what the
+-- checker tells is never wrong. Fault by fault: in a tree what is listed hangs there and what hangs is listed (`hangs`,
+-- `lists_row`), each row has one place and one way from the root (`climbs`), and Shows gives lengths and blocks. Want
+-- of memory says nothing; a new fault needs its line in `wrong`, and a condition added to Shows or IsTree can become a
+-- fault but needn't.
 use Rattle.std.proofs.Common.{◌≡◌, ◌<◌, ◌≤◌, ℕ, zero, suc, List, Some, refl, sym, ap, subst, ◌∙◌, ⊎_elim, arith}
 use Rattle.std.proofs.lemmas.Bool.{cases_eq}
 use Rattle.std.specs.FinMap as map

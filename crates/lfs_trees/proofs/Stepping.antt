@@ -1,4 +1,8 @@
--- A walk from number to number.
+-- A walk goes from number to number until all that it reached are read: `stands_first` and `all_read` for `reach_all`,
+-- `reads_next`, `passes_file` and `passes_directory` for `read_number`. Numbers are read in the order in which they
+-- were reached, so those read are the front of that list, and the next is at its place; a file is passed by, a
+-- directory when all its entries were read (Turning). Where no next number comes, all were read; the walk ends as each
+-- number is reached once, and there are only so many.
 use Rattle.std.proofs.Common.{◌≡◌, ◌+◌, ◌<◌, ◌≤◌, ℕ, false, List, [], ◌∷◌, ◌++◌, length, take, get_or, None, Some, refl}
 use Rattle.std.proofs.Common.{sym, ap, subst, ◌∙◌, ⊎_elim}
 use Rattle.std.specs.Prelude.{slice_get}

@@ -1,4 +1,7 @@
--- A walk that goes on to the next number.
+-- A walk that has read a number goes on to the next: `pass_file`, `pass_directory` and `turn`, for Stepping. A
+-- directory of which all entries were read lists what hangs in it, so it's complete; a file lists nothing, and nothing
+-- hangs in it, as rows hang only in what lists them. Between two numbers no directory is half read, so the walk may
+-- begin any (`turn`); what was read of one is forgotten in `so_far` once it's complete.
 use Rattle.std.proofs.Common.{◌≡◌, ℕ, Bool, true, false, cond, List, [], ◌∷◌, ◌++◌, refl, sym, ap, subst, ◌∙◌, ⊎_elim}
 use Rattle.std.specs.Prelude.{nat_eq}
 use Rattle.std.proofs.lemmas.Bool.{cases_eq, eq-eqb, ne_eqb}

@@ -1,4 +1,8 @@
--- What finite maps by number answer after a change, what holds of their values, and which numbers they have.
+-- What a map of numbers has after a change: `get-insert_same`, `get-insert_other`, `get-remove_same` and
+-- `get-remove_other`, on which all that is proved of rows and contents stands; `find-passes` and `find-none` are for
+-- Children of `lfs_model`. The map looks keys up by the order's test, and that tells two numbers apart just if they
+-- differ (`number_eq-true`, `number_eq-other`). An invariant of each value is kept if it holds of the new one and held
+-- of the others (`each_value`); a map with another key needs its own copy of the first three lemmas.
 use Rattle.std.proofs.Common.{◌≡◌, ◌≢◌, ℕ, Bool, true, false, List, [], ◌∷◌, None, Some, refl, sym, ap, ◌∙◌, subst}
 use Rattle.std.proofs.Common.{⊎_elim}
 use Rattle.std.specs.Prelude.{◌||◌, find, is_some}

@@ -1,4 +1,9 @@
--- Journals: the opening one, and one with an entry more.
+-- A step over the store keeps the journal true: `IsStep-answered` and `IsJournal-entered` for `answer_and_enter` and
+-- `enter`, with `of_call` for `answer` and `beginning_journal` for the start. The journal leads from its world to the
+-- one that the store shows, so an entry more is legal as the call's outcome is legal there, by the world after all
+-- entries before (`world_after-append`). An answer for want of memory changes nothing and isn't entered
+-- (`IsJournal-same`); a NoSpace must come with few clean segments, where those that the cleaner made since are counted
+-- off (`IsShort-append`), so an event that cleans must tell how many.
 use Rattle.std.proofs.Common.{◌≡◌, ℕ, ◌+◌, ◌<◌, ◌≤◌, List, [], ◌∷◌, ◌++◌, length, Some, inr, true, false, refl, sym, ap}
 use Rattle.std.proofs.Common.{subst, ◌∙◌, arith, length-append}
 use Rattle.std.specs.Prelude.{Result, Ok, Err, OnErr, OnOk}

@@ -1,4 +1,9 @@
--- A credential is read back from its words.
+-- A credential is read back from the words that it's spelled in: `caller_back`, for `spell_caller`, with `groups_back`
+-- and `caller_read_back` for BackLine of `lfs_journal_lines`, and `groups_added` for `push_groups`. A decimal has no
+-- comma (`no_commas`), so the groups' word is split where they were joined, and each part is its number again
+-- (`value_is`), below 2^32; the three faults of a credential don't occur as the caller's type excludes them
+-- (`no_fault`). A new mark behind the groups, or a sign in a number that could be a comma, would break
+-- `decimals_split`.
 use Rattle.std.proofs.Common.{◌≡◌, ℕ, zero, suc, ◌-◌, ◌^◌, ◌<◌, ◌≤◌, ◌==◌, Bool, true, false, List, [], ◌∷◌, ◌++◌}
 use Rattle.std.proofs.Common.{length, map, get_or, take, drop, None, Ok, refl, ap, sym, subst, ◌∙◌, arith, append_assoc}
 use Rattle.std.proofs.Common.{rules, tests}

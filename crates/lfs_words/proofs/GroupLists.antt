@@ -1,4 +1,8 @@
--- The groups of a word, of which seventeen are kept.
+-- The groups of a word are read one by one, of which seventeen are kept: `group_more` and `push_full` for `Groups`,
+-- `cred_fault-kept`, `caller_fine` and the `refused` ones for `caller_of`. Sixteen groups are the most, so seventeen
+-- show the fault of any more (`cred_fault-kept`), and where there is no fault none was left out (`kept_whole`). All
+-- groups are asked to be decimals before any is asked for its range (`long_refused`), so the first fault told is the
+-- specification's; another limit changes 17 in all lemmas.
 use Rattle.std.proofs.Common.{◌≡◌, ℕ, ◌+◌, ◌<◌, ◌≤◌, Bool, true, false, List, [], ◌∷◌, ◌++◌, length, take, get_or, map}
 use Rattle.std.proofs.Common.{refl, sym, ◌∙◌, ap, subst, inl, inr, cond, arith, length-take, None, Some, Ok, Err}
 use Rattle.std.specs.Prelude.{◌&&◌}

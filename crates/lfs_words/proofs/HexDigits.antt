@@ -1,4 +1,8 @@
--- Bytes are read from their digits.
+-- Bytes are read from and written as two digits each, one by one: `hex_step` and `hex_read` for `decode`, `hex_written`
+-- for `write_hex`, `bytes_read` for `payload`. What was read so far spells the front of the digits, and the next byte
+-- spells the two behind (`take_two`); its halves are below 16, so its digits are those (`byte_spelled`). Each byte
+-- takes two digits (`length-hex_text`), by which room is reckoned; capital digits would be read back as others than
+-- were written.
 use Rattle.std.proofs.Common.{◌≡◌, ℕ, ◌≤◌, Ok, false, ◌+◌, ◌*◌, ◌/◌, ◌%◌, ◌<◌, List, [], ◌∷◌, ◌++◌, length, take}
 use Rattle.std.proofs.Common.{get_or, refl, ap, sym, ◌∙◌, arith, append_assoc, true}
 use Rattle.std.specs.Char.{digit_char, digit_value}

@@ -1,4 +1,7 @@
--- Levels are read from their numbers.
+-- Levels are read from their numbers: `level_read`, `level_refused` and `minus_refused`, all for `level`. A number
+-- above 2 is no level with either sign (`none_above`, `none_below`), so the reader's limit of 2 refuses just those,
+-- with the same fault; eight bits hold the others and their negations (`kept`, `negated`). A level above 2 or below -2
+-- would need another limit, and all cases of `negated`.
 use Rattle.std.proofs.Common.{◌≡◌, ℕ, zero, suc, ◌<◌, ◌≤◌, Bool, true, false, cond, List, [], ◌∷◌, ℤ, pos, neg_ℤ}
 use Rattle.std.proofs.Common.{Option, None, Some, Ok, Err, refl, ap, arith, to_z, of_z, w8}
 use Rattle.std.specs.Prelude.{nat_le, ◌-ℤ◌}

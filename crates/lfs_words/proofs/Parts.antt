@@ -1,4 +1,8 @@
--- What words are, taken one by one.
+-- What the code reads of words by index is what the specification reads by taking the list apart: `two_there`,
+-- `three_there`, `caller_there`, `info_there`, `mode_there` and `flags_there`, for the functions of `lfs_words`. A list
+-- with a known count is taken apart into so many words, and each word has its index; other counts are excluded by the
+-- bound. Modes and flags have a type with its own bound, which is the reader's limit (`mode_there`, `flags_there`);
+-- another bound of either makes the two differ.
 use Rattle.std.proofs.Common.{◌≡◌, ℕ, ◌<◌, ◌≤◌, Bool, true, false, cond, List, [], ◌∷◌, length, map, get_or, Option}
 use Rattle.std.proofs.Common.{None, Some, Result, Ok, Err, refl, ap, sym, ◌∙◌, arith}
 use Rattle.std.specs.Prelude.{MatchResult, codes, nat_le}

@@ -1,4 +1,8 @@
--- A path is read back from its text.
+-- A path is read back from its text: `path_back` for `spell_path`, `path_read_back` for BackNames of
+-- `lfs_journal_lines`; `spells_more`, `slashed_added` and `escaped_added` carry the loops that write it. A name without
+-- a fault has no slash and isn't empty (`fine_name`), so the text is split at slashes into just the names
+-- (`parts_slashed`, induction on the names), and the root is the one path without names. The limit of 1,024 bytes is
+-- asked of the whole text, as its reader does; a name that might have a slash would break the split.
 use Rattle.std.proofs.Common.{◌≡◌, ℕ, ◌+◌, ◌<◌, ◌≤◌, ◌==◌, Bool, true, false, cond, List, [], ◌∷◌, ◌++◌, length, map}
 use Rattle.std.proofs.Common.{take, get_or, Option, None, Some, Ok, refl, ap, sym, subst, ◌∙◌, inl, inr, arith}
 use Rattle.std.proofs.Common.{length-append, append_assoc}

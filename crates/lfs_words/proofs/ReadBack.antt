@@ -1,4 +1,9 @@
--- What is spelled is read back.
+-- Numbers, modes, flags, bytes and levels are read back from their words: `long_read`, `short_read`, `mode_read`,
+-- `flags_read_back`, `bytes_read_back` and `level_read_back`, for the functions of `spelling` and the law of
+-- `lfs_journal_lines`. Each digit has its value again and the digits' sum is the number, so what is left is that the
+-- word has at most as many digits as a reader takes and the number is within its limit (`number_read`). Flags are
+-- spelled as four bytes of two digits (`four_bytes`) and read as one number, so they need IsKnown; a wider limit in a
+-- speller than in its reader would show here first.
 use Rattle.std.proofs.Common.{◌≡◌, ℕ, zero, suc, ◌+◌, ◌-◌, ◌*◌, ◌/◌, ◌%◌, ◌^◌, ◌<◌, ◌≤◌, ◌==◌, true, false, List, []}
 use Rattle.std.proofs.Common.{◌∷◌, length, get_or, Some, Ok, refl, ap, sym, ◌∙◌, arith, rules, tests}
 use Rattle.std.specs.Prelude.{decimal, nat_le, nat_lt}

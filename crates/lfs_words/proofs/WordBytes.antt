@@ -1,4 +1,8 @@
--- Which texts may be words.
+-- Numbers, modes, flags, bytes, levels and paths are words, so they may stand in a line: `decimal_word`, `mode_word`,
+-- `bytes_word`, `flags_word`, `level_word_is` and `path_text_word`, for the functions of `spelling` and
+-- `lfs_journal_lines`. Each is made of digits, or of bytes that a script can spell, which are printable and no spaces,
+-- and has one at least (`word_there`). No bytes are spelled as a dash for that reason; a spelling that could be empty
+-- or have a space would be read as another count of words.
 use Rattle.std.proofs.Common.{◌≡◌, ℕ, ◌/◌, ◌%◌, ◌^◌, ◌<◌, ◌≤◌, ◌==◌, true, false, List, [], ◌∷◌, length, refl, arith}
 use Rattle.std.proofs.Common.{rules, tests}
 use Rattle.std.specs.Prelude.{decimal}

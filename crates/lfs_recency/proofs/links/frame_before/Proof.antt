@@ -1,5 +1,8 @@
--- `frame_before` shows the frame that the pointer in another one leads to: one of those that a `&` to the vector
--- shares.
+-- `frame_before` shows the frame that a frame's `prev` leads to (`frame_before_spec`), though it reads through a raw
+-- pointer. Its precondition says that the pointer is the place of an item, and of what a `&` to a vector shares of each
+-- item, that of one item can be taken (`one_of`, by induction on its index); a `&` to the pointer can be had twice
+-- (`twice`), so reading it costs nothing. Another layout of Frame or another way to share a vector's items changes this
+-- proof, not the contract.
 use Rattle.std.proofs.Common.{◌≡◌, ℕ, zero, suc, ◌+◌, ◌*◌, ◌<◌, List, [], ◌∷◌, length, get_or, refl, sym, ap, subst}
 use Rattle.std.proofs.Common.{◌∙◌, add_comm, arith}
 use Rattle.std.proofs.Math.Nat.{not-suc-le-zero, le_of_suc-le-suc}

@@ -1,4 +1,8 @@
--- `item_at_mut` lends the item that the pointer leads to, and the vector follows it, at any type of items.
+-- The contract of `item_at_mut`, a raw pointer turned into a `&mut`, for `links::unlink`, `link_front` and `new`: what
+-- is written through it goes into the vector, as its item number `item_number`. By hand, since `unsafe { &mut *place }`
+-- has no clause that a search could use: the vector is opened to the cells of its block, `IsItemPlace` says that the
+-- pointer leads to the start of one of its items, and this one is lent. `vec_opens` asks for a capacity that isn't 0,
+-- which the item itself gives.
 use Rattle.std.proofs.Common.{◌≡◌, ℕ, ◌+◌, ◌*◌, ◌≤◌, ◌<◌, [], ◌∷◌, length, get_or, refl, sym, ap, subst, ◌∙◌, add_comm}
 use Rattle.std.proofs.Common.{arith}
 use seplogic.Ra.Ura.{Ura}

@@ -1,4 +1,7 @@
--- `bytes_mut` lends the first field, and the frame follows it.
+-- `bytes_mut` lends the bytes of a frame, and the frame that comes back has what was written in them
+-- (`bytes_mut_spec`). The frame is taken apart into its first field and the rest (`apart`), the borrow of the whole
+-- becomes one of the field (`lends_Part`), and at its end field and rest make a frame again (`back`). The field is the
+-- first, at offset 0; another place of `bytes` among Frame's fields changes the offsets here.
 use Rattle.std.proofs.Common.{ℕ, ◌+◌, List, [], ◌∷◌, refl, MutBor}
 use seplogic.Ra.Ura.{Ura}
 use mir.Syntax.{named}
