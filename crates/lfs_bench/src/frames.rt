@@ -6,7 +6,7 @@ ghost use Rattle.lfs_recency.specs.FrameLists.{frame_count};
 use crate::counts::Counts;
 use crate::measure::Measure;
 use anyhow::Result;
-use lfs_cache::{Cache, Key};
+use lfs_cache::{BlockCode, Cache, Key};
 use lfs_recency::{Frames, Queue};
 use lfs_workloads::scale::Scale;
 use std::rt::Clock;
@@ -69,7 +69,7 @@ fn key(lbn: u32) -> Key {
     Key {
         ino: 7,
         version: 1,
-        lbn,
+        lbn: BlockCode(lbn),
     }
 }
 

@@ -19,8 +19,8 @@ use Rattle.lfs_cache.specs.Held.{name_at, entry_at}
 pub same_is : (a b : Key) → same_key a b ≡ true → a ≡ b
 same_is a b h =
     let i : a.ino ≡ b.ino = grind (arith, nat_tests) in let v : a.version
-    ≡ b.version = grind (arith, nat_tests) in let n : a.lbn ≡ b.lbn = grind (arith, nat_tests) in
-    λ t. record { ino = i t; version = v t; lbn = n t }
+    ≡ b.version = grind (arith, nat_tests) in let n : a.lbn.0 ≡ b.lbn.0 = grind (arith, nat_tests) in
+    λ t. record { ino = i t; version = v t; lbn = record { 0 = n t } }
 
 pub same_self : (a : Key) → same_key a a ≡ true
 same_self a = grind (arith, nat_tests)

@@ -28,4 +28,4 @@ names_absent (n ∷ ns) k others = ap (λ b. cond b ns (n ∷ names_without k ns
     ∙ ap (λ ms. n ∷ ms) (names_absent ns k (λ p low. others (suc p) (omega arith)))
 
 pub name_is : (ns : List Key) (i : ℕ) (x : Key) → i < length ns → x ≡ get_or ns i x → x ≡ key_in ns i
-name_is ns i x inside e = e ∙ sym (any-default ns i (record { ino = 0; version = 0; lbn = 0 }) x inside)
+name_is ns i x inside e = e ∙ sym (any-default ns i (record { ino = 0; version = 0; lbn = record { 0 = 0 } }) x inside)

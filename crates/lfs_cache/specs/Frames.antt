@@ -16,7 +16,7 @@ next_of l = first_of (oldest_of l.empty) (first_of (oldest_of l.age) (oldest_of 
 
 -- what is read of a frame without a key
 abbrev pub name_or : Option Key → Key
-name_or None = record { ino = 0; version = 0; lbn = 0 }
+name_or None = record { ino = 0; version = 0; lbn = record { 0 = 0 } }
 name_or (Some k) = k
 
 -- keys without the first that is the same

@@ -39,7 +39,7 @@ fn start(key: Key, span: usize) -> usize
 {
     let spread = key.ino as u64 * 668265263
         + key.version as u64 * 374761393
-        + key.lbn as u64 * 2654435761;
+        + key.lbn.0 as u64 * 2654435761;
     (spread / 65536 % span as u64) as usize
 }
 

@@ -8,4 +8,4 @@ mod names;
 pub mod sizes;
 
 pub use cache::{Cache, LOCKED_LIMIT};
-pub use key::Key;
+pub use key::{BlockCode, Key};

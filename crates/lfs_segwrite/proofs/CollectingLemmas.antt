@@ -52,32 +52,32 @@ passes_length : (n : ℕ) (keys : List Key) → length (in_passes (suc n) keys) 
 passes_length n keys = ap (λ (ks : List Key). length ks) (in_passes-more n keys)
     ∙ length-append (in_passes n keys) (filter (is_of n) keys)
 
-passes_without : (n : ℕ) (k : Key) (keys : List Key) → n ≤ rank_of k.lbn → length (in_passes n (k ∷ keys))
+passes_without : (n : ℕ) (k : Key) (keys : List Key) → n ≤ rank_of k.lbn.0 → length (in_passes n (k ∷ keys))
     ≡ length (in_passes n keys)
 passes_without zero k keys past = ap (λ (ks : List Key). length ks) (in_passes-none (k ∷ keys)
     ∙ sym (in_passes-none keys))
 passes_without (suc n) k keys past =
     let before = passes_without n k keys (omega arith) in
     let same = ap (λ (ks : List Key). length ks)
-    (filter_no (is_of n) k keys (ne_eqb (rank_of k.lbn) n (λ e. omega arith))) in
+    (filter_no (is_of n) k keys (ne_eqb (rank_of k.lbn.0) n (λ e. omega arith))) in
     let first = passes_length n (k ∷ keys) in
     let second = passes_length n keys in
     omega arith
 
-passes_with : (n : ℕ) (k : Key) (keys : List Key) → rank_of k.lbn < n → length (in_passes n (k ∷ keys))
+passes_with : (n : ℕ) (k : Key) (keys : List Key) → rank_of k.lbn.0 < n → length (in_passes n (k ∷ keys))
     ≡ length (in_passes n keys) + 1
 passes_with zero k keys low = absurd (omega arith)
 passes_with (suc n) k keys low =
     let first = passes_length n (k ∷ keys) in
     let second = passes_length n keys in
-    elim (cases_eq (rank_of k.lbn) n) [
+    elim (cases_eq (rank_of k.lbn.0) n) [
       | inl is ↦
           let before = passes_without n k keys (omega arith) in
-          let more = ap (λ (ks : List Key). length ks) (filter_yes (is_of n) k keys (eq-eqb (rank_of k.lbn) n is)) in
+          let more = ap (λ (ks : List Key). length ks) (filter_yes (is_of n) k keys (eq-eqb (rank_of k.lbn.0) n is)) in
           omega arith
       | inr other ↦
           let before = passes_with n k keys (omega arith) in
-          let same = ap (λ (ks : List Key). length ks) (filter_no (is_of n) k keys (ne_eqb (rank_of k.lbn) n other)) in
+          let same = ap (λ (ks : List Key). length ks) (filter_no (is_of n) k keys (ne_eqb (rank_of k.lbn.0) n other)) in
           omega arith
     ]
 
@@ -87,7 +87,7 @@ in_order-length [] = passes_empty 3
     passes_empty : (n : ℕ) → length (in_passes n []) ≡ 0
     passes_empty zero = ap (λ (ks : List Key). length ks) (in_passes-none [])
     passes_empty (suc n) = let before = passes_empty n in let more = passes_length n [] in omega arith
-in_order-length (k ∷ keys) = let more = passes_with 3 k keys (rank_of-few k.lbn) in let rest = in_order-length keys in
+in_order-length (k ∷ keys) = let more = passes_with 3 k keys (rank_of-few k.lbn.0) in let rest = in_order-length keys in
     omega arith
 
 -- as far as a pass there are no more than in all
@@ -192,7 +192,7 @@ version_from p number files used = (files.parts.formed.each_row number fresh_row
     used
 
 -- what a summary says of a key that waits names a block that a file can have
-pub coded_entry : (key : Key) → (h : IsBlockCode key.lbn) → block_with key.lbn ≡ h.block
+pub coded_entry : (key : Key) → (h : IsBlockCode key.lbn.0) → block_with key.lbn.0 ≡ h.block
 coded_entry key h = ap block_with (sym h.coded) ∙ block_with-code_of h.block h.is
 
 entry_block : (b : FileBlock) → IsFileBlock b → code_of b ≢ 0 → (number version : ℕ) → IsFileNumber number → 1 ≤ version

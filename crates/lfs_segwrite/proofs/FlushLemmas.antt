@@ -130,13 +130,13 @@ keys_first p staged expected =
 record NamesKey (key : Key) (block : FileBlock) : Type 0 where
   pub can : IsFileBlock block
   pub other : code_of block ≢ 0
-  pub code : code_of block ≡ key.lbn
+  pub code : code_of block ≡ key.lbn.0
 
 names_key : (p : Parts) (key : Key) → AreFiles p → IsLocked key p.cache
     → NamesKey key (file_block_of (entry_of key).block)
 names_key p key files locked =
     let h = files.coded key locked in
-    subst (NamesKey key) (sym (file_block_of-logical (block_with key.lbn) ∙ coded_entry key h))
+    subst (NamesKey key) (sym (file_block_of-logical (block_with key.lbn.0) ∙ coded_entry key h))
     (record { can = h.is; other = λ e. h.other (sym h.coded ∙ e); code = h.coded })
 
 -- the next entry is of a key that waits, of this block of its number
@@ -144,7 +144,7 @@ pub record IsNext (old p : Parts) (k : ℕ) (entry : SummaryEntry) (block : File
   pub can : IsFileBlock block
   pub other : code_of block ≢ 0
   pub waits : IsLocked (key_of entry.number (version_of p entry.number) (code_of block)) p.cache
-  pub free : (key : Key) → IsLocked key p.cache → key.ino ≡ entry.number → (i : ℕ) → way_of key.lbn ≡ i ∷ way_to block
+  pub free : (key : Key) → IsLocked key p.cache → key.ino ≡ entry.number → (i : ℕ) → way_of key.lbn.0 ≡ i ∷ way_to block
       → ⊥
   pub same : entry_at_version p entry.number block ≡ entry
   pub split : drop k (entries_of old) ≡ entry ∷ drop (k + 1) (entries_of old)
@@ -186,9 +186,9 @@ next_key old p k entry h low at =
       waits = subst (λ x. IsLocked x p.cache) (sym here) locked;
       free = λ other waits number i way.
           let there = h.each other waits in
-          let less = later_pass block other.lbn i names.can (h.staged.whole.coded other waits) names.other way in
+          let less = later_pass block other.lbn.0 i names.can (h.staged.whole.coded other waits) names.other way in
           let after = in_order-after (keys_of old.cache.locked) k there.0 d there.1 there.2 in
-          let at = ap (λ (x : Key). rank_of x.lbn) (get_or_default (ordered old) there.0 d other there.2 ∙ there.3) in
+          let at = ap (λ (x : Key). rank_of x.lbn.0) (get_or_default (ordered old) there.0 d other there.2 ∙ there.3) in
           let own = ap rank_of names.code in
           omega arith;
       same = ap (λ m. record { number = key.ino; version = m; block = logical_of block }) (sym present.at_version)

@@ -156,12 +156,12 @@ module _ (p r s q : Parts) (v : Inode) (block : FileBlock) (a i : ℕ) (up : Lis
               (subst (λ (c : Contents). block_in key c.lru ≡ Some bytes) h.put.cache
               (h.set.clean.each key bytes (h.clean key bytes other there))) in
               let low = used_low p key.ino was.present.in_use in
-              let below = coded_below key.lbn was.coded in
+              let below = coded_below key.lbn.0 was.coded in
               logged_kept p q key bytes was (present_after key.ino key.version was.present)
-              (address_same p r s q v block a i up h waited key.ino key.lbn low below
+              (address_same p r s q v block a i up h waited key.ino key.lbn.0 low below
               (apart_present p k key here was.present other))
-              (block_other p r s q v block a i up h (address (tree_of p key.ino) (way_of key.lbn))
-              (h.put.unread key.ino low (way_of key.lbn) (way_of-known key.lbn below)))
+              (block_other p r s q v block a i up h (address (tree_of p key.ino) (way_of key.lbn.0))
+              (h.put.unread key.ino low (way_of key.lbn.0) (way_of-known key.lbn.0 below)))
         ];
   }
 
@@ -187,7 +187,7 @@ module _ (p r s q : Parts) (v : Inode) (block : FileBlock) (a i : ℕ) (up : Lis
     coded = λ key locked. elim (locked_cases key locked) [
       | inl was ↦ files.coded key was
       | inr parent ↦
-          subst (λ (k : Key). IsBlockCode k.lbn) parent.1 (holder_coded block h.can i up h.way parent.0)
+          subst (λ (k : Key). IsBlockCode k.lbn.0) parent.1 (holder_coded block h.can i up h.way parent.0)
     ];
     mirrors = mirrors_kept;
   }

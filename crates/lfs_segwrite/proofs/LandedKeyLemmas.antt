@@ -109,7 +109,7 @@ pub record LandsKey (p q : Parts) (v : Inode) (block : FileBlock) (a : ℕ) : Ty
   pub can : IsFileBlock block
   pub other : code_of block ≢ 0
   pub waits : IsLocked (key_of v.number v.version (code_of block)) p.cache
-  pub free : (key : Key) → IsLocked key p.cache → key.ino ≡ v.number → (i : ℕ) → way_of key.lbn ≡ i ∷ way_to block → ⊥
+  pub free : (key : Key) → IsLocked key p.cache → key.ino ≡ v.number → (i : ℕ) → way_of key.lbn.0 ≡ i ∷ way_to block → ⊥
   pub room : 1 ≤ room_of p.log.memory
   pub landed : LandsBlock p q v block a
   pub place : GetsPlace p q v.number (code_of block) a (4 * a)
@@ -137,7 +137,7 @@ module _ (p q : Parts) (v : Inode) (block : FileBlock) (a : ℕ) (h : LandsKey p
   landed_gone locked = false≢true (sym (ap is_some h.landed.settled) ∙ locked)
 
   -- what holds the address of a block that waits still does
-  holders_stay : (key : Key) → IsLocked key q.cache → (i : ℕ) (up : List ℕ) → way_of key.lbn ≡ i ∷ up
+  holders_stay : (key : Key) → IsLocked key q.cache → (i : ℕ) (up : List ℕ) → way_of key.lbn.0 ≡ i ∷ up
       → HolderWaits q.cache key.ino key.version up
   holders_stay key locked i [] way = tt
   holders_stay key locked i (j ∷ above) way =
@@ -146,9 +146,9 @@ module _ (p q : Parts) (v : Inode) (block : FileBlock) (a : ℕ) (h : LandsKey p
       elim (same_cases (key_of v.number v.version (code_of block)) holder) [
         | inl same ↦
             let e = same_is (key_of v.number v.version (code_of block)) holder same in
-            let known = subst IsBlockWay way (way_of-known key.lbn
-            (coded_below key.lbn (h.staged.whole.coded key before))) in
-            let to : way_to block ≡ j ∷ above = sym (way_of-code_of block h.can) ∙ ap way_of (ap (λ (k : Key). k.lbn) e)
+            let known = subst IsBlockWay way (way_of-known key.lbn.0
+            (coded_below key.lbn.0 (h.staged.whole.coded key before))) in
+            let to : way_to block ≡ j ∷ above = sym (way_of-code_of block h.can) ∙ ap way_of (ap (λ (k : Key). k.lbn.0) e)
             ∙ known_way_of (j ∷ above) (up_known i (j ∷ above) known) in
             absurd (h.free key before (sym (ap (λ (k : Key). k.ino) e)) i (way ∙ ap (λ w. i ∷ w) (sym to)))
         | inr apart ↦ h.frames holder apart (h.staged.parents.holders key before i (j ∷ above) way)
@@ -208,7 +208,7 @@ module _ (p q : Parts) (v : Inode) (block : FileBlock) (a : ℕ) (h : LandsKey p
             let e = same_is (key_of v.number v.version (code_of block)) (key_of n (version_of p n) (suc c)) same in
             absurd (elim apart [
               | inl ne ↦ ne (sym (ap (λ (k : Key). k.ino) e))
-              | inr ne ↦ ne (sym (ap (λ (k : Key). k.lbn) e))
+              | inr ne ↦ ne (sym (ap (λ (k : Key). k.lbn.0) e))
             ])
         | inr other ↦ other
       ]) waits)

@@ -71,29 +71,29 @@ lists_apart (x ∷ xs) ys h g each = (
 )
 
 -- a key of another pass
-lacks_pass : (n : ℕ) (k : Key) (ns : List Key) → rank_of k.lbn ≢ n → Lacks k (filter (is_of n) ns)
+lacks_pass : (n : ℕ) (k : Key) (ns : List Key) → rank_of k.lbn.0 ≢ n → Lacks k (filter (is_of n) ns)
 lacks_pass n k [] other = tt
-lacks_pass n k (m ∷ ns) other = elim (cases_eq (rank_of m.lbn) n) [
+lacks_pass n k (m ∷ ns) other = elim (cases_eq (rank_of m.lbn.0) n) [
   | inl is ↦
       let apart : same_key m k ≡ false = elim (same_cases m k) [
-        | inl same ↦ absurd (other (ap (λ (x : Key). rank_of x.lbn) (sym (same_is m k same)) ∙ is))
+        | inl same ↦ absurd (other (ap (λ (x : Key). rank_of x.lbn.0) (sym (same_is m k same)) ∙ is))
         | inr fails ↦ fails
       ] in
-      subst (Lacks k) (sym (filter_yes (is_of n) m ns (eq-eqb (rank_of m.lbn) n is))) (apart, lacks_pass n k ns other)
-  | inr ne ↦ subst (Lacks k) (sym (filter_no (is_of n) m ns (ne_eqb (rank_of m.lbn) n ne))) (lacks_pass n k ns other)
+      subst (Lacks k) (sym (filter_yes (is_of n) m ns (eq-eqb (rank_of m.lbn.0) n is))) (apart, lacks_pass n k ns other)
+  | inr ne ↦ subst (Lacks k) (sym (filter_no (is_of n) m ns (ne_eqb (rank_of m.lbn.0) n ne))) (lacks_pass n k ns other)
 ]
 
 pass_is : (n : ℕ) (ks : List Key) (k : ℕ) (d : Key) → k < length (filter (is_of n) ks)
-    → rank_of (get_or (filter (is_of n) ks) k d).lbn ≡ n
-pass_is n ks k d low = eqb-true (rank_of (get_or (filter (is_of n) ks) k d).lbn) n (each_passes (is_of n) ks d k low)
+    → rank_of (get_or (filter (is_of n) ks) k d).lbn.0 ≡ n
+pass_is n ks k d low = eqb-true (rank_of (get_or (filter (is_of n) ks) k d).lbn.0) n (each_passes (is_of n) ks d k low)
 
 -- in the passes below one there are keys of those alone
-pub passes_below : (n : ℕ) (keys : List Key) → All (λ (k : Key). rank_of k.lbn < n) (in_passes n keys)
-passes_below zero keys = subst (All (λ (k : Key). rank_of k.lbn < 0)) (sym (in_passes-none keys))
+pub passes_below : (n : ℕ) (keys : List Key) → All (λ (k : Key). rank_of k.lbn.0 < n) (in_passes n keys)
+passes_below zero keys = subst (All (λ (k : Key). rank_of k.lbn.0 < 0)) (sym (in_passes-none keys))
     (λ k d low. absurd (omega arith))
 passes_below (suc n) keys =
-    subst (All (λ (k : Key). rank_of k.lbn < suc n)) (sym (in_passes-more n keys))
-    (All-append (λ (k : Key). rank_of k.lbn < suc n) (in_passes n keys) (filter (is_of n) keys)
+    subst (All (λ (k : Key). rank_of k.lbn.0 < suc n)) (sym (in_passes-more n keys))
+    (All-append (λ (k : Key). rank_of k.lbn.0 < suc n) (in_passes n keys) (filter (is_of n) keys)
     (λ k d low. let less = passes_below n keys k d low in omega arith)
     (λ k d low. let is = pass_is n keys k d low in omega arith))
 
@@ -110,11 +110,11 @@ pub in_order-apart : (keys : List Key) → AreApart keys → AreApart (in_order 
 in_order-apart keys h = passes_apart 3 keys h
 
 -- and each comes
-filter_has : (n : ℕ) (key : Key) (ks : List Key) → rank_of key.lbn ≡ n → Contains ks key
+filter_has : (n : ℕ) (key : Key) (ks : List Key) → rank_of key.lbn.0 ≡ n → Contains ks key
     → Contains (filter (is_of n) ks) key
 filter_has n key [] is has = let low = has.1 in absurd (omega arith)
 filter_has n key (k ∷ ks) is (zero, low, e) =
-    let here : is_of n k ≡ true = eq-eqb (rank_of k.lbn) n (ap (λ (x : Key). rank_of x.lbn) e ∙ is) in
+    let here : is_of n k ≡ true = eq-eqb (rank_of k.lbn.0) n (ap (λ (x : Key). rank_of x.lbn.0) e ∙ is) in
     subst (λ xs. Contains xs key) (sym (filter_yes (is_of n) k ks here)) (0, omega arith, e)
 filter_has n key (k ∷ ks) is (suc i, low, e) =
     let rest = filter_has n key ks is (i, omega arith, e) in
@@ -127,11 +127,11 @@ filter_has n key (k ∷ ks) is (suc i, low, e) =
       | inr fails ↦ subst (λ xs. Contains xs key) (sym (filter_no (is_of n) k ks fails)) rest
     ]
 
-passes_have : (n : ℕ) (keys : List Key) (key : Key) → rank_of key.lbn < n → Contains keys key
+passes_have : (n : ℕ) (keys : List Key) (key : Key) → rank_of key.lbn.0 < n → Contains keys key
     → Contains (in_passes n keys) key
 passes_have zero keys key low has = absurd (omega arith)
 passes_have (suc n) keys key low has =
-    subst (λ xs. Contains xs key) (sym (in_passes-more n keys)) (elim (cases_eq (rank_of key.lbn) n) [
+    subst (λ xs. Contains xs key) (sym (in_passes-more n keys)) (elim (cases_eq (rank_of key.lbn.0) n) [
       | inl is ↦ Contains-append_right (in_passes n keys) (filter (is_of n) keys) key (filter_has n key keys is has)
       | inr other ↦ Contains-append_left (in_passes n keys) (filter (is_of n) keys) key
           (passes_have n keys key (omega arith) has)
@@ -157,7 +157,7 @@ pub in_order-locked : (c : Contents) → AreApart (keys_of c.locked) → AreLock
 in_order-locked c apart =
     let keys = keys_of c.locked in
     record {
-      each = λ key waits. passes_have 3 keys key (rank_of-few key.lbn) (waits_listed c.locked key waits);
+      each = λ key waits. passes_have 3 keys key (rank_of-few key.lbn.0) (waits_listed c.locked key waits);
       only = in_passes-each (λ (key : Key). IsLocked key c) 3 keys (listed_waits c);
       once = in_order-apart keys apart;
     }
@@ -176,7 +176,7 @@ entries_of-same old new cache waiting =
 -- behind a block of a pass there is none of one before: when an indirect block is written, the blocks are whose
 -- addresses it holds
 passes_after : (n : ℕ) (keys : List Key) (j i : ℕ) (d : Key) → j ≤ i → i < length (in_passes n keys)
-    → rank_of (get_or (in_passes n keys) j d).lbn ≤ rank_of (get_or (in_passes n keys) i d).lbn
+    → rank_of (get_or (in_passes n keys) j d).lbn.0 ≤ rank_of (get_or (in_passes n keys) i d).lbn.0
 passes_after zero keys j i d before low = let none = ap (λ (ks : List Key). length ks) (in_passes-none keys) in
     absurd (omega arith)
 passes_after (suc n) keys j i d before low =
@@ -184,23 +184,23 @@ passes_after (suc n) keys j i d before low =
     let ys = filter (is_of n) keys in
     let long = length-append xs ys in
     let split = ap (λ (ks : List Key). length ks) (in_passes-more n keys) in
-    subst (λ ks. rank_of (get_or ks j d).lbn ≤ rank_of (get_or ks i d).lbn) (sym (in_passes-more n keys))
+    subst (λ ks. rank_of (get_or ks j d).lbn.0 ≤ rank_of (get_or ks i d).lbn.0) (sym (in_passes-more n keys))
     (elim (cases_lt i (length xs)) [
       | inl first ↦
-          let at_i = ap (λ (k : Key). rank_of k.lbn) (get_or_append_left xs ys d i first) in
-          let at_j = ap (λ (k : Key). rank_of k.lbn) (get_or_append_left xs ys d j (omega arith)) in
+          let at_i = ap (λ (k : Key). rank_of k.lbn.0) (get_or_append_left xs ys d i first) in
+          let at_j = ap (λ (k : Key). rank_of k.lbn.0) (get_or_append_left xs ys d j (omega arith)) in
           let less = passes_after n keys j i d before first in
           omega arith
       | inr last ↦
           let there = passes_below (suc n) keys j d (omega arith) in
-          let same = ap (λ ks. rank_of (get_or ks j d).lbn) (in_passes-more n keys) in
-          let at_i = ap (λ (k : Key). rank_of k.lbn) (get_or-append_right xs ys (length xs) i d refl last) in
+          let same = ap (λ ks. rank_of (get_or ks j d).lbn.0) (in_passes-more n keys) in
+          let at_i = ap (λ (k : Key). rank_of k.lbn.0) (get_or-append_right xs ys (length xs) i d refl last) in
           let own = pass_is n keys (i - length xs) d (omega arith) in
           omega arith
     ])
 
 pub in_order-after : (keys : List Key) (j i : ℕ) (d : Key) → j ≤ i → i < length (in_order keys)
-    → rank_of (get_or (in_order keys) j d).lbn ≤ rank_of (get_or (in_order keys) i d).lbn
+    → rank_of (get_or (in_order keys) j d).lbn.0 ≤ rank_of (get_or (in_order keys) i d).lbn.0
 in_order-after keys j i d before low = passes_after 3 keys j i d before low
 
 entries_of-split : (p : Parts) → entries_of p ≡ map entry_of (in_order (keys_of p.cache.locked))

@@ -10,7 +10,7 @@ use Rattle.lfs_types.specs.FlagNumbers.{is_part_of}
 use Rattle.lfs_types.specs.declared.limits.TheConstants.{FILE_BYTES, SEGMENT_BLOCKS, TRANSFER_BYTES}
 use Rattle.lfs_inodes.specs.Facts.{block_count}
 use Rattle.lfs_segwrite.specs.Room.{HasCleanable}
-use Rattle.lfs_segwrite.specs.declared.room.TheConstants.{SPARE, WHOLE}
+use Rattle.lfs_segwrite.specs.declared.room.TheConstants.{SPARE, USERS_SPARE, WHOLE}
 use Rattle.lfs_types.specs.declared.store.Change.{Change}
 use Rattle.lfs_types.specs.declared.store.Change.TheVariants.{Make, Remove, SetAttrs, Put, SetLength}
 use Rattle.lfs_types.specs.declared.store.Reserve.{Reserve}
@@ -180,19 +180,26 @@ passes_limits p changes =
 abbrev pub HasRoomToTake : ℕ → Parts → Type 0
 HasRoomToTake blocks p = (2 < p.log.clean) ⊎ ((p.log.clean ≡ 2) × (blocks ≤ room_of p.log.memory))
 
+-- the blocks that stay to spare behind changes that use what is kept back: more behind users' than behind the
+-- superuser's
+abbrev pub spare_of : Reserve → ℕ
+spare_of Users = USERS_SPARE
+spare_of Superuser = SPARE
+
 -- There is room for so many that are to be written for changes that may use what is kept back: more than one segment is
 -- clean, or behind these blocks some segment can still be cleaned and leaves some to spare.
-abbrev pub HasRoomToGive : ℕ → Parts → Type 0
-HasRoomToGive blocks p =
+abbrev pub HasRoomToGive : Reserve → ℕ → Parts → Type 0
+HasRoomToGive by blocks p =
     (1 < p.log.clean)
     ⊎ (((blocks ≤ room_of p.log.memory)
-    × ((s : ℕ) × HasCleanable p false (blocks + SPARE) (room_of p.log.memory + WHOLE * p.log.clean) s))
-    ⊎ ((room_of p.log.memory < blocks) × ((s : ℕ) × HasCleanable p true (blocks + SPARE) (WHOLE * p.log.clean) s)))
+    × ((s : ℕ) × HasCleanable p false (blocks + spare_of by) (room_of p.log.memory + WHOLE * p.log.clean) s))
+    ⊎ ((room_of p.log.memory < blocks)
+    × ((s : ℕ) × HasCleanable p true (blocks + spare_of by) (WHOLE * p.log.clean) s)))
 
 -- there is room for so many blocks that are to be written for changes
 abbrev pub HasRoomForBlocks : Reserve → List Change → ℕ → Parts → Type 0
 HasRoomForBlocks by changes blocks p =
-    HasRoomToTake blocks p ⊎ ((may_use_reserve by (content_of p) changes ≡ true) × HasRoomToGive blocks p)
+    HasRoomToTake blocks p ⊎ ((may_use_reserve by (content_of p) changes ≡ true) × HasRoomToGive by blocks p)
 
 -- there is room for what waits and for changes
 abbrev pub HasRoomFor : Reserve → List Change → Parts → Type 0

@@ -14,11 +14,11 @@ use Rattle.lfs_staging.specs.Opening.{inodes_entry}
 
 -- the block of a key is written in a pass
 abbrev pub is_of : ℕ → Key → Bool
-is_of pass key = rank_of key.lbn == pass
+is_of pass key = rank_of key.lbn.0 == pass
 
 -- what a summary says of the block of a key
 abbrev pub entry_of : Key → SummaryEntry
-entry_of key = record { number = key.ino; version = key.version; block = logical_of (block_with key.lbn) }
+entry_of key = record { number = key.ino; version = key.version; block = logical_of (block_with key.lbn.0) }
 
 -- the keys of the passes below one, pass by pass
 unfoldable pub in_passes : ℕ → List Key → List Key

@@ -6,7 +6,7 @@ ghost use Rattle.lfs_inodes.specs.Facts.{block_count};
 ghost use Rattle.lfs_types.specs.Changes.{CanApply, CanChange, CanChangeAll};
 ghost use Rattle.lfs_types.specs.declared.store.Change.TheVariants.{Put};
 ghost use Rattle.lfs_types.specs.declared.limits.TheConstants.{FILE_BYTES};
-ghost use Rattle.lfs_segwrite.specs.Applying.{HasRoom, HasRoomFor, HasRoomForBlocks, HasRoomToGive, HasRoomToTake, IsInReach, MakesChanges, MakesWay, StagesAll, StagesChange, frames_of_all, give_back, gives_back, may_use_reserve, needs_of, passes_limits, peak_of, peak_of_all, records_of_all, unlock, unlocks};
+ghost use Rattle.lfs_segwrite.specs.Applying.{HasRoom, HasRoomFor, HasRoomForBlocks, HasRoomToGive, HasRoomToTake, IsInReach, MakesChanges, MakesWay, StagesAll, StagesChange, frames_of_all, give_back, gives_back, may_use_reserve, needs_of, passes_limits, peak_of, peak_of_all, records_of_all, spare_of, unlock, unlocks};
 ghost use Rattle.lfs_cache.specs.declared.cache.TheConstants.{LOCKED_LIMIT};
 ghost use Rattle.lfs_staging.specs.declared.records.TheConstants.{WAITING_LIMIT};
 ghost use Rattle.lfs_staging.specs.Changing.{frames_of, frames_of_length, records_of};
@@ -17,7 +17,7 @@ ghost use Rattle.lfs_staging.specs.Store.{IsStore};
 ghost use Rattle.lfs_segwrite.specs.declared.applying.TheConstants.{APPLIED_FRAMES, APPLIED_RECORDS};
 
 use crate::collecting::{blocks_to_write, inode_blocks};
-use crate::room::{NoRoom, SPARE, WHOLE, has_cleanable};
+use crate::room::{NoRoom, SPARE, USERS_SPARE, WHOLE, has_cleanable};
 use crate::writing::write_waiting;
 use lfs_bmap::blocks::FileBlock;
 use lfs_bmap::pieces::blocks_touched;
@@ -307,18 +307,29 @@ fn has_room_to_take(parts: &Parts, blocks: u32) -> bool
     clean > RESERVE || (clean == RESERVE && blocks <= parts.log.room())
 }
 
+/// How many blocks stay to spare behind changes that use what is kept back.
+fn spare_of(by: Reserve) -> u32
+    ensures spare { result ≡ spare_of by }
+    ensures few { result ≤ 32 }
+{
+    match by {
+        Reserve::Users => USERS_SPARE,
+        Reserve::Superuser => SPARE,
+    }
+}
+
 /// Whether there is room for so many blocks that are to be written for changes that may use what is kept back.
-fn has_room_to_give(parts: &Parts, blocks: u32) -> bool
+fn has_room_to_give(parts: &Parts, by: Reserve, blocks: u32) -> bool
     requires store { IsStore parts.now }
     requires few { blocks ≤ 80 }
-    ensures { IsTrue result ↔ HasRoomToGive blocks parts.now }
+    ensures { IsTrue result ↔ HasRoomToGive by blocks parts.now }
 {
     let clean = parts.log.clean();
     if clean > 1 {
         return true;
     }
     let room = parts.log.room();
-    let behind = blocks + SPARE;
+    let behind = blocks + spare_of(by);
     if blocks <= room {
         has_cleanable(parts, false, behind, room + WHOLE * clean)
     } else {
@@ -334,7 +345,7 @@ fn has_room_for(parts: &Parts, changes: &[Change<'_>], by: Reserve, blocks: u32)
     ensures many { 2 < parts.now.log.clean → result ≡ true }
 {
     has_room_to_take(parts, blocks)
-        || (may_use_reserve(parts, changes, by) && has_room_to_give(parts, blocks))
+        || (may_use_reserve(parts, changes, by) && has_room_to_give(parts, by, blocks))
 }
 
 /// Whether there is room for what waits and for changes.

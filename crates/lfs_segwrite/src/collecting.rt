@@ -25,12 +25,12 @@ pub type EntryList = ArrayVec<SummaryEntry, ENTRY_LIMIT>;
 
 /// Adds the entries of the blocks among some keys that are written in a pass.
 fn push_keys(list: &mut EntryList, keys: &[Key], pass: u32)
-    requires coded { All (λ (key : Key). IsBlockCode key.lbn) keys.now }
+    requires coded { All (λ (key : Key). IsBlockCode key.lbn.0) keys.now }
     requires room { length list.old.items + length (filter (is_of pass) keys.now) ≤ ENTRY_LIMIT }
     ensures { list.new.items ≡ list.old.items ++ map entry_of (filter (is_of pass) keys.now) }
 {
     for key in keys {
-        if rank(key.lbn) == pass {
+        if rank(key.lbn.0) == pass {
             list.push(entry_of(key));
         }
     }
@@ -60,10 +60,10 @@ pub(crate) fn inode_blocks(records: usize) -> usize
 
 /// What a summary says of the block of a key.
 fn entry_of(key: &Key) -> SummaryEntry
-    requires { IsBlockCode key.now.lbn }
+    requires { IsBlockCode key.now.lbn.0 }
     ensures { result ≡ entry_of key.now }
 {
-    match FileBlock::from_code(key.lbn) {
+    match FileBlock::from_code(key.lbn.0) {
         Some(block) => SummaryEntry {
             number: key.ino,
             version: key.version,

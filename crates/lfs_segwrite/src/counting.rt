@@ -14,7 +14,7 @@ ghost use Rattle.lfs_staging.specs.View.{key_of};
 use crate::collecting::inode_blocks;
 use lfs_bmap::blocks::{BLOCK_CODES, FileBlock};
 use lfs_bmap::tables::MOST_DEPTH;
-use lfs_cache::Key;
+use lfs_cache::{BlockCode, Key};
 use lfs_segments::entry::LogicalBlock;
 use lfs_types::cleaner::{BlockInfo, MARK_LIMIT};
 use std::marker::Model;
@@ -26,7 +26,7 @@ const KEY_LIMIT: usize = MARK_LIMIT * MOST_DEPTH;
 const NO_KEY: Key = Key {
     ino: 0,
     version: 0,
-    lbn: 0,
+    lbn: BlockCode(0),
 };
 
 /// At most 24 keys, which lie in the value itself.
@@ -93,7 +93,11 @@ impl KeyList {
     {
         if let Some(cell) = block.cell() {
             let lbn = block.code();
-            self.add(Key { ino, version, lbn });
+            self.add(Key {
+                ino,
+                version,
+                lbn: BlockCode(lbn),
+            });
             self.add_way(ino, version, cell.table);
         }
     }

@@ -95,7 +95,7 @@ fn land_waiting(parts: &mut Parts, number: u32, block: FileBlock)
     requires other { code_of block ≢ 0 }
     requires waits { IsLocked (key_of number (version_of parts.old number) (code_of block)) parts.old.cache }
     requires free { (key : Key) → IsLocked key parts.old.cache → key.ino ≡ number
-        → (i : ℕ) → way_of key.lbn ≡ i ∷ way_to block → ⊥ }
+        → (i : ℕ) → way_of key.lbn.0 ≡ i ∷ way_to block → ⊥ }
     requires expected { ExpectsBlock parts.old.log.memory (entry_at_version parts.old number block) }
     ensures staged { IsStaged parts.new 0 }
     ensures advances { (from : ℕ) → from ≤ next_address parts.old.log.memory

@@ -19,7 +19,7 @@ ghost use Rattle.lfs_staging.specs.Store.{AreFiles};
 ghost use Rattle.lfs_staging.specs.View.{key_of};
 
 use lfs_bmap::blocks::FileBlock;
-use lfs_cache::Key;
+use lfs_cache::{BlockCode, Key};
 use lfs_inodes::inode::Inode;
 use lfs_segments::entry::SummaryEntry;
 use lfs_staging::parts::Parts;
@@ -75,7 +75,7 @@ pub fn land_block(parts: &mut Parts, inode: &Inode, block: FileBlock) -> u32
     parts.cache.settle(Key {
         ino: inode.number,
         version: inode.version,
-        lbn: block.code(),
+        lbn: BlockCode(block.code()),
     });
     to
 }

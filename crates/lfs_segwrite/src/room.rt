@@ -20,6 +20,9 @@ pub const WHOLE: u32 = SEGMENT_BLOCKS - 1;
 /// The blocks that stay when room is kept for a segment to be cleaned, beside those that this takes.
 pub const SPARE: u32 = 8;
 
+/// Those that stay behind what users give back, so that the cleaner and the superuser have some.
+pub const USERS_SPARE: u32 = 32;
+
 /// The log has no room: too few blocks are left in the active segment, and no segment may be opened.
 #[derive(Clone, Copy, PartialEq, Eq, Debug)]
 pub struct NoRoom;

@@ -2,7 +2,7 @@
 
 ghost use Rattle.std.specs.Prelude.{◌≡◌};
 ghost use Rattle.lfs_segwrite.specs.declared.applying.TheConstants.{APPLIED_FRAMES, APPLIED_RECORDS};
-ghost use Rattle.lfs_segwrite.specs.declared.room.TheConstants.{SPARE, WHOLE};
+ghost use Rattle.lfs_segwrite.specs.declared.room.TheConstants.{SPARE, USERS_SPARE, WHOLE};
 
 /// The constants that contracts cite by name are these numbers: a law, which does nothing.
 pub fn sizes()
@@ -10,4 +10,5 @@ pub fn sizes()
     ensures records { APPLIED_RECORDS ≡ 4 }
     ensures whole { WHOLE ≡ 63 }
     ensures spare { SPARE ≡ 8 }
+    ensures users { USERS_SPARE ≡ 32 }
 {}

@@ -46,9 +46,9 @@ mirrors_none p none = record {
 -- a clean block is what the log has still, where its number is in use still and its address and the block there are the
 -- same
 pub logged_kept : (p q : Parts) (key : Key) (bytes : List ℕ) → IsLogged p key bytes → IsPresent q key.ino key.version
-    → address (tree_of q key.ino) (way_of key.lbn) ≡ address (tree_of p key.ino) (way_of key.lbn)
-    → block_at q.log.memory (address (tree_of p key.ino) (way_of key.lbn))
-    ≡ block_at p.log.memory (address (tree_of p key.ino) (way_of key.lbn))
+    → address (tree_of q key.ino) (way_of key.lbn.0) ≡ address (tree_of p key.ino) (way_of key.lbn.0)
+    → block_at q.log.memory (address (tree_of p key.ino) (way_of key.lbn.0))
+    ≡ block_at p.log.memory (address (tree_of p key.ino) (way_of key.lbn.0))
     → IsLogged q key bytes
 logged_kept p q key bytes was present at block = record {
   present = present;
@@ -64,20 +64,20 @@ mirrors_log p q mirrors clean log addresses = record {
   each = λ key bytes there.
       let was = mirrors.each key bytes (clean.each key bytes there) in
       logged_kept p q key bytes was (present_kept p q key.ino key.version log was.present)
-      (addresses key.ino (way_of key.lbn) (way_of-known key.lbn (coded_below key.lbn was.coded)))
-      (ap (λ (l : LogParts). block_at l.memory (address (tree_of p key.ino) (way_of key.lbn))) log);
+      (addresses key.ino (way_of key.lbn.0) (way_of-known key.lbn.0 (coded_below key.lbn.0 was.coded)))
+      (ap (λ (l : LogParts). block_at l.memory (address (tree_of p key.ino) (way_of key.lbn.0))) log);
 }
 
 -- a block that doesn't wait and has an address reads as what the log has there
 log_read : (p : Parts) (key : Key) → IsPresent p key.ino key.version → block_in key p.cache.locked ≡ None
-    → address (tree_of p key.ino) (way_of key.lbn) ≢ 0
-    → read (tree_of p key.ino) (way_of key.lbn) ≡ block_at p.log.memory (address (tree_of p key.ino) (way_of key.lbn))
+    → address (tree_of p key.ino) (way_of key.lbn.0) ≢ 0
+    → read (tree_of p key.ino) (way_of key.lbn.0) ≡ block_at p.log.memory (address (tree_of p key.ino) (way_of key.lbn.0))
 log_read p key here free some =
     let t = tree_of p key.ino in
-    let way = way_of key.lbn in
+    let way = way_of key.lbn.0 in
     let waits : t.waits way ≡ None
-    = ap (λ c. block_in (key_of key.ino (version_of p key.ino) c) p.cache.locked) (code_at-way_of key.lbn)
-    ∙ ap (λ n. block_in (key_of key.ino n key.lbn) p.cache.locked) (sym here.at_version) ∙ free in
+    = ap (λ c. block_in (key_of key.ino (version_of p key.ino) c) p.cache.locked) (code_at-way_of key.lbn.0)
+    ∙ ap (λ n. block_in (key_of key.ino n key.lbn.0) p.cache.locked) (sym here.at_version) ∙ free in
     read-via t way ∙ via-log t way (address t way) waits some
 
 -- and where the same is held, and each block has its address and its bytes
@@ -91,15 +91,15 @@ mirrors_read p q mirrors formed cache present readings = record {
       let was = mirrors.each key bytes held in
       let free = clean_waits p.cache key bytes formed held in
       let same = readings key.ino (used_low p key.ino was.present.in_use) in
-      let known = way_of-known key.lbn (coded_below key.lbn was.coded) in
-      let at = same.addresses (way_of key.lbn) known in
-      let somewhere : address (tree_of q key.ino) (way_of key.lbn) ≢ 0 = λ none. was.somewhere (sym at ∙ none) in
+      let known = way_of-known key.lbn.0 (coded_below key.lbn.0 was.coded) in
+      let at = same.addresses (way_of key.lbn.0) known in
+      let somewhere : address (tree_of q key.ino) (way_of key.lbn.0) ≢ 0 = λ none. was.somewhere (sym at ∙ none) in
       let now = present key.ino key.version was.present in
       record {
         present = now;
         coded = was.coded;
         somewhere = somewhere;
-        same = was.same ∙ sym (log_read p key was.present free was.somewhere) ∙ sym (same.bytes (way_of key.lbn) known)
+        same = was.same ∙ sym (log_read p key was.present free was.somewhere) ∙ sym (same.bytes (way_of key.lbn.0) known)
             ∙ log_read q key now (ap (λ (c : Contents). block_in key c.locked) cache ∙ free) somewhere;
       };
 }
@@ -107,11 +107,11 @@ mirrors_read p q mirrors formed cache present readings = record {
 -- of two keys of numbers in use that differ, the number or the code does
 pub apart_present : (p : Parts) (k key : Key) → IsPresent p k.ino k.version → IsPresent p key.ino key.version
     → same_key k key ≡ false
-    → (key.ino ≢ k.ino) ⊎ (key.lbn ≢ k.lbn)
+    → (key.ino ≢ k.ino) ⊎ (key.lbn.0 ≢ k.lbn.0)
 apart_present p k key a b apart = elim (cases_eq key.ino k.ino) [
   | inr ne ↦ inl ne
   | inl number ↦ inr (λ code.
       let version : k.version ≡ key.version = a.at_version ∙ ap (version_of p) (sym number) ∙ sym b.at_version in
-      let is : k ≡ key = λ i. record { ino = sym number i; version = version i; lbn = sym code i } in
+      let is : k ≡ key = λ i. record { ino = sym number i; version = version i; lbn = record { 0 = sym code i } } in
       absurd (false≢true (sym apart ∙ subst (λ x. same_key k x ≡ true) is (same_self k))))
 ]

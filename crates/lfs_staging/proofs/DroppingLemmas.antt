@@ -201,7 +201,7 @@ module _ (a b : Parts) (v : Inode) (t : FileBlock) (left blocks : ℕ) (may : Ma
       block_gone b v.number x ((h.same.readings v.number).addresses (way_to x) (block_known x is) ∙ was.nowhere)
       (λ locked. elim (h.takes.takes (key_of v.number (version_of b v.number) (code_of x)) locked) [
         | inl one ↦
-            let code : code_of x ≡ one.0 = ap (λ (k : Key). k.lbn) one.2 in
+            let code : code_of x ≡ one.0 = ap (λ (k : Key). k.lbn.0) one.2 in
             let least = codes_on-within t may.holds may.can one.0 one.1 in
             absurd (omega arith)
         | inr before ↦ gone_free a v.number x was

@@ -48,8 +48,8 @@ module _ (p q : Parts) (log : q.log ≡ p.log) (waiting : q.waiting ≡ p.waitin
   pub filled_logged : (key : Key) (bytes : List ℕ) → IsLogged p key bytes → IsLogged q key bytes
   filled_logged key bytes was =
       logged_kept p q key bytes was (present_kept p q key.ino key.version log was.present)
-      (ap (λ t. address t (way_of key.lbn)) (filled_tree key.ino))
-      (ap (λ (l : LogParts). block_at l.memory (address (tree_of p key.ino) (way_of key.lbn))) log)
+      (ap (λ t. address t (way_of key.lbn.0)) (filled_tree key.ino))
+      (ap (λ (l : LogParts). block_at l.memory (address (tree_of p key.ino) (way_of key.lbn.0))) log)
 
   still_locked : (key : Key) → IsLocked key q.cache → IsLocked key p.cache
   still_locked key locked = subst (λ es. is_some (block_in key es) ≡ true) dirty locked

@@ -2,7 +2,7 @@
 -- RecordsLemmas. A list whose keys differ, each of them in another list, is no longer than that: each is taken out of
 -- the other list in turn, which gets shorter by one at least (`without_less`). The limits of what may wait stand on
 -- this; it needs that no key waits twice.
-use Rattle.std.proofs.Common.{◌≡◌, ℕ, ◌+◌, ◌≤◌, List, [], ◌∷◌, length, None, Some, IsSome, is_some, true, false, refl}
+use Rattle.std.proofs.Common.{◌≡◌, ℕ, ◌+◌, ◌≤◌, List, [], ◌∷◌, length, None, Some, IsSome, is_some, false, refl}
 use Rattle.std.proofs.Common.{sym, ap, ◌∙◌, subst, inl, inr, arith}
 use Rattle.std.proofs.lemmas.Bool.{cond-true, cond-false, false≢true, cases_eq}
 use Rattle.std.proofs.lemmas.Option.{none-some}

@@ -202,15 +202,15 @@ module _ (p s q : Parts) (v : Inode) (block : FileBlock) (i : ℕ) (up : List �
     each = λ key bytes there.
         let k = key_of v.number v.version (code_of block) in
         let was = files.mirrors.each key bytes (h.set.clean.each key bytes (h.clean.each key bytes there)) in
-        let at : address (tree_of q key.ino) (way_of key.lbn)
-        ≡ address (tree_of p key.ino) (way_of key.lbn) = elim (same_cases k key) [
+        let at : address (tree_of q key.ino) (way_of key.lbn.0)
+        ≡ address (tree_of p key.ino) (way_of key.lbn.0) = elim (same_cases k key) [
           | inl is ↦ absurd (none-some bytes (sym h.unclean
               ∙ subst (λ x. block_in x q.cache.lru ≡ Some bytes) (sym (same_is k key is)) there))
-          | inr other ↦ address_same p s q v block i up h key.ino key.lbn (coded_below key.lbn was.coded)
+          | inr other ↦ address_same p s q v block i up h key.ino key.lbn.0 (coded_below key.lbn.0 was.coded)
               (apart_present p k key (record { in_use = h.is.in_use; at_version = h.is.at_version }) was.present other)
         ] in
         logged_kept p q key bytes was (present_after key.ino key.version was.present) at
-        (ap (λ (m : SegmentMemory). block_at m (address (tree_of p key.ino) (way_of key.lbn))) h.memory);
+        (ap (λ (m : SegmentMemory). block_at m (address (tree_of p key.ino) (way_of key.lbn.0))) h.memory);
   }
 
   whole_after : AreFiles q
@@ -245,7 +245,7 @@ module _ (p s q : Parts) (v : Inode) (block : FileBlock) (i : ℕ) (up : List �
   }
     where
       -- the block that went held the address of none that waits
-      apart : (key : Key) → IsLocked key p.cache → (k j : ℕ) (above : List ℕ) → way_of key.lbn ≡ k ∷ j ∷ above
+      apart : (key : Key) → IsLocked key p.cache → (k j : ℕ) (above : List ℕ) → way_of key.lbn.0 ≡ k ∷ j ∷ above
           → same_key (key_of v.number v.version (code_of block)) (key_of key.ino key.version (code_at (j ∷ above)))
           ≡ false
       apart key was k j above way =
@@ -256,21 +256,21 @@ module _ (p s q : Parts) (v : Inode) (block : FileBlock) (i : ℕ) (up : List �
                 let e = same_is (key_of v.number v.version (code_of block))
                 (key_of key.ino key.version (code_at (j ∷ above))) same in
                 let number : key.ino ≡ v.number = sym (ap (λ (x : Key). x.ino) e) in
-                let below = coded_below key.lbn (files.coded key was) in
-                let known : IsBlockWay (k ∷ j ∷ above) = subst IsBlockWay way (way_of-known key.lbn below) in
+                let below = coded_below key.lbn.0 (files.coded key was) in
+                let known : IsBlockWay (k ∷ j ∷ above) = subst IsBlockWay way (way_of-known key.lbn.0 below) in
                 let up_is : way_to block ≡ j ∷ above = sym (way_of-code_of block may.can)
-                ∙ ap way_of (ap (λ (x : Key). x.lbn) e) ∙ known_way_of (j ∷ above) (up_known k (j ∷ above) known) in
+                ∙ ap way_of (ap (λ (x : Key). x.lbn.0) e) ∙ known_way_of (j ∷ above) (up_known k (j ∷ above) known) in
                 let gone = may.beneath k (subst (λ w. IsBlockWay (k ∷ w)) (sym up_is) known) in
                 let version : key.version ≡ version_of p v.number = (files.frames key was).at_version
                 ∙ ap (version_of p) number in
-                let code : key.lbn ≡ code_at (k ∷ way_to block) = sym (code_at-way_of key.lbn) ∙ ap code_at way
+                let code : key.lbn.0 ≡ code_at (k ∷ way_to block) = sym (code_at-way_of key.lbn.0) ∙ ap code_at way
                 ∙ ap (λ w. code_at (k ∷ w)) (sym up_is) in
                 let there : key ≡ key_of v.number (version_of p v.number) (code_at (k ∷ way_to block)) =
                 λ n. key_of (number n) (version n) (code n) in
                 absurd (gone.free (subst (λ x. IsLocked x p.cache) there was))
           ]
 
-      holders_after : (key : Key) → IsLocked key q.cache → (k : ℕ) (above : List ℕ) → way_of key.lbn ≡ k ∷ above
+      holders_after : (key : Key) → IsLocked key q.cache → (k : ℕ) (above : List ℕ) → way_of key.lbn.0 ≡ k ∷ above
           → HolderWaits q.cache key.ino key.version above
       holders_after key locked k [] way = tt
       holders_after key locked k (j ∷ above) way =

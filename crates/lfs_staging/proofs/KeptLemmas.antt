@@ -137,7 +137,7 @@ pub files_kept : (old new : Parts) → AreFiles old → new.log ≡ old.log → 
     → IsContents new.cache → Mirrors new
     → All (λ (v : Inode). IsPresent old v.number v.version) new.waiting
     → ((key : Key) → IsLocked key new.cache → IsPresent old key.ino key.version)
-    → ((key : Key) → IsLocked key new.cache → IsBlockCode key.lbn) → AreFiles new
+    → ((key : Key) → IsLocked key new.cache → IsBlockCode key.lbn.0) → AreFiles new
 files_kept old new h log records addresses padded formed mirrors waiting frames coded = record {
   parts = subst IsParts (sym log) h.parts;
   cache = formed;
@@ -273,7 +273,7 @@ module _ (old new : Parts) (number : ℕ) (block : FileBlock) (bytes : List ℕ)
         | inr was ↦ files.frames key was
       ])
       (λ key locked. elim (h.frames.only key locked) [
-        | inl is ↦ subst (λ (k : Key). IsBlockCode k.lbn) (sym is) coded
+        | inl is ↦ subst (λ (k : Key). IsBlockCode k.lbn.0) (sym is) coded
         | inr was ↦ files.coded key was
       ])
 
@@ -290,7 +290,7 @@ module _ (old new : Parts) (number : ℕ) (block : FileBlock) (bytes : List ℕ)
         holder_kept old.cache new.cache key.ino key.version up (λ code. h.frames.kept (key_of key.ino key.version code))
         (elim (h.frames.only key locked) [
           | inl is ↦
-              subst (λ (k : Key). (i : ℕ) (up : List ℕ) → way_of k.lbn ≡ i ∷ up
+              subst (λ (k : Key). (i : ℕ) (up : List ℕ) → way_of k.lbn.0 ≡ i ∷ up
               → HolderWaits old.cache k.ino k.version up) (sym is) holder i up way
           | inr was ↦ parents.holders key was i up way
         ]);
@@ -582,7 +582,7 @@ taken_within old new v codes records version has inside takes was n block f is c
     elim (takes (key_of n (version_of new n) (code_of block)) locked) [
       | inl one ↦
           let same : n ≡ v.number = ap (λ (k : Key). k.ino) one.2 in
-          let code : code_of block ≡ one.0 = ap (λ (k : Key). k.lbn) one.2 in
+          let code : code_of block ≡ one.0 = ap (λ (k : Key). k.lbn.0) one.2 in
           let file : fields_of v ≡ f = same_Some (fields_of v) f (sym has ∙ ap (record_of old) (sym same) ∙ is_old) in
           subst (λ (x : Fields). IsWithin block x.attributes.size) file
           (inside block can (subst (Contains codes) (sym code) one.1))

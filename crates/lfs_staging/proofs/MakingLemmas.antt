@@ -183,8 +183,8 @@ module _ (number : ℕ) (old new : Parts) (h : KeepsOthers number old new) where
             ≡ Some bytes) h.cache there) in
             let other = apart key bytes was in
             logged_kept old new key bytes was (other_present key.ino key.version other was.present)
-            (ap (λ t. address t (way_of key.lbn)) (other_tree key.ino other))
-            (ap (λ (m : SegmentMemory). block_at m (address (tree_of old key.ino) (way_of key.lbn))) h.memory);
+            (ap (λ t. address t (way_of key.lbn.0)) (other_tree key.ino other))
+            (ap (λ (m : SegmentMemory). block_at m (address (tree_of old key.ino) (way_of key.lbn.0))) h.memory);
       };
     }
 

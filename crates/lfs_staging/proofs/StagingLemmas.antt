@@ -94,7 +94,7 @@ module _ (old new : Parts) (number : ℕ) (block : FileBlock) (bytes : List ℕ)
         ∙ gains (key_of number (version_of old number) (code_at way))
         (key-apart (key_of number (version_of old number) (code_of block))
         (key_of number (version_of old number) (code_at way))
-        (λ e. other (sym (known_way_of way known) ∙ ap way_of (sym (ap (λ (k : Key). k.lbn) e))
+        (λ e. other (sym (known_way_of way known) ∙ ap way_of (sym (ap (λ (k : Key). k.lbn.0) e))
         ∙ way_of-code_of block can)));
     blocks = λ a. ap (λ (l : LogParts). block_at l.memory a) log;
   }

@@ -34,7 +34,7 @@ pub apart_number : (n m v w c d : ℕ) → m ≢ n → same_key (key_of n v c) (
 apart_number n m v w c d other = key-apart (key_of n v c) (key_of m w d) (λ e. other (sym (ap (λ (k : Key). k.ino) e)))
 
 pub apart_code : (n m v w c d : ℕ) → d ≢ c → same_key (key_of n v c) (key_of m w d) ≡ false
-apart_code n m v w c d other = key-apart (key_of n v c) (key_of m w d) (λ e. other (sym (ap (λ (k : Key). k.lbn) e)))
+apart_code n m v w c d other = key-apart (key_of n v c) (key_of m w d) (λ e. other (sym (ap (λ (k : Key). k.lbn.0) e)))
 
 -- a way is longer than what it leads through
 pub longer : (i : ℕ) (up : List ℕ) → up ≡ i ∷ up → ⊥

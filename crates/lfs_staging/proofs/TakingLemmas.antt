@@ -84,7 +84,7 @@ module _ (p : Parts) (number : ℕ) (staged : IsStaged p 0) (low : number < leng
       let none = empty f has_record.1 in
       let version : key.version ≡ version_of p number = (staged.whole.frames key locked).at_version
       ∙ ap (version_of p) is in
-      let at : (code : ℕ) → key.lbn ≡ code → IsLocked (key_of number (version_of p number) code) p.cache
+      let at : (code : ℕ) → key.lbn.0 ≡ code → IsLocked (key_of number (version_of p number) code) p.cache
       = λ code same. subst (λ k. IsLocked k p.cache) (λ i. key_of (is i) (version i) (same i)) locked in
       let code = staged.whole.coded key locked in
       let inside = staged.within number code.block f has_record.1 code.is (at (code_of code.block) (sym code.coded)) in
@@ -169,8 +169,8 @@ module _ (number : ℕ) (old new : Parts) (h : Forgets number old new) (low : nu
       (λ used. absurd (false≢true (sym h.unused ∙ used)))
       (λ f is. absurd (none-some f (sym no_record ∙ is)))
       present
-      (λ key bytes was is. was.somewhere (ap (λ n. address (tree_of old n) (way_of key.lbn)) is
-      ∙ none_addressed old number block (way_of key.lbn)))
+      (λ key bytes was is. was.somewhere (ap (λ n. address (tree_of old n) (way_of key.lbn.0)) is
+      ∙ none_addressed old number block (way_of key.lbn.0)))
 
   pub taken_staged : (at : ℕ → ℕ → ℕ) → ((c : ℕ) → at number c ≡ 0)
       → ((n c : ℕ) → n ≢ number → at n c ≡ (log_state old).at n c)

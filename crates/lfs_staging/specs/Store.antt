@@ -43,9 +43,9 @@ pub record IsPresent (p : Parts) (number version : ℕ) : Type 0 where
 -- A clean block that is held is what the log has for its key, a block of a number in use, which has an address.
 pub record IsLogged (p : Parts) (key : Key) (bytes : List ℕ) : Type 0 where
   pub present : IsPresent p key.ino key.version
-  pub coded : IsBlockCode key.lbn
-  pub somewhere : address (tree_of p key.ino) (way_of key.lbn) ≢ 0
-  pub same : bytes ≡ block_at p.log.memory (address (tree_of p key.ino) (way_of key.lbn))
+  pub coded : IsBlockCode key.lbn.0
+  pub somewhere : address (tree_of p key.ino) (way_of key.lbn.0) ≢ 0
+  pub same : bytes ≡ block_at p.log.memory (address (tree_of p key.ino) (way_of key.lbn.0))
 
 -- each clean block that is held is what the log has
 pub record Mirrors (p : Parts) : Type 0 where
@@ -72,7 +72,7 @@ pub record AreFiles (p : Parts) : Type 0 where
   pub files : (number : ℕ) (f : Fields) → record_of p number ≡ Some f → IsFile p number f
   pub records : All (λ (v : Inode). IsPresent p v.number v.version) p.waiting
   pub frames : (key : Key) → IsLocked key p.cache → IsPresent p key.ino key.version
-  pub coded : (key : Key) → IsLocked key p.cache → IsBlockCode key.lbn
+  pub coded : (key : Key) → IsLocked key p.cache → IsBlockCode key.lbn.0
   pub mirrors : Mirrors p
 
 -- The block at a way of a number waits, which holds addresses. The record, at the empty way, is asked elsewhere.
@@ -83,7 +83,7 @@ HolderWaits c number version (i ∷ up) = IsLocked (key_of number version (code_
 -- Where a block waits, its parents do: the record of its number, and the block that holds its address.
 pub record ParentsWait (p : Parts) : Type 0 where
   pub records : (key : Key) → IsLocked key p.cache → IsSome (waiting_in p.waiting key.ino)
-  pub holders : (key : Key) → IsLocked key p.cache → (i : ℕ) (up : List ℕ) → way_of key.lbn ≡ i ∷ up
+  pub holders : (key : Key) → IsLocked key p.cache → (i : ℕ) (up : List ℕ) → way_of key.lbn.0 ≡ i ∷ up
       → HolderWaits p.cache key.ino key.version up
 
 -- What holds between the calls of a store: of its files, of its log, which goes on with a summary, and of what waits.

@@ -43,7 +43,7 @@ record_of p number =
 
 -- the name of a block of a file in the cache
 abbrev pub key_of : ℕ → ℕ → ℕ → Key
-key_of number version code = record { ino = number; version = version; lbn = code }
+key_of number version code = record { ino = number; version = version; lbn = record { 0 = code } }
 
 -- A file of a number and a version whose record has these addresses. The LOCKED frames are the blocks that wait.
 abbrev pub tree_with : Parts → ℕ → ℕ → List ℕ → Tree

@@ -21,7 +21,7 @@ ghost use Rattle.lfs_staging.specs.declared.records.TheConstants.{WAITING_LIMIT}
 use crate::parts::{Parts, key_of};
 use lfs_bmap::blocks::FileBlock;
 use lfs_bmap::pieces::cut_piece;
-use lfs_cache::Key;
+use lfs_cache::{BlockCode, Key};
 use lfs_inodes::addresses::entry;
 use lfs_inodes::inode::Inode;
 use lfs_types::block::BLOCK_SIZE;
@@ -71,7 +71,7 @@ impl Parts {
         self.cache.forget(Key {
             ino: inode.number,
             version: inode.version,
-            lbn: block.code(),
+            lbn: BlockCode(block.code()),
         });
     }
 

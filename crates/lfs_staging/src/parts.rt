@@ -9,7 +9,7 @@ ghost use Rattle.lfs_staging.specs.View.{key_of, record_of, waiting_in};
 
 use crate::records::Records;
 use lfs_bmap::blocks::FileBlock;
-use lfs_cache::{Cache, Key};
+use lfs_cache::{BlockCode, Cache, Key};
 use lfs_inodes::inode::Inode;
 use lfs_log::Log;
 use lfs_log::packing::inode_in;
@@ -34,7 +34,7 @@ pub(crate) fn key_of(inode: &Inode, block: FileBlock) -> Key
     Key {
         ino: inode.number,
         version: inode.version,
-        lbn: block.code(),
+        lbn: BlockCode(block.code()),
     }
 }
 

@@ -18,7 +18,7 @@ ghost use Rattle.lfs_staging.specs.View.{LiesIn, blocks_of, record_of, tree_from
 use crate::parts::{Parts, key_of};
 use lfs_bmap::blocks::{Cell, FileBlock};
 use lfs_bmap::pieces::{blocks_touched, get_piece};
-use lfs_cache::Key;
+use lfs_cache::{BlockCode, Key};
 use lfs_inodes::addresses::{entry, root_address};
 use lfs_inodes::inode::Inode;
 use lfs_types::block::{Block, ZERO_BLOCK};
@@ -34,7 +34,7 @@ impl Parts {
         let key = Key {
             ino: inode.number,
             version: inode.version,
-            lbn: block.code(),
+            lbn: BlockCode(block.code()),
         };
         match self.cache.dirty(key) {
             Some(waiting) => waiting,

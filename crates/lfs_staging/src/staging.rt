@@ -19,7 +19,7 @@ ghost use Rattle.lfs_staging.specs.Waiting.{without};
 
 use crate::parts::{Parts, key_of};
 use lfs_bmap::blocks::FileBlock;
-use lfs_cache::Key;
+use lfs_cache::{BlockCode, Key};
 use lfs_inodes::inode::Inode;
 use lfs_types::block::Block;
 
@@ -46,7 +46,7 @@ impl Parts {
         let key = Key {
             ino: inode.number,
             version: inode.version,
-            lbn: block.code(),
+            lbn: BlockCode(block.code()),
         };
         self.cache.write(key, bytes);
     }

@@ -10,6 +10,6 @@ returns c =
     let key = c.args.key.now in
     let found = c.in-Some.ensures.found in
     let with_block : LogicalBlock → SummaryEntry = λ b. record { number = key.ino; version = key.version; block = b } in
-    let same : block_with key.lbn ≡ c.in-Some.block = ap block_with (sym found.1)
+    let same : block_with key.lbn.0 ≡ c.in-Some.block = ap block_with (sym found.1)
     ∙ block_with-code_of c.in-Some.block found.0 in
     ap with_block (c.logical.ensures ∙ ap logical_of (sym same))

@@ -15,7 +15,7 @@ loop-pass-init c = c.new-list.ensures ∙ sym (collected_none c.locked-keys.resu
 
 pub push_keys-requires-clause-coded : goal.push_keys-requires-clause-coded
 push_keys-requires-clause-coded c =
-    subst (All (λ (key : Key). IsBlockCode key.lbn)) (sym c.locked-keys.ensures.keys)
+    subst (All (λ (key : Key). IsBlockCode key.lbn.0)) (sym c.locked-keys.ensures.keys)
     (λ k d low. c.requires.files.coded _ (listed_waits c.args.parts.now.cache k d low))
 
 pub push_keys-requires-clause-room : goal.push_keys-requires-clause-room
