@@ -29,19 +29,15 @@ use Rattle.lfs_types.specs.declared.rule.Rule.TheVariants.{IsNoDirectory, IsEmpt
 use Rattle.lfs_types.specs.declared.rule.Rule.TheVariants.{IsMutable, IsNotAppendOnly, GrantsRead, GrantsWrite}
 use Rattle.lfs_types.specs.declared.rule.Rule.TheVariants.{PassesSticky, IsOwner, MaySetOwner, IsSuperuser, MaySetFlags}
 use Rattle.lfs_types.specs.declared.rule.Rule.TheVariants.{KeepsSystemLocks, MaySetLevel, FitsFile}
-use Rattle.lfs_model.specs.declared.journal.CleanerKind.{CleanerKind}
-use Rattle.lfs_model.specs.declared.journal.CleanerKind.TheVariants.{Ifile, Infos, Bmapv, Markv, Segclean}
 use Rattle.lfs_model.specs.declared.journal.CleanerOutcome.{CleanerOutcome}
 use Rattle.lfs_model.specs.declared.journal.CleanerOutcome.TheVariants as outcome
 use Rattle.lfs_print.specs.AnswerText.{answer_words, kind_word}
 use Rattle.lfs_print.specs.CleanerText.{outcome_words}
-use Rattle.lfs_print.specs.CleanerWords.{cleaner_word}
 use Rattle.lfs_words.proofs.ReadBack.{bytes_read_back, flags_read_back, long_read, mode_read, short_read}
 use Rattle.lfs_words.proofs.WordBytes.{bytes_word, decimal_word, flags_word, mode_word}
 use Rattle.lfs_words.specs.Wording.{is_word}
 use Rattle.lfs_journal_lines.proofs.BackNames.{names_back, names_words}
 use Rattle.lfs_journal_lines.specs.Answers.{answer_told, kind_named, octet_told, rule_named}
-use Rattle.lfs_journal_lines.specs.Asked.{kind_of}
 use Rattle.lfs_journal_lines.specs.Outcomes.{outcome_told}
 use Rattle.lfs_journal_lines.specs.Ranges.{AreAttrs, IsAnswer, IsKept, IsOutcome}
 
@@ -199,10 +195,3 @@ tells_outcome (outcome.Fault fault.NotDirty) is = record { words = refl; back = 
 tells_outcome (outcome.Fault (fault.Live bytes)) is =
     record { words = rw (short_word bytes is) refl; back = rw (short_read bytes is) refl }
 tells_outcome (outcome.Fault fault.NoSpace) is = record { words = refl; back = refl }
-
-pub kind_told_back : (kind : CleanerKind) → kind_of (cleaner_word kind) ≡ Some kind
-kind_told_back Ifile = refl
-kind_told_back Infos = refl
-kind_told_back Bmapv = refl
-kind_told_back Markv = refl
-kind_told_back Segclean = refl

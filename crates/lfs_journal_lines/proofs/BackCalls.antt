@@ -29,37 +29,38 @@ use Rattle.lfs_words.specs.Wording.{spaced}
 use Rattle.lfs_journal_lines.proofs.BackNames.{Spelled, spelled}
 use Rattle.lfs_journal_lines.proofs.BackWords.{AreField, IsOperand, bytes_operand, field_more, field_none}
 use Rattle.lfs_journal_lines.proofs.BackWords.{flags_operand, level_operand, long_operand, mode_operand, short_operand}
-use Rattle.lfs_journal_lines.specs.Asked.{or_old, path_told, paths_put, plain_word, request_told, with_path}
+use Rattle.lfs_journal_lines.specs.Asked.{asked_by, or_old, path_told, paths_put, plain_word, with_path}
 use Rattle.lfs_journal_lines.specs.Asked.{with_target}
 use Rattle.lfs_journal_lines.specs.Ranges.{IsRequest}
+use Rattle.lfs_journal_lines.specs.declared.asked.Asked.TheVariants.{User}
 
 -- the operands of a call are the words of a field, and are read as the call
 pub record Tells (request : Request) : Type 0 where
   pub words : AreField (operands request)
-  pub back : request_told (request_word (kind_of request)) (operands request) ≡ Ok request
+  pub back : asked_by (request_word (kind_of request)) (operands request) ≡ Ok (User request)
 
 -- a call whose plain line is that of another, in which its paths are then put
 tells_by : (request plain : Request) → kind_of plain ≡ kind_of request → map plain_word (operands request)
     ≡ operands plain → IsSaid plain
-    → paths_put (operands request) plain ≡ Ok request → request_told (request_word (kind_of request)) (operands request)
-    ≡ Ok request
+    → paths_put (operands request) plain ≡ Ok request → asked_by (request_word (kind_of request)) (operands request)
+    ≡ Ok (User request)
 tells_by request plain kind words said put =
     let line : line_said (request_word (kind_of request) ++ spaced (map plain_word (operands request)))
     ≡ Ok (says.Act (acts.User plain)) =
     rw (words, ← kind) (line_back plain said) in
-    rw line put
+    rw (line, put) refl
 
 -- ---- operands that are no paths
 
-abbrev AreOperands : List (List ℕ) → Type 0
+abbrev pub AreOperands : List (List ℕ) → Type 0
 AreOperands [] = Unit {0}
 AreOperands (word ∷ words) = IsOperand word × AreOperands words
 
-field_of : (words : List (List ℕ)) → AreOperands words → AreField words
+pub field_of : (words : List (List ℕ)) → AreOperands words → AreField words
 field_of [] are = field_none
 field_of (word ∷ words) are = field_more word words are.0.word_is are.0.bar (field_of words are.1)
 
-as_they_are : (words : List (List ℕ)) → AreOperands words → map plain_word words ≡ words
+pub as_they_are : (words : List (List ℕ)) → AreOperands words → map plain_word words ≡ words
 as_they_are [] are = refl
 as_they_are (word ∷ words) are = rw (are.0.plain, as_they_are words are.1) refl
 

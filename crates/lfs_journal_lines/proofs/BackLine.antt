@@ -11,18 +11,17 @@ use Rattle.std.specs.List.{flat_map, list_all, list_any, position_or_len}
 use Rattle.std.specs.Str.{bytes_eq}
 use Rattle.std.proofs.lemmas.Bool.{and_parts, cases_Bool, lt-ltb}
 use Rattle.std.proofs.lemmas.Fmt.{decimal_is_IsNumeral}
-use Rattle.std.proofs.lemmas.List.{append-nil}
 use Rattle.std.proofs.lemmas.List.Concat.{flat_map-append}
 use Rattle.std.proofs.lemmas.List.Folds.{list_all-append}
 use Rattle.std.proofs.lemmas.Slice.Eq.{bytes_eq-Decides}
 use Rattle.lfs_types.specs.Caller.{Caller}
-use Rattle.lfs_model.specs.declared.journal.CleanerKind.{CleanerKind}
-use Rattle.lfs_model.specs.declared.journal.CleanerKind.TheVariants.{Ifile, Infos, Bmapv, Markv, Segclean}
 use Rattle.lfs_model.specs.declared.journal.Entry.{Entry}
 use Rattle.lfs_model.specs.declared.journal.Event.{Event}
 use Rattle.lfs_model.specs.declared.journal.Event.TheVariants.{User, Cleaner}
+use Rattle.lfs_model.specs.Cleaning.{kind_of as cleaner_kind}
 use Rattle.lfs_print.specs.CleanerWords.{cleaner_word}
 use Rattle.lfs_script.proofs.SpellingLemmas.{is_verb, line_printable, words_split}
+use Rattle.lfs_script.specs.CleanerSpelling.{handed_in}
 use Rattle.lfs_script.specs.Spelling.{kind_of, operands}
 use Rattle.lfs_script.specs.Verbs.{request_word}
 use Rattle.lfs_script.specs.declared.verb.RequestKind.{RequestKind}
@@ -32,8 +31,9 @@ use Rattle.lfs_words.proofs.WordBytes.{decimal_word, word_there}
 use Rattle.lfs_words.specs.CallerText.{AreShort, caller_words, groups_text, marked_words}
 use Rattle.lfs_words.specs.Callers.{decimals_fault, groups_of}
 use Rattle.lfs_words.specs.Wording.{is_bare, is_word, is_word_byte, spaced}
-use Rattle.lfs_journal_lines.proofs.BackAnswers.{kind_told_back, octet_back, tells_answer, tells_outcome}
+use Rattle.lfs_journal_lines.proofs.BackAnswers.{octet_back, tells_answer, tells_outcome}
 use Rattle.lfs_journal_lines.proofs.BackCalls.{tells}
+use Rattle.lfs_journal_lines.proofs.BackCleaning.{tells_act}
 use Rattle.lfs_journal_lines.proofs.BackWords.{AreField, field_more, field_none, long_operand}
 use Rattle.lfs_journal_lines.specs.Asked.{asked_told}
 use Rattle.lfs_journal_lines.specs.EntryText.{asked_text, came_words, entry_text}
@@ -111,42 +111,32 @@ who_back session cred lt is =
 
 abbrev asked_first : Event → List ℕ
 asked_first (User request answer) = request_word (kind_of request)
-asked_first (Cleaner kind came) = codes "cleaner"
+asked_first (Cleaner act came) = cleaner_word (cleaner_kind act)
 
 abbrev asked_rest : Event → List (List ℕ)
 asked_rest (User request answer) = operands request
-asked_rest (Cleaner kind came) = cleaner_word kind ∷ []
+asked_rest (Cleaner act came) = handed_in act
 
 abbrev asked_of : Event → Asked
 asked_of (User request answer) = asked.User request
-asked_of (Cleaner kind came) = asked.Cleaner kind
+asked_of (Cleaner act came) = asked.Cleaner act
 
-abbrev IsVerbAlone : RequestKind → Type 0
-IsVerbAlone k = (bytes_eq (request_word k) (codes "cleaner") ≡ false) × (is_bar (request_word k) ≡ false)
-
-verb_alone : (k : RequestKind) → IsVerbAlone k
-verb_alone kind.Stat = (refl, refl)
-verb_alone kind.Read = (refl, refl)
-verb_alone kind.Write = (refl, refl)
-verb_alone kind.List = (refl, refl)
-verb_alone kind.SetLength = (refl, refl)
-verb_alone kind.Create = (refl, refl)
-verb_alone kind.Mkdir = (refl, refl)
-verb_alone kind.Unlink = (refl, refl)
-verb_alone kind.Rmdir = (refl, refl)
-verb_alone kind.Rename = (refl, refl)
-verb_alone kind.Chmod = (refl, refl)
-verb_alone kind.Chown = (refl, refl)
-verb_alone kind.Chflags = (refl, refl)
-verb_alone kind.SetLevel = (refl, refl)
-verb_alone kind.Sync = (refl, refl)
-
-kind_field : (k : CleanerKind) → AreField (codes "cleaner" ∷ cleaner_word k ∷ [])
-kind_field Ifile = record { word = refl; bars = refl }
-kind_field Infos = record { word = refl; bars = refl }
-kind_field Bmapv = record { word = refl; bars = refl }
-kind_field Markv = record { word = refl; bars = refl }
-kind_field Segclean = record { word = refl; bars = refl }
+verb_bar : (k : RequestKind) → is_bar (request_word k) ≡ false
+verb_bar kind.Stat = refl
+verb_bar kind.Read = refl
+verb_bar kind.Write = refl
+verb_bar kind.List = refl
+verb_bar kind.SetLength = refl
+verb_bar kind.Create = refl
+verb_bar kind.Mkdir = refl
+verb_bar kind.Unlink = refl
+verb_bar kind.Rmdir = refl
+verb_bar kind.Rename = refl
+verb_bar kind.Chmod = refl
+verb_bar kind.Chown = refl
+verb_bar kind.Chflags = refl
+verb_bar kind.SetLevel = refl
+verb_bar kind.Sync = refl
 
 -- the words of an event may stand in a line, and are read as it
 record TellsEvent (event : Event) : Type 0 where
@@ -159,22 +149,17 @@ tells_event : (event : Event) → IsEvent event → IsTold event → TellsEvent 
 tells_event (User request answer) is told =
     let call = tells request is.0 in
     let came = tells_answer answer is.1 told in
-    let verb = verb_alone (kind_of request) in
     record {
       call = field_more (request_word (kind_of request)) (operands request)
-          (is_verb (kind_of request)).word verb.1 call.words;
-      call_back = rw (verb.0, call.back) refl;
+          (is_verb (kind_of request)).word (verb_bar (kind_of request)) call.words;
+      call_back = call.back;
       came = came.words;
       came_back = rw came.back refl;
     }
-tells_event (Cleaner kind outcome) is told =
-    let came = tells_outcome outcome is in
-    record {
-      call = kind_field kind;
-      call_back = rw (kind_told_back kind) refl;
-      came = came.words;
-      came_back = rw came.back refl;
-    }
+tells_event (Cleaner act outcome) is told =
+    let call = tells_act act is.0 in
+    let came = tells_outcome outcome is.1 in
+    record { call = call.words; call_back = call.back; came = came.words; came_back = rw came.back refl }
 
 -- ---- the line
 
@@ -241,7 +226,7 @@ joined session who first rest came =
 
 asked_words : (event : Event) → asked_text event ≡ asked_first event ++ spaced (asked_rest event)
 asked_words (User request answer) = refl
-asked_words (Cleaner kind came) = rw append-nil refl
+asked_words (Cleaner act came) = refl
 
 all_words : (who call came : List (List ℕ)) → list_all is_word who ≡ true → list_all is_word call ≡ true
     → list_all is_word came ≡ true

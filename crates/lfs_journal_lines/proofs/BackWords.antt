@@ -57,7 +57,7 @@ pub record IsOperand (word : List ℕ) : Type 0 where
   pub bar : is_bar word ≡ false
   pub plain : is_escaped word ≡ false
 
-no_percent : (c : ℕ) → digit_value c < 36 → (c == 37) ≡ false
+pub no_percent : (c : ℕ) → digit_value c < 36 → (c == 37) ≡ false
 no_percent c h = search (rules, tests)
 
 digits_plain : (cs : List ℕ) → AllDigits 10 cs → is_escaped cs ≡ false

@@ -1,5 +1,6 @@
 pub mod BackAnswers
 pub mod BackCalls
+pub mod BackCleaning
 pub mod BackLine
 pub mod BackNames
 pub mod BackWords

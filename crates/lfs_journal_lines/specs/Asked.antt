@@ -1,20 +1,17 @@
 -- What was asked, read back.
-use Rattle.std.specs.Prelude.{ℕ, ◌==◌, Bool, false, List, [], ◌∷◌, ◌++◌, codes, drop, find, map, Option, None, Some}
-use Rattle.std.specs.Prelude.{Result, Ok, Err, if◌then◌else◌}
-use Rattle.std.specs.Str.{bytes_eq}
+use Rattle.std.specs.Prelude.{ℕ, ◌==◌, Bool, false, List, [], ◌∷◌, ◌++◌, codes, drop, map, Option, None, Some, Result}
+use Rattle.std.specs.Prelude.{Ok, Err, if◌then◌else◌}
 use Rattle.lfs_types.specs.declared.request.Request.{Request}
 use Rattle.lfs_types.specs.declared.request.Request.TheVariants.{Stat, Read, Write, List as Names, SetLength, Create}
 use Rattle.lfs_types.specs.declared.request.Request.TheVariants.{Mkdir, Unlink, Rmdir, Rename, Chmod, Chown, Chflags}
 use Rattle.lfs_types.specs.declared.request.Request.TheVariants.{SetLevel, Sync}
-use Rattle.lfs_model.specs.declared.journal.CleanerKind.{CleanerKind}
-use Rattle.lfs_model.specs.declared.journal.CleanerKind.TheVariants.{Ifile, Infos, Bmapv, Markv, Segclean}
-use Rattle.lfs_print.specs.CleanerWords.{cleaner_word}
+use Rattle.lfs_model.specs.Runs.{act_of}
 use Rattle.lfs_script.specs.Plans.{line_said}
 use Rattle.lfs_script.specs.declared.plan.Act.TheVariants as acts
 use Rattle.lfs_script.specs.declared.plan.Line.{Line}
 use Rattle.lfs_script.specs.declared.plan.Line.TheVariants as says
 use Rattle.lfs_words.specs.Faults.{◌>>=◌}
-use Rattle.lfs_words.specs.Wording.{one_word, spaced}
+use Rattle.lfs_words.specs.Wording.{spaced}
 use Rattle.lfs_words.specs.declared.fault.FaultKind.{FaultKind}
 use Rattle.lfs_words.specs.declared.fault.FaultKind.TheVariants.{Words}
 use Rattle.lfs_journal_lines.specs.Escapes.{escaped_path}
@@ -25,19 +22,6 @@ use Rattle.lfs_journal_lines.specs.declared.asked.Asked.TheVariants.{User, Clean
 abbrev pub or_words : {X : Type 0} → Option X → Result X FaultKind
 or_words None = Err Words
 or_words (Some x) = Ok x
-
-abbrev pub kinds : List CleanerKind
-kinds = Ifile ∷ Infos ∷ Bmapv ∷ Markv ∷ Segclean ∷ []
-
--- the call of the cleaner that a word names
-abbrev pub kind_of : List ℕ → Option CleanerKind
-kind_of word = find (λ kind. bytes_eq (cleaner_word kind) word) kinds
-
--- the call of the cleaner that a lone word names
-abbrev pub kind_told : List (List ℕ) → Result CleanerKind FaultKind
-kind_told words = do
-  word ← one_word words
-  or_words (kind_of word)
 
 -- whether a word is a path that no script can spell
 abbrev pub is_escaped : List ℕ → Bool
@@ -51,11 +35,6 @@ plain_word word = if is_escaped word then codes "/" else word
 -- a call as a line of a script
 abbrev pub plain_line : List ℕ → List (List ℕ) → List ℕ
 plain_line verb operands = verb ++ spaced (map plain_word operands)
-
--- the user's call that a line of a script says
-abbrev pub call_in : Line → Result Request FaultKind
-call_in (says.Act (acts.User request)) = Ok request
-call_in line = Err Words
 
 -- the path that a word tells and no script can spell
 abbrev pub path_told : List ℕ → Result (Option (List (List ℕ))) FaultKind
@@ -96,16 +75,17 @@ paths_put (word ∷ []) request = path_told word >>= (λ path. Ok (with_path pat
 paths_put (word ∷ other ∷ more) request =
     path_told word >>= (λ path. path_told other >>= (λ target. Ok (with_target target (with_path path request))))
 
--- the user's call that a verb and its operands tell
-abbrev pub request_told : List ℕ → List (List ℕ) → Result Request FaultKind
-request_told verb operands = do
-  line ← line_said (plain_line verb operands)
-  request ← call_in line
-  paths_put operands request
+-- what a line of a script asks, a user's call with the paths among its operands that no script can spell
+abbrev pub asked_in : List (List ℕ) → Line → Result Asked FaultKind
+asked_in operands (says.Act (acts.User request)) = paths_put operands request >>= (λ call. Ok (User call))
+asked_in operands (says.Act (acts.Cleaner call)) = Ok (Cleaner (act_of call))
+asked_in operands line = Err Words
+
+-- what a verb and its operands ask, as a line of a script
+abbrev pub asked_by : List ℕ → List (List ℕ) → Result Asked FaultKind
+asked_by verb operands = line_said (plain_line verb operands) >>= asked_in operands
 
 -- what words tell that was asked
 abbrev pub asked_told : List (List ℕ) → Result Asked FaultKind
 asked_told [] = Err Words
-asked_told (first ∷ words) =
-    if bytes_eq first (codes "cleaner") then (kind_told words >>= (λ kind. Ok (Cleaner kind)))
-    else (request_told first words >>= (λ request. Ok (User request)))
+asked_told (verb ∷ operands) = asked_by verb operands

@@ -6,20 +6,20 @@ use Rattle.lfs_model.specs.declared.journal.Event.{Event}
 use Rattle.lfs_model.specs.declared.journal.Event.TheVariants.{User, Cleaner}
 use Rattle.lfs_print.specs.AnswerText.{answer_words}
 use Rattle.lfs_print.specs.CleanerText.{outcome_words}
-use Rattle.lfs_print.specs.CleanerWords.{cleaner_word}
+use Rattle.lfs_script.specs.CleanerSpelling.{act_line}
 use Rattle.lfs_script.specs.Spelling.{request_line}
 use Rattle.lfs_words.specs.CallerText.{caller_words}
 use Rattle.lfs_words.specs.Wording.{spaced}
 
--- what was asked: a user's call as a line of a script, or which call of the cleaner
+-- what was asked: a call of a user or of the cleaner as a line of a script
 abbrev pub asked_text : Event → List ℕ
 asked_text (User request answer) = request_line request
-asked_text (Cleaner kind outcome) = codes "cleaner" ++ 32 ∷ cleaner_word kind
+asked_text (Cleaner act outcome) = act_line act
 
 -- what was answered
 abbrev pub came_words : Event → List (List ℕ)
 came_words (User request answer) = answer_words answer
-came_words (Cleaner kind outcome) = outcome_words outcome
+came_words (Cleaner act outcome) = outcome_words outcome
 
 -- who called: the session, and the credential as a script has it
 abbrev pub who_text : Entry → List ℕ

@@ -18,11 +18,14 @@ use Rattle.lfs_types.specs.declared.request.Request.{Request}
 use Rattle.lfs_types.specs.declared.request.Request.TheVariants.{Stat, Read, Write, List as Names, SetLength, Create}
 use Rattle.lfs_types.specs.declared.request.Request.TheVariants.{Mkdir, Unlink, Rmdir, Rename, Chmod, Chown, Chflags}
 use Rattle.lfs_types.specs.declared.request.Request.TheVariants.{SetLevel, Sync}
+use Rattle.lfs_model.specs.declared.asking.CleanerAct.{CleanerAct}
+use Rattle.lfs_model.specs.declared.asking.CleanerAct.TheVariants as acts
 use Rattle.lfs_model.specs.declared.journal.CleanerOutcome.{CleanerOutcome}
 use Rattle.lfs_model.specs.declared.journal.CleanerOutcome.TheVariants as outcome
 use Rattle.lfs_model.specs.declared.journal.Event.{Event}
 use Rattle.lfs_model.specs.declared.journal.Event.TheVariants.{User, Cleaner}
 use Rattle.lfs_words.specs.CallerText.{AreShort}
+use Rattle.lfs_words.specs.Infos.{IsShortInfo}
 
 abbrev pub AreBytes : List ℕ → Type 0
 AreBytes bytes = (k : ℕ) → slice_index bytes k < 256
@@ -87,6 +90,14 @@ IsAnswer (Shows shown) = IsShown shown
 IsAnswer (Denied denial) = (denial.path < 256) × (denial.at < 2 ^ 32)
 IsAnswer (Refused resource) = Unit {0}
 
+-- the segment or the infos of a call of the cleaner are in their ranges
+abbrev pub IsAct : CleanerAct → Type 0
+IsAct acts.Ifile = Unit {0}
+IsAct (acts.Infos segment) = segment < 2 ^ 32
+IsAct (acts.Bmapv infos) = All IsShortInfo infos × (length infos ≤ 248)
+IsAct (acts.Markv marks) = All IsShortInfo marks × (length marks ≤ 8)
+IsAct (acts.Segclean segment) = segment < 2 ^ 32
+
 abbrev pub IsOutcome : CleanerOutcome → Type 0
 IsOutcome (outcome.Done number) = number < 2 ^ 32
 IsOutcome (outcome.Fault (Live bytes)) = bytes < 2 ^ 32
@@ -95,7 +106,7 @@ IsOutcome came = Unit {0}
 -- what an event asks and tells is in its ranges
 abbrev pub IsEvent : Event → Type 0
 IsEvent (User request answer) = IsRequest request × IsAnswer answer
-IsEvent (Cleaner kind came) = IsOutcome came
+IsEvent (Cleaner act came) = IsAct act × IsOutcome came
 
 -- a user, 1 to 16 groups, and init for the superuser alone
 pub record IsCaller (cred : Caller) : Type 0 where
@@ -118,4 +129,4 @@ IsKept answer = Unit {0}
 -- an event that a line tells
 abbrev pub IsTold : Event → Type 0
 IsTold (User request answer) = IsKept answer
-IsTold (Cleaner kind came) = Unit {0}
+IsTold (Cleaner act came) = Unit {0}

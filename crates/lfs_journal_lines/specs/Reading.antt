@@ -54,9 +54,9 @@ abbrev pub event_told : Asked → List (List ℕ) → Result Event FaultKind
 event_told (User request) words = do
   answer ← answer_told words
   Ok (event.User request answer)
-event_told (Cleaner kind) words = do
+event_told (Cleaner act) words = do
   outcome ← outcome_told words
-  Ok (event.Cleaner kind outcome)
+  Ok (event.Cleaner act outcome)
 
 -- what is read of a field, or its fault
 abbrev pub in_field : {A : Type 0} → Field → Result A FaultKind → Result A LineFault

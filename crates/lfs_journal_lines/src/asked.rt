@@ -3,37 +3,26 @@
 ghost use Rattle.std.specs.Prelude.{◌≡◌, ◌++◌, ◌∷◌, map, IfOk, OnOk};
 ghost use Rattle.lfs_words.specs.Faults.{ReadsAs};
 ghost use Rattle.lfs_words.specs.Wording.{spaced};
-ghost use Rattle.lfs_journal_lines.specs.Asked.{asked_told, call_in, is_escaped, kind_of, kind_told, path_told, paths_put, plain_line, plain_word, request_told, with_path, with_target};
+ghost use Rattle.lfs_journal_lines.specs.Asked.{asked_by, asked_in, asked_told, is_escaped, path_told, paths_put, plain_line, plain_word, with_path, with_target};
 
 use crate::escapes::escaped_path;
-use lfs_model::journal::CleanerKind;
-use lfs_print::cleaner::cleaner_word;
+use lfs_model::asking::CleanerAct;
 use lfs_script::plan::{Act, Line};
 use lfs_script::script::parse_line;
 use lfs_types::path::Path;
 use lfs_types::request::Request;
 use lfs_words::append::push_word;
 use lfs_words::fault::FaultKind;
-use lfs_words::words::one_word;
 use std::alloc::{AllocError, Global};
 
-/// What was asked: a user's call, or a call of the cleaner.
+/// What was asked.
 #[derive(Drop)]
 pub(crate) enum Asked {
     /// A user's call.
     User(Request),
-    /// Which call of the cleaner.
-    Cleaner(CleanerKind),
+    /// A call of the cleaner.
+    Cleaner(CleanerAct),
 }
-
-/// The calls of the cleaner.
-const KINDS: [CleanerKind; 5] = [
-    CleanerKind::Ifile,
-    CleanerKind::Infos,
-    CleanerKind::Bmapv,
-    CleanerKind::Markv,
-    CleanerKind::Segclean,
-];
 
 /// What words tell that was asked.
 pub(crate) fn asked_told(alloc: Global, words: &[&str]) -> Result<Asked, FaultKind>
@@ -41,43 +30,29 @@ pub(crate) fn asked_told(alloc: Global, words: &[&str]) -> Result<Asked, FaultKi
 {
     match words {
         [] => Err(FaultKind::Words),
-        [first, rest @ ..] => {
-            if *first == "cleaner" {
-                Ok(Asked::Cleaner(kind_told(rest)?))
-            } else {
-                Ok(Asked::User(request_told(alloc, first, rest)?))
-            }
-        }
+        [verb, operands @ ..] => asked_by(alloc, verb, operands),
     }
 }
 
-/// The call of the cleaner that a lone word names.
-fn kind_told(words: &[&str]) -> Result<CleanerKind, FaultKind>
-    ensures { result ≡ kind_told (map (λ x. x.now) words.now) }
-{
-    let word = one_word(words)?;
-    kind_of(word).ok_or(FaultKind::Words)
-}
-
-/// The call of the cleaner that a word names.
-fn kind_of(word: &str) -> Option<CleanerKind>
-    ensures { result ≡ kind_of word.now }
-{
-    KINDS
-        .iter()
-        .copied()
-        .find(|kind| cleaner_word(*kind) == word)
-}
-
-/// The user's call that a verb and its operands tell: a line of a script, in which a path that no script can spell stands
-/// as the root, and then is put in its place.
-fn request_told(alloc: Global, verb: &str, operands: &[&str]) -> Result<Request, FaultKind>
-    ensures { ReadsAs (request_told verb.now (map (λ x. x.now) operands.now)) result }
+/// What a verb and its operands ask: a line of a script, in which a path that no script can spell stands as the root,
+/// and then is put in its place.
+fn asked_by(alloc: Global, verb: &str, operands: &[&str]) -> Result<Asked, FaultKind>
+    ensures { ReadsAs (asked_by verb.now (map (λ x. x.now) operands.now)) result }
 {
     let text = plain_line(alloc, verb, operands)?;
     let line = parse_line(alloc, text.as_slice())?;
-    let request = call_in(line)?;
-    paths_put(alloc, operands, request)
+    asked_in(alloc, operands, line)
+}
+
+/// What a line of a script asks, a user's call with the paths that no script can spell.
+fn asked_in(alloc: Global, operands: &[&str], line: Line) -> Result<Asked, FaultKind>
+    ensures { ReadsAs (asked_in (map (λ x. x.now) operands.now) line) result }
+{
+    match line {
+        Line::Act(Act::User(request)) => Ok(Asked::User(paths_put(alloc, operands, request)?)),
+        Line::Act(Act::Cleaner(held)) => Ok(Asked::Cleaner(CleanerAct::of(alloc, held.call())?)),
+        _ => Err(FaultKind::Words),
+    }
 }
 
 /// A call as a line of a script.
@@ -105,16 +80,6 @@ fn is_escaped(word: &str) -> bool
     match word.as_bytes() {
         [first, ..] => *first == b'%',
         [] => false,
-    }
-}
-
-/// The user's call that a line of a script says.
-fn call_in(line: Line) -> Result<Request, FaultKind>
-    ensures { result ≡ call_in line }
-{
-    match line {
-        Line::Act(Act::User(request)) => Ok(request),
-        _ => Err(FaultKind::Words),
     }
 }
 

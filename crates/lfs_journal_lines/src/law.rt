@@ -3,14 +3,16 @@
 ghost use Rattle.std.specs.Prelude.{◌≡◌, ◌^◌, ◌<◌, Ok};
 ghost use Rattle.std.specs.List.{All};
 ghost use Rattle.lfs_words.specs.CallerText.{AreShort};
+ghost use Rattle.lfs_words.specs.Infos.{IsShortInfo};
 ghost use Rattle.lfs_journal_lines.specs.EntryText.{entry_text};
-ghost use Rattle.lfs_journal_lines.specs.Ranges.{AreAttrs, AreBytes, AreFlags, IsAnswer, IsCaller, IsEvent, IsName, IsOutcome, IsPath, IsPayload, IsPlace, IsRequest, IsShown, IsTold};
+ghost use Rattle.lfs_journal_lines.specs.Ranges.{AreAttrs, AreBytes, AreFlags, IsAct, IsAnswer, IsCaller, IsEvent, IsName, IsOutcome, IsPath, IsPayload, IsPlace, IsRequest, IsShown, IsTold};
 ghost use Rattle.lfs_journal_lines.specs.Reading.{entry_told};
 
+use lfs_model::asking::CleanerAct;
 use lfs_model::journal::{CleanerOutcome, Entry, Event};
 use lfs_types::answer::{Answer, Served};
 use lfs_types::attrs::Attrs;
-use lfs_types::cleaner::CleanFault;
+use lfs_types::cleaner::{BlockInfo, CleanFault};
 use lfs_types::cred::Cred;
 use lfs_types::file_flags::FileFlags;
 use lfs_types::mode::Mode;
@@ -53,7 +55,10 @@ fn walk_event(event: &Event)
             walk_request(request);
             walk_answer(answer);
         }
-        Event::Cleaner(_, outcome) => walk_outcome(*outcome),
+        Event::Cleaner(act, outcome) => {
+            walk_act(act);
+            walk_outcome(*outcome);
+        }
     }
 }
 
@@ -204,6 +209,37 @@ fn walk_attrs(attrs: &Attrs)
     let _size = attrs.size;
     walk_mode(attrs.mode);
     walk_flags(attrs.flags);
+}
+
+/// The segment or the infos of a call of the cleaner are in their ranges.
+fn walk_act(act: &CleanerAct)
+    ensures { IsAct act.now }
+{
+    match act {
+        CleanerAct::Ifile => (),
+        CleanerAct::Infos(segment) | CleanerAct::Segclean(segment) => {
+            let _segment = *segment;
+        }
+        CleanerAct::Bmapv(infos) => walk_infos(infos.items()),
+        CleanerAct::Markv(marks) => walk_infos(marks.items()),
+    }
+}
+
+/// Infos are in their ranges.
+fn walk_infos(infos: &[BlockInfo])
+    ensures { All IsShortInfo infos.now }
+{
+    for info in infos {
+        walk_info(*info);
+    }
+}
+
+/// Each part of an info is below 2^32.
+fn walk_info(info: BlockInfo)
+    ensures { IsShortInfo info }
+{
+    let _number = (info.ino, info.version);
+    let _place = (info.lbn, info.addr);
 }
 
 /// What came of a call of the cleaner is in its range.

@@ -122,6 +122,6 @@ fn event_told(alloc: Global, asked: Asked, words: &[&str]) -> Result<Event, Faul
 {
     match asked {
         Asked::User(request) => Ok(Event::User(request, answer_told(alloc, words)?)),
-        Asked::Cleaner(kind) => Ok(Event::Cleaner(kind, outcome_told(words)?)),
+        Asked::Cleaner(act) => Ok(Event::Cleaner(act, outcome_told(words)?)),
     }
 }

@@ -5,8 +5,8 @@ ghost use Rattle.lfs_words.specs.Wording.{spaced};
 ghost use Rattle.lfs_journal_lines.specs.EntryText.{asked_text, came_words, entries_text, entry_line, who_text};
 
 use lfs_model::journal::{Entry, Event};
-use lfs_print::cleaner::cleaner_word;
 use lfs_print::print::{push_answer, push_outcome};
+use lfs_script::cleaner_spelling::push_act;
 use lfs_script::spelling::push_request;
 use lfs_words::append::{push_decimal, push_word};
 use lfs_words::caller::spell_caller;
@@ -23,7 +23,8 @@ pub fn push_entries(out: &mut Vec<u8>, entries: &[Entry]) -> Result<(), AllocErr
 }
 
 /// Appends the line of an entry: the session and the credential, what was asked, and what was answered, with ` | ` between.
-/// A user's call is a line of a script, which says this call where a script can spell its paths (`push_request`).
+/// The call is a line of a script, which says this call, a user's where a script can spell its paths (`push_request`,
+/// `push_act`).
 pub fn push_entry(out: &mut Vec<u8>, entry: &Entry) -> Result<(), AllocError>
     ensures { OnOk result (out.new.items ≡ out.old.items ++ entry_line entry.now) }
 {
@@ -51,10 +52,7 @@ fn push_asked(out: &mut Vec<u8>, event: &Event) -> Result<(), AllocError>
 {
     match event {
         Event::User(request, _) => push_request(out, request),
-        Event::Cleaner(kind, _) => {
-            out.extend_from_slice(b"cleaner")?;
-            push_word(out, cleaner_word(*kind))
-        }
+        Event::Cleaner(act, _) => push_act(out, act),
     }
 }
 

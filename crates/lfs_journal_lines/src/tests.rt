@@ -5,9 +5,10 @@ use crate::law::reads_back;
 use crate::numbering::{finds_line, unnumbered};
 use crate::reading::read_entry;
 use crate::telling::push_entries;
-use lfs_model::journal::{CleanerKind, CleanerOutcome, Entry, Event};
+use lfs_model::asking::CleanerAct;
+use lfs_model::journal::{CleanerOutcome, Entry, Event};
 use lfs_types::answer::{Answer, Resource, Served};
-use lfs_types::cleaner::CleanFault;
+use lfs_types::cleaner::{BlockInfo, CleanFault, CleanerCall, MarkList};
 use lfs_types::cred::Cred;
 use lfs_types::name::BadName;
 use lfs_types::path::{BadPath, Path};
@@ -42,14 +43,15 @@ const LINES: &[u8] = b"\
 0 as 0 0 | chflags %/a%20b 00070007 | ok
 0 as 0 0 | level -1 | denied L3 EPERM 0 0
 0 as 0 0 | sync | ok
-255 as 0 0 | cleaner ifile | ok 252
-255 as 7 7 | cleaner infos | denied
-255 as 0 0 | cleaner bmapv | ok 0
-255 as 0 0 | cleaner markv | fault NoSpace
-255 as 0 0 | cleaner infos | fault NoSuchSegment
-255 as 0 0 | cleaner infos | fault Active
-255 as 0 0 | cleaner segclean | fault NotDirty
-255 as 0 0 | cleaner segclean | fault Live 512
+255 as 0 0 | ifile | ok 252
+255 as 7 7 | infos 0 | denied
+255 as 0 0 | bmapv | ok 0
+255 as 0 0 | bmapv 4:1:0:512 5:2:4294967295:4294967295 | ok 2
+255 as 0 0 | markv 4:1:2147483648:512 | fault NoSpace
+255 as 0 0 | infos 4294967295 | fault NoSuchSegment
+255 as 0 0 | infos 3 | fault Active
+255 as 0 0 | segclean 12 | fault NotDirty
+255 as 0 0 | segclean 0 | fault Live 512
 ";
 
 /// Asserts that what was found is what is wanted.
@@ -126,17 +128,41 @@ fn numbers_by_hand(rt: HostRuntime) {
     );
 }
 
+/// The call of the cleaner, session 255, with what came of it.
+fn cleaning(rt: &impl Abort, act: CleanerAct, outcome: CleanerOutcome) -> Entry {
+    Entry {
+        session: 255,
+        cred: Cred::new(0, &[0], false).expect(rt, "a credential"),
+        event: Event::Cleaner(act, outcome),
+    }
+}
+
+/// Blocks that are to be written again: block 2 of file 4, and the inode of file 5.
+const MARKS: [BlockInfo; 2] = [
+    BlockInfo {
+        ino: 4,
+        version: 1,
+        lbn: 2,
+        addr: 70,
+    },
+    BlockInfo {
+        ino: 5,
+        version: 3,
+        lbn: 4_294_967_295,
+        addr: 71,
+    },
+];
+
 #[test]
 fn cleaner_by_hand(rt: HostRuntime) {
-    let entry = Entry {
-        session: 255,
-        cred: Cred::new(0, &[0], false).expect(&rt, "a credential"),
-        event: Event::Cleaner(
-            CleanerKind::Segclean,
-            CleanerOutcome::Fault(CleanFault::Live(512)),
-        ),
-    };
-    let line = b"255 as 0 0 | cleaner segclean | fault Live 512";
+    let live = CleanerOutcome::Fault(CleanFault::Live(512));
+    let entry = cleaning(&rt, CleanerAct::Segclean(12), live);
+    let line = b"255 as 0 0 | segclean 12 | fault Live 512";
+    expect_eq(&rt, read_entry(rt.alloc(), line), Ok(entry));
+    let marks = CleanerCall::Markv(MarkList::new(&MARKS).expect(&rt, "two infos"));
+    let act = CleanerAct::of(rt.alloc(), &marks).expect(&rt, "memory");
+    let entry = cleaning(&rt, act, CleanerOutcome::Done(2));
+    let line = b"255 as 0 0 | markv 4:1:2:70 5:3:4294967295:71 | ok 2";
     expect_eq(&rt, read_entry(rt.alloc(), line), Ok(entry));
 }
 
@@ -216,14 +242,7 @@ fn faults_of_the_call(rt: HostRuntime) {
     expect_fault(
         &rt,
         rt.alloc(),
-        b"0 as 0 0 | ifile | ok 252",
-        field,
-        FaultKind::Words,
-    );
-    expect_fault(
-        &rt,
-        rt.alloc(),
-        b"0 as 0 0 | cleaner sync | ok",
+        b"0 as 0 0 | pass | ok",
         field,
         FaultKind::Words,
     );
@@ -248,6 +267,25 @@ fn faults_of_the_call(rt: HostRuntime) {
         field,
         FaultKind::Path(BadPath::NotAbsolute),
     );
+}
+
+#[test]
+fn faults_of_a_cleaners_call(rt: HostRuntime) {
+    let field = Field::Call;
+    let lines: [(&[u8], FaultKind); 6] = [
+        (b"0 as 0 0 | cleaner ifile | ok 252", FaultKind::Words),
+        (b"0 as 0 0 | segclean | ok 0", FaultKind::Words),
+        (b"0 as 0 0 | segclean 0 1 | ok 0", FaultKind::Words),
+        (b"0 as 0 0 | infos %/0 | ok 1", FaultKind::Number),
+        (b"0 as 0 0 | bmapv 4:1:0 | ok 1", FaultKind::Number),
+        (
+            b"0 as 0 0 | markv 4:1:0:4294967296 | ok 1",
+            FaultKind::Range,
+        ),
+    ];
+    for (line, kind) in lines {
+        expect_fault(&rt, rt.alloc(), line, field, kind);
+    }
 }
 
 #[test]
@@ -326,7 +364,7 @@ fn faults_of_the_answer(rt: HostRuntime) {
     expect_fault(
         &rt,
         rt.alloc(),
-        b"0 as 0 0 | cleaner infos | fault Live",
+        b"0 as 0 0 | infos 0 | fault Live",
         field,
         FaultKind::Words,
     );

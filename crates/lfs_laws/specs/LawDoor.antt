@@ -16,7 +16,7 @@ use Rattle.lfs_model.specs.Steps.{IsLegal, world_after}
 abbrev pub IsOutside : Row → Caller → Event → Type 0
 IsOutside dir caller (User request answer) = (grants_of caller (attrs_of dir.file) bits.Search ≡ false)
     × (caller.uid ≢ dir.file.uid)
-IsOutside dir caller (Cleaner kind outcome) = Unit {0}
+IsOutside dir caller (Cleaner act outcome) = Unit {0}
 
 -- so is each
 abbrev pub AreOutside : Row → List Entry → Type 0

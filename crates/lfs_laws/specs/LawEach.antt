@@ -5,7 +5,7 @@ use Rattle.lfs_types.specs.Caller.{Caller}
 use Rattle.lfs_types.specs.Tree.{Row, World, opening_world}
 use Rattle.lfs_types.specs.declared.answer.Answer.{Answer}
 use Rattle.lfs_types.specs.declared.request.Request.{Request}
-use Rattle.lfs_model.specs.declared.journal.CleanerKind.{CleanerKind}
+use Rattle.lfs_model.specs.declared.asking.CleanerAct.{CleanerAct}
 use Rattle.lfs_model.specs.declared.journal.CleanerOutcome.{CleanerOutcome}
 use Rattle.lfs_model.specs.declared.journal.Entry.{Entry}
 use Rattle.lfs_model.specs.declared.journal.Event.TheVariants.{User, Cleaner}
@@ -55,7 +55,7 @@ pub record IsLawful (numbers segments : ℕ) (w : World) (entry : Entry) (after 
   pub sound : IsSound after.rows
   pub user : (request : Request) (answer : Answer) → entry.event ≡ User request answer
       → MeetsLaws numbers w entry.cred request answer after
-  pub cleaner : (kind : CleanerKind) (outcome : CleanerOutcome) → entry.event ≡ Cleaner kind outcome → after ≡ w
+  pub cleaner : (act : CleanerAct) (outcome : CleanerOutcome) → entry.event ≡ Cleaner act outcome → after ≡ w
 
 -- so does each entry of a legal list from any sound tree
 abbrev pub EachEntry : Type 0

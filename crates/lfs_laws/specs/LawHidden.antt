@@ -110,7 +110,7 @@ SeesTheSame w d dir SameNames SameNumbers EmptyAlike caller (User request answer
     (IsListing w d request → grants_of caller (attrs_of dir.file) bits.Read ≡ true → SameNames)
     × (MayMakeRow request answer → SameNumbers)
     × (IsToldEmpty w d request answer → EmptyAlike)
-SeesTheSame w d dir SameNames SameNumbers EmptyAlike caller (Cleaner kind outcome) = Unit {0}
+SeesTheSame w d dir SameNames SameNumbers EmptyAlike caller (Cleaner act outcome) = Unit {0}
 
 -- so each, in the world that those before leave
 abbrev pub AllSeeTheSame : ℕ → ℕ → Row → Type 0 → Type 0 → Type 0 → List Entry → World → Type 0

@@ -29,7 +29,7 @@ Guards dir row caller =
 abbrev pub IsStranger : Row → Row → Caller → Event → Type 0
 IsStranger dir row caller (User request answer) =
     (caller.uid ≢ 0) × (caller.uid ≢ dir.file.uid) × (caller.uid ≢ row.file.uid) × Guards dir row caller
-IsStranger dir row caller (Cleaner kind outcome) = Unit {0}
+IsStranger dir row caller (Cleaner act outcome) = Unit {0}
 
 -- so is each
 abbrev pub AreStrangers : Row → Row → List Entry → Type 0

@@ -47,7 +47,7 @@ GuardedIsLeft =
 -- a user's call is made by one who must leave each row on a path as it is
 abbrev pub IsHarmless : Rows → List (List ℕ) → Caller → Event → Type 0
 IsHarmless rows path caller (User request answer) = (n : ℕ) → is_on_way rows path n ≡ true → LeavesAlone rows caller n
-IsHarmless rows path caller (Cleaner kind outcome) = Unit {0}
+IsHarmless rows path caller (Cleaner act outcome) = Unit {0}
 
 -- so is each
 abbrev pub AreHarmless : Rows → List (List ℕ) → List Entry → Type 0

@@ -15,7 +15,7 @@ use Rattle.lfs_laws.specs.LawOneThing.{KeepsMode}
 -- a user's call is made by one who is neither user 0 nor the row's owner
 abbrev pub IsNotOwner : Row → Caller → Event → Type 0
 IsNotOwner r caller (User request answer) = (caller.uid ≢ 0) × (caller.uid ≢ r.file.uid)
-IsNotOwner r caller (Cleaner kind outcome) = Unit {0}
+IsNotOwner r caller (Cleaner act outcome) = Unit {0}
 
 -- so is each
 abbrev pub AreNotOwners : Row → List Entry → Type 0

@@ -16,7 +16,7 @@ use Rattle.lfs_model.specs.Steps.{IsLegal}
 abbrev pub IsUnread : Row → Caller → Event → Type 0
 IsUnread r caller (User request answer) = (grants_of caller (attrs_of r.file) bits.Read ≡ false)
     × (caller.uid ≢ r.file.uid)
-IsUnread r caller (Cleaner kind outcome) = Unit {0}
+IsUnread r caller (Cleaner act outcome) = Unit {0}
 
 -- so is each
 abbrev pub AreUnread : Row → List Entry → Type 0

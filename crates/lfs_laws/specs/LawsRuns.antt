@@ -17,7 +17,7 @@ abbrev pub IsServed : (Request → Type 0) → Event → Type 0
 IsServed IsOne (User request (Served shown)) = IsOne request
 IsServed IsOne (User request (Denied denial)) = ⊥
 IsServed IsOne (User request (Refused resource)) = ⊥
-IsServed IsOne (Cleaner kind outcome) = ⊥
+IsServed IsOne (Cleaner act outcome) = ⊥
 
 -- none of the entries, made one after another from this world on, is a call of a kind that was served
 abbrev pub NoneServed : (World → Caller → Request → Type 0) → ℕ → List Entry → World → Type 0
@@ -29,7 +29,7 @@ NoneServed IsOne numbers (entry ∷ entries) w =
 -- the user's call of an event of a session, if it is one
 abbrev pub call_of : ℕ → Caller → Event → List Call
 call_of session caller (User request answer) = record { session = session; cred = caller; request = request } ∷ []
-call_of session caller (Cleaner kind outcome) = []
+call_of session caller (Cleaner act outcome) = []
 
 -- the users' calls of entries, in order
 abbrev pub calls_of : List Entry → List Call
@@ -46,7 +46,7 @@ UsersAlone =
 
 -- an entry of the cleaner, of a Sync, or of a call that was refused for a resource
 abbrev pub IsIdle : Event → Type 0
-IsIdle (Cleaner kind outcome) = Unit {0}
+IsIdle (Cleaner act outcome) = Unit {0}
 IsIdle (User Sync answer) = Unit {0}
 IsIdle (User request (Refused resource)) = Unit {0}
 IsIdle event = ⊥

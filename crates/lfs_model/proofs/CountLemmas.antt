@@ -13,7 +13,7 @@ use Rattle.std.proofs.lemmas.List.Sums.{count_by-le-length, sum_by_push}
 use Rattle.lfs_model.specs.Counts.{AreFew, count_after, counts_after, counts_of, denials, denials_after, denied_by}
 use Rattle.lfs_model.specs.Counts.{is_cleaner, is_denied, is_denied_by, is_refused, is_served, same_rule}
 use Rattle.lfs_model.specs.declared.counts.Counts.{Counts}
-use Rattle.lfs_model.specs.declared.journal.CleanerKind.{CleanerKind}
+use Rattle.lfs_model.specs.declared.asking.CleanerAct.{CleanerAct}
 use Rattle.lfs_model.specs.declared.journal.CleanerOutcome.{CleanerOutcome}
 use Rattle.lfs_model.specs.declared.journal.CleanerOutcome.TheVariants as outcome
 use Rattle.lfs_model.specs.declared.journal.Entry.{Entry}
@@ -206,20 +206,20 @@ refused_counted c request given resource e =
     }) (sym (none_counted rules c.rules)))
 
 -- counts behind a cleaner's call that was denied, did nothing or is done
-pub cleaner_denied_counted : (c : Counts) (kind : CleanerKind) (came : CleanerOutcome) (numbers : List ℕ) → came
+pub cleaner_denied_counted : (c : Counts) (act : CleanerAct) (came : CleanerOutcome) (numbers : List ℕ) → came
     ≡ outcome.Denied
     → numbers ≡ denials_after (Some IsSuperuser) rules c.rules
     → record { served = c.served; denied = c.denied; refused = c.refused; cleaner = c.cleaner + 1; rules = numbers }
-    ≡ counts_after (Cleaner kind came) c
+    ≡ counts_after (Cleaner act came) c
 unfolding is_served is_denied is_refused is_cleaner
-cleaner_denied_counted c kind came numbers e counted =
+cleaner_denied_counted c act came numbers e counted =
     subst (λ x. record {
       served = c.served;
       denied = c.denied;
       refused = c.refused;
       cleaner = c.cleaner + 1;
       rules = numbers;
-    } ≡ counts_after (Cleaner kind x) c) (sym e)
+    } ≡ counts_after (Cleaner act x) c) (sym e)
     (ap (λ (xs : List ℕ). record {
       served = c.served;
       denied = c.denied;
@@ -228,19 +228,19 @@ cleaner_denied_counted c kind came numbers e counted =
       rules = xs;
     }) counted)
 
-pub fault_counted : (c : Counts) (kind : CleanerKind) (came : CleanerOutcome) (fault : CleanFault) → came
+pub fault_counted : (c : Counts) (act : CleanerAct) (came : CleanerOutcome) (fault : CleanFault) → came
     ≡ outcome.Fault fault
     → record { served = c.served; denied = c.denied; refused = c.refused; cleaner = c.cleaner + 1; rules = c.rules }
-    ≡ counts_after (Cleaner kind came) c
+    ≡ counts_after (Cleaner act came) c
 unfolding is_served is_denied is_refused is_cleaner
-fault_counted c kind came fault e =
+fault_counted c act came fault e =
     subst (λ x. record {
       served = c.served;
       denied = c.denied;
       refused = c.refused;
       cleaner = c.cleaner + 1;
       rules = c.rules;
-    } ≡ counts_after (Cleaner kind x) c) (sym e)
+    } ≡ counts_after (Cleaner act x) c) (sym e)
     (ap (λ (xs : List ℕ). record {
       served = c.served;
       denied = c.denied;
@@ -249,18 +249,18 @@ fault_counted c kind came fault e =
       rules = xs;
     }) (sym (none_counted rules c.rules)))
 
-pub done_counted : (c : Counts) (kind : CleanerKind) (came : CleanerOutcome) (number : ℕ) → came ≡ outcome.Done number
+pub done_counted : (c : Counts) (act : CleanerAct) (came : CleanerOutcome) (number : ℕ) → came ≡ outcome.Done number
     → record { served = c.served; denied = c.denied; refused = c.refused; cleaner = c.cleaner + 1; rules = c.rules }
-    ≡ counts_after (Cleaner kind came) c
+    ≡ counts_after (Cleaner act came) c
 unfolding is_served is_denied is_refused is_cleaner
-done_counted c kind came number e =
+done_counted c act came number e =
     subst (λ x. record {
       served = c.served;
       denied = c.denied;
       refused = c.refused;
       cleaner = c.cleaner + 1;
       rules = c.rules;
-    } ≡ counts_after (Cleaner kind x) c) (sym e)
+    } ≡ counts_after (Cleaner act x) c) (sym e)
     (ap (λ (xs : List ℕ). record {
       served = c.served;
       denied = c.denied;

@@ -26,7 +26,7 @@ left_out numbers segments session caller (User Sync (Denied denial)) entries w i
 left_out numbers segments session caller (User Sync (Refused resource)) entries w is rest = rest
 left_out numbers segments session caller (User request (Refused resource)) entries w is rest = rest
 left_out numbers segments session caller (User request answer) entries w is rest = ((is, rest.0), rest.1)
-left_out numbers segments session caller (Cleaner kind outcome) entries w is rest = rest
+left_out numbers segments session caller (Cleaner act outcome) entries w is rest = rest
 
 pub users_alone_law : (numbers segments : ℕ) (entries : List Entry) (w : World) → IsLegal numbers segments entries w
     → IsLegal numbers segments (users_alone entries) w

@@ -230,11 +230,11 @@ callers_same a b none =
 -- the request and the answer of a user's call
 asked : Request → Event → Request
 asked none (User request answer) = request
-asked none (Cleaner kind outcome) = none
+asked none (Cleaner act outcome) = none
 
 given : Answer → Event → Answer
 given none (User request answer) = answer
-given none (Cleaner kind outcome) = none
+given none (Cleaner act outcome) = none
 
 pub same_request : (a b : Request) (x y : Answer) → User a x ≡ User b y → request-eq.ghosts.eq a b ≡ true
 unfolding asked

@@ -4,10 +4,20 @@ use Rattle.lfs_types.specs.Caller.{Caller}
 use Rattle.lfs_types.specs.declared.cleaner.CleanFault.{CleanFault}
 use Rattle.lfs_types.specs.declared.cleaner.CleanFault.TheVariants.{NoSuchSegment, Active, NotDirty, Live, NoSpace}
 use Rattle.lfs_types.specs.declared.cleaner.TheConstants.{INFO_LIMIT, MARK_LIMIT}
+use Rattle.lfs_model.specs.declared.asking.CleanerAct.{CleanerAct}
+use Rattle.lfs_model.specs.declared.asking.CleanerAct.TheVariants as acts
 use Rattle.lfs_model.specs.declared.journal.CleanerKind.{CleanerKind}
 use Rattle.lfs_model.specs.declared.journal.CleanerKind.TheVariants.{Ifile, Infos, Bmapv, Markv, Segclean}
 use Rattle.lfs_model.specs.declared.journal.CleanerOutcome.{CleanerOutcome}
 use Rattle.lfs_model.specs.declared.journal.CleanerOutcome.TheVariants.{Denied, Fault, Done}
+
+-- which call of the cleaner asks this
+abbrev pub kind_of : CleanerAct → CleanerKind
+kind_of acts.Ifile = Ifile
+kind_of (acts.Infos segment) = Infos
+kind_of (acts.Bmapv infos) = Bmapv
+kind_of (acts.Markv marks) = Markv
+kind_of (acts.Segclean segment) = Segclean
 
 -- how many bytes an ifile has: a header, and an entry for each segment and for each inode number
 abbrev pub ifile_size : ℕ → ℕ → ℕ

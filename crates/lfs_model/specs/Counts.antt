@@ -18,35 +18,35 @@ unfoldable pub is_served : Event → Bool
 is_served (User request (answer.Served served)) = true
 is_served (User request (answer.Denied denial)) = false
 is_served (User request (answer.Refused resource)) = false
-is_served (Cleaner kind done) = false
+is_served (Cleaner act done) = false
 
 -- whether it is a user's call that was denied
 unfoldable pub is_denied : Event → Bool
 is_denied (User request (answer.Served served)) = false
 is_denied (User request (answer.Denied denial)) = true
 is_denied (User request (answer.Refused resource)) = false
-is_denied (Cleaner kind done) = false
+is_denied (Cleaner act done) = false
 
 -- whether it is a user's call that was refused
 unfoldable pub is_refused : Event → Bool
 is_refused (User request (answer.Served served)) = false
 is_refused (User request (answer.Denied denial)) = false
 is_refused (User request (answer.Refused resource)) = true
-is_refused (Cleaner kind done) = false
+is_refused (Cleaner act done) = false
 
 -- whether it is a cleaner's call
 unfoldable pub is_cleaner : Event → Bool
 is_cleaner (User request given) = false
-is_cleaner (Cleaner kind done) = true
+is_cleaner (Cleaner act done) = true
 
 -- the rule that denied a call, a user's or a cleaner's
 abbrev pub denied_by : Event → Option Rule
 denied_by (User request (answer.Served served)) = None
 denied_by (User request (answer.Denied denial)) = Some denial.rule
 denied_by (User request (answer.Refused resource)) = None
-denied_by (Cleaner kind outcome.Denied) = Some IsSuperuser
-denied_by (Cleaner kind (outcome.Fault fault)) = None
-denied_by (Cleaner kind (outcome.Done number)) = None
+denied_by (Cleaner act outcome.Denied) = Some IsSuperuser
+denied_by (Cleaner act (outcome.Fault fault)) = None
+denied_by (Cleaner act (outcome.Done number)) = None
 
 -- whether two rules are the same one: each has a code of its own
 abbrev pub same_rule : Rule → Rule → Bool

@@ -8,12 +8,12 @@ use Rattle.lfs_types.specs.declared.cleaner.CleanerCall.{CleanerCall}
 use Rattle.lfs_types.specs.declared.cleaner.CleanerCall.TheVariants as calls
 use Rattle.lfs_types.specs.declared.request.Request.{Request}
 use Rattle.lfs_types.specs.declared.request.Request.TheVariants.{Sync}
+use Rattle.lfs_model.specs.declared.asking.CleanerAct.{CleanerAct}
+use Rattle.lfs_model.specs.declared.asking.CleanerAct.TheVariants.{Ifile, Infos, Bmapv, Markv, Segclean}
 use Rattle.lfs_model.specs.declared.journal.Call.{Call}
 use Rattle.lfs_model.specs.declared.journal.Entry.{Entry}
 use Rattle.lfs_model.specs.declared.journal.CleanerAnswer.{CleanerAnswer}
 use Rattle.lfs_model.specs.declared.journal.CleanerAnswer.TheVariants as cleaner
-use Rattle.lfs_model.specs.declared.journal.CleanerKind.{CleanerKind}
-use Rattle.lfs_model.specs.declared.journal.CleanerKind.TheVariants.{Ifile, Infos, Bmapv, Markv, Segclean}
 use Rattle.lfs_model.specs.declared.journal.CleanerOutcome.{CleanerOutcome}
 use Rattle.lfs_model.specs.declared.journal.CleanerOutcome.TheVariants as outcomes
 use Rattle.lfs_model.specs.declared.journal.Event.{Event}
@@ -30,13 +30,13 @@ user_event request (Refused NoMemory) = None
 user_event request (Refused JournalFull) = None
 user_event request answer = Some (User request answer)
 
--- which call of the cleaner it is
-abbrev pub kind_of : CleanerCall → CleanerKind
-kind_of calls.Ifile = Ifile
-kind_of (calls.Infos segment) = Infos
-kind_of (calls.Bmapv infos) = Bmapv
-kind_of (calls.Markv marks) = Markv
-kind_of (calls.Segclean segment) = Segclean
+-- what a call of the cleaner asks: the very segment or infos that it hands in
+abbrev pub act_of : CleanerCall → CleanerAct
+act_of calls.Ifile = Ifile
+act_of (calls.Infos segment) = Infos segment
+act_of (calls.Bmapv infos) = Bmapv infos
+act_of (calls.Markv marks) = Markv marks
+act_of (calls.Segclean segment) = Segclean segment
 
 -- what the journal tells of a cleaner's answer: nothing where memory or the journal's room ran out
 abbrev pub outcome_of : CleanerAnswer → Option CleanerOutcome
@@ -51,7 +51,7 @@ outcome_of cleaner.Cleaned = Some (outcomes.Done 0)
 
 -- the event of a cleaner's call that was answered so
 abbrev pub cleaner_event : CleanerCall → CleanerAnswer → Option Event
-cleaner_event call answer = option_map (Cleaner (kind_of call)) (outcome_of answer)
+cleaner_event call answer = option_map (Cleaner (act_of call)) (outcome_of answer)
 
 -- the event of a step that was answered so: none where the answer is one to a call of another sort
 abbrev pub step_event : Act → StepAnswer → Option Event
@@ -102,7 +102,7 @@ abbrev pub users_event : Event → Option Event
 users_event (User Sync answer) = None
 users_event (User request (Refused resource)) = None
 users_event (User request answer) = Some (User request answer)
-users_event (Cleaner kind outcome) = None
+users_event (Cleaner act outcome) = None
 
 -- the entries without the cleaner's, the Syncs and those refused for a resource
 abbrev pub users_alone : List Entry → List Entry
@@ -113,7 +113,7 @@ users_alone (entry ∷ entries) = journaled entry.session entry.cred (users_even
 
 -- how many segments an event makes clean
 abbrev pub cleans : Event → ℕ
-cleans (Cleaner Segclean (outcomes.Done n)) = 1
+cleans (Cleaner (Segclean segment) (outcomes.Done n)) = 1
 cleans event = 0
 
 -- how many segments became clean by the entries
@@ -124,7 +124,7 @@ cleaned (entry ∷ entries) = cleans entry.event + cleaned entries
 -- an event is a call refused for want of space
 abbrev pub IsNoSpace : Event → Type 0
 IsNoSpace (User request answer) = answer ≡ Refused NoSpace
-IsNoSpace (Cleaner kind outcome) = ⊥
+IsNoSpace (Cleaner act outcome) = ⊥
 
 -- a call refused for want of space stands among the entries of a volume with so many clean segments only where at most
 -- two of them weren't made clean after it

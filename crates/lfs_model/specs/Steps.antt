@@ -15,7 +15,7 @@ use Rattle.lfs_types.specs.declared.request.Request.TheVariants.{SetLevel}
 use Rattle.lfs_model.specs.declared.journal.Entry.{Entry}
 use Rattle.lfs_model.specs.declared.journal.Event.{Event}
 use Rattle.lfs_model.specs.declared.journal.Event.TheVariants.{User, Cleaner}
-use Rattle.lfs_model.specs.Cleaning.{IsCleaning}
+use Rattle.lfs_model.specs.Cleaning.{IsCleaning, kind_of}
 use Rattle.lfs_model.specs.World.{Rows, child, children}
 use Rattle.lfs_model.specs.Rules.{decide, front, last, reached}
 use Rattle.lfs_model.specs.Effects.{effect, answer_of}
@@ -72,12 +72,12 @@ after_answer numbers w caller request (Refused resource) = w
 -- an event may happen in this world, on a volume of so many inode numbers and segments
 abbrev pub IsEvent : ℕ → ℕ → World → Caller → Event → Type 0
 IsEvent numbers segments w caller (User request answer) = IsAnswer numbers w caller request answer
-IsEvent numbers segments w caller (Cleaner kind outcome) = IsCleaning numbers segments caller kind outcome
+IsEvent numbers segments w caller (Cleaner act outcome) = IsCleaning numbers segments caller (kind_of act) outcome
 
 -- the world after an event: a cleaner's call changes nothing
 abbrev pub after_event : ℕ → World → Caller → Event → World
 after_event numbers w caller (User request answer) = after_answer numbers w caller request answer
-after_event numbers w caller (Cleaner kind outcome) = w
+after_event numbers w caller (Cleaner act outcome) = w
 
 -- the world after entries
 abbrev pub world_after : ℕ → List Entry → World → World

@@ -4,7 +4,8 @@ ghost use Rattle.std.specs.Prelude.{◌≡◌, ◌-◌, ◌<◌, ◌^◌, [], Al
 ghost use Rattle.lfs_types.specs.RuleCodes.{rules};
 ghost use Rattle.lfs_model.specs.Counts.{AreFew, counts_after, counts_of, denials_after};
 
-use crate::journal::{CleanerKind, CleanerOutcome, Event};
+use crate::asking::CleanerAct;
+use crate::journal::{CleanerOutcome, Event};
 use lfs_types::answer::Answer;
 use lfs_types::request::Request;
 use lfs_types::rule::Rule;
@@ -67,7 +68,7 @@ impl Counts {
     /// Counts one more call of the cleaner.
     fn add_outcome(&mut self, outcome: CleanerOutcome)
         requires few { AreFew self.old }
-        ensures { (kind : CleanerKind) → self.new ≡ counts_after (Event.Cleaner kind outcome) self.old }
+        ensures { (act : CleanerAct) → self.new ≡ counts_after (Event.Cleaner act outcome) self.old }
     {
         self.cleaner += 1;
         match outcome {

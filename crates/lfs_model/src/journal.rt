@@ -2,6 +2,7 @@
 
 ghost use Rattle.std.specs.Prelude.{◌≡◌, ◌↔◌, IsTrue};
 
+use crate::asking::CleanerAct;
 use lfs_types::answer::{Answer, Resource};
 use lfs_types::cleaner::{CleanFault, InfoList};
 use lfs_types::cred::Cred;
@@ -39,7 +40,8 @@ pub enum CleanerOutcome {
 /// The answer to a cleaner's call.
 #[derive(Drop, Debug)]
 pub enum CleanerAnswer {
-    /// A resource ran out, and the journal has no entry: `JournalFull`, or `NoMemory` for the bytes of the ifile.
+    /// A resource ran out, and the journal has no entry: `JournalFull`, or `NoMemory`, for the bytes of the ifile or for
+    /// a copy of the infos that were handed in.
     Refused(Resource),
     /// The caller is not the superuser.
     Denied(Denial),
@@ -62,8 +64,8 @@ pub enum CleanerAnswer {
 pub enum Event {
     /// A user's call, and its answer.
     User(Request, Answer),
-    /// A cleaner's call, and what came of it.
-    Cleaner(CleanerKind, CleanerOutcome),
+    /// A cleaner's call with its arguments, and what came of it.
+    Cleaner(CleanerAct, CleanerOutcome),
 }
 
 /// An entry of the journal: one step of the volume.

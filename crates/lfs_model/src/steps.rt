@@ -1,7 +1,8 @@
 //! Steps of a volume: calls of users and of the cleaner.
 
 ghost use Rattle.std.specs.Prelude.{◌≡◌};
-ghost use Rattle.lfs_model.specs.Runs.{kind_of};
+ghost use Rattle.lfs_model.specs.Cleaning.{kind_of};
+ghost use Rattle.lfs_model.specs.Runs.{act_of};
 
 use crate::journal::{CleanerAnswer, CleanerKind};
 use lfs_types::answer::Answer;
@@ -41,7 +42,7 @@ pub enum StepAnswer {
 impl CleanerKind {
     /// Which call of the cleaner it is.
     pub fn of(call: &CleanerCall) -> CleanerKind
-        ensures { result ≡ kind_of call.now }
+        ensures { result ≡ kind_of (act_of call.now) }
     {
         match call {
             CleanerCall::Ifile => CleanerKind::Ifile,

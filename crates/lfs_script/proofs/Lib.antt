@@ -1,3 +1,4 @@
+pub mod CleanerBack
 pub mod PlaceLemmas
 pub mod PlanLemmas
 pub mod RequestLemmas

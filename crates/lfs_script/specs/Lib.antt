@@ -1,4 +1,5 @@
 pub mod CleanerCalls
+pub mod CleanerSpelling
 pub mod Forms
 pub mod Operands
 pub mod Parsing

@@ -2,6 +2,7 @@
 #![tactic(auto)]
 
 mod cleaner_calls;
+pub mod cleaner_spelling;
 pub mod fault;
 mod forms;
 mod operands;

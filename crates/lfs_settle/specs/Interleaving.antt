@@ -122,7 +122,7 @@ IsLowest is_full entries scripts transcripts u =
 
 abbrev pub IsCleaners : Event → Type 0
 IsCleaners (User request answer) = ⊥
-IsCleaners (Cleaner kind outcome) = Unit {0}
+IsCleaners (Cleaner act outcome) = Unit {0}
 
 -- the entry is of one of so many sessions, or of the cleaner: session 255, as user 0
 abbrev pub IsOfRun : ℕ → Entry → Type 0

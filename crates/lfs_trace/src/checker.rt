@@ -123,9 +123,9 @@ impl Checker {
     {
         match &entry.event {
             Event::User(request, answer) => self.answer(entry, request, answer),
-            Event::Cleaner(kind, outcome) => {
+            Event::Cleaner(act, outcome) => {
                 let (numbers, segments) = (self.numbers, self.segments);
-                legal_if(is_cleaning(numbers, segments, &entry.cred, *kind, *outcome))
+                legal_if(is_cleaning(numbers, segments, &entry.cred, act.kind(), *outcome))
             }
         }
     }

@@ -1,9 +1,11 @@
 -- An answered call of the cleaner is a step.
-use Rattle.std.proofs.Common.{◌≡◌, ℕ, ◌+◌, ◌≤◌, List, Some, sym, subst}
+use Rattle.std.proofs.Common.{◌≡◌, ℕ, ◌+◌, ◌≤◌, List, Some, inr, refl, sym, subst}
 use Rattle.std.specs.Prelude.{IfSome}
 use Rattle.lfs_types.specs.Caller.{Caller}
 use Rattle.lfs_types.specs.StoreStates.{StoreState}
 use Rattle.lfs_types.specs.Tree.{World}
+use Rattle.lfs_types.specs.declared.answer.Resource.TheVariants.{NoMemory, NoSpace, NoInodes, DirectoryFull}
+use Rattle.lfs_types.specs.declared.answer.Resource.TheVariants.{JournalFull}
 use Rattle.lfs_types.specs.declared.cleaner.CleanerCall.{CleanerCall}
 use Rattle.lfs_types.specs.declared.cleaner.CleanerCall.TheVariants as calls
 use Rattle.lfs_types.specs.declared.level.Level.{Level}
@@ -14,11 +16,12 @@ use Rattle.lfs_model.specs.declared.journal.CleanerAnswer.TheVariants.{Marked, C
 use Rattle.lfs_model.specs.declared.journal.CleanerOutcome.{CleanerOutcome}
 use Rattle.lfs_model.specs.declared.journal.Entry.{Entry}
 use Rattle.lfs_model.specs.declared.journal.Event.TheVariants.{Cleaner}
-use Rattle.lfs_model.specs.Cleaning.{IsCleaning}
-use Rattle.lfs_model.specs.Runs.{cleans, kind_of, outcome_of}
+use Rattle.lfs_model.specs.Cleaning.{IsCleaning, kind_of}
+use Rattle.lfs_model.specs.Runs.{act_of, cleans, outcome_of}
 use Rattle.lfs_model.specs.Steps.{world_after}
 use Rattle.lfs_calls.specs.Content.{Shows}
 use Rattle.lfs_volume.specs.Cleanings.{Cleaner as Store, CleansOnly, IsCleaned, IsCleanerAnswer, IsDone}
+use Rattle.lfs_volume.specs.Cleanings.{MayWantMemory}
 use Rattle.lfs_volume.specs.Journals.{IsJournal, IsStep}
 
 -- the shape stays, whatever the answer
@@ -41,11 +44,24 @@ not_denied r old new (calls.Bmapv infos) denial h = h
 not_denied r old new (calls.Markv marks) denial h = h
 not_denied r old new (calls.Segclean segment) denial h = h
 
+-- of the calls that the store answers only the one for the ifile's bytes lacks memory
+lacked : {F : Type 0} (r : Store F) (old new : F) (caller : Caller) (call : CleanerCall) → caller.uid ≡ 0
+    → IsDone r old call (Refused NoMemory) new → MayWantMemory caller call × (new ≡ old)
+lacked r old new caller calls.Ifile is h = (inr (is, refl), h)
+lacked r old new caller (calls.Infos segment) is h = absurd h
+lacked r old new caller (calls.Bmapv infos) is h = absurd h
+lacked r old new caller (calls.Markv marks) is h = absurd h
+lacked r old new caller (calls.Segclean segment) is h = absurd h
+
 -- what the store's call gave is the superuser's answer
 pub answered_done : {F : Type 0} (r : Store F) (old : F) (caller : Caller) (call : CleanerCall) (answer : CleanerAnswer)
     (new : F)
     → caller.uid ≡ 0 → IsDone r old call answer new → IsCleanerAnswer r old caller call answer new
-answered_done r old caller call (Refused resource) new is h = (is, h)
+answered_done r old caller call (Refused NoMemory) new is h = lacked r old new caller call is h
+answered_done r old caller call (Refused NoSpace) new is h = (is, h)
+answered_done r old caller call (Refused NoInodes) new is h = (is, h)
+answered_done r old caller call (Refused DirectoryFull) new is h = (is, h)
+answered_done r old caller call (Refused JournalFull) new is h = (is, h)
 answered_done r old caller call (Denied denial) new is h = absurd (not_denied r old new call denial h)
 answered_done r old caller call (Fault fault) new is h = (is, h)
 answered_done r old caller call (Ifile bytes) new is h = (is, h)
@@ -58,17 +74,17 @@ pub IsStep-cleaned : (from : World) (old new : StoreState) (level : Level) (es :
     (caller : Caller) (call : CleanerCall) (answer : CleanerAnswer)
     (outcome : CleanerOutcome) → IsJournal from old level es limit → IsCleaned old new caller call answer
     → outcome_of answer ≡ Some outcome
-    → IsStep old new level (world_after old.shape.numbers es from) caller (Cleaner (kind_of call) outcome)
+    → IsStep old new level (world_after old.shape.numbers es from) caller (Cleaner (act_of call) outcome)
 IsStep-cleaned from old new level es limit caller call answer outcome j is comes = record {
-  happens = subst (λ o. IfSome o (IsCleaning old.shape.numbers old.shape.segments caller (kind_of call))) comes
-      is.outcome;
+  happens = subst (λ o. IfSome o (IsCleaning old.shape.numbers old.shape.segments caller (kind_of (act_of call))))
+      comes is.outcome;
   leaves = record {
     shows = subst (λ c. Shows c (world_after old.shape.numbers es from)) (sym is.content) j.shown.shows;
     tree = j.shown.tree;
   };
   leveled = j.at_level;
   space = λ no. absurd no;
-  clean = subst (λ o. IfSome o (λ (x : CleanerOutcome). new.clean ≤ old.clean + cleans (Cleaner (kind_of call) x)))
+  clean = subst (λ o. IfSome o (λ (x : CleanerOutcome). new.clean ≤ old.clean + cleans (Cleaner (act_of call) x)))
       comes is.told;
   shape = shape_stays answer old new is.leaves;
 }

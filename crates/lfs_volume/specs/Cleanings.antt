@@ -1,5 +1,5 @@
 -- What a cleaner's call is answered over a store, and how it leaves the store.
-use Rattle.std.specs.Prelude.{◌≡◌, ◌≢◌, ℕ, ◌+◌, ◌^◌, ◌<◌, ◌≤◌, List, Result, Ok, Err, IfSome, length}
+use Rattle.std.specs.Prelude.{◌≡◌, ◌≢◌, ◌⊎◌, ℕ, ◌+◌, ◌^◌, ◌<◌, ◌≤◌, List, Result, Ok, Err, IfSome, length}
 use Rattle.lfs_types.specs.Caller.{Caller}
 use Rattle.lfs_types.specs.Cleaned.{CleanerCalls, with_clean_segment}
 use Rattle.lfs_types.specs.StoreStates.{Follows, StoreState}
@@ -14,8 +14,9 @@ use Rattle.lfs_model.specs.declared.journal.CleanerAnswer.{CleanerAnswer}
 use Rattle.lfs_model.specs.declared.journal.CleanerAnswer.TheVariants.{Refused, Denied, Fault, Ifile, Infos, Bmapv}
 use Rattle.lfs_model.specs.declared.journal.CleanerAnswer.TheVariants.{Marked, Cleaned}
 use Rattle.lfs_model.specs.declared.journal.Event.TheVariants.{Cleaner as Cleaning}
-use Rattle.lfs_model.specs.Cleaning.{IsCleaning}
-use Rattle.lfs_model.specs.Runs.{cleans, kind_of, outcome_of}
+use Rattle.lfs_model.specs.Cleaning.{IsCleaning, kind_of}
+use Rattle.lfs_model.specs.Memory.{HandsIn}
+use Rattle.lfs_model.specs.Runs.{act_of, cleans, outcome_of}
 
 -- a kind of store: the state that contracts see, that nothing waits, and what each call of its cleaner may answer
 pub record Cleaner (F : Type 0) : Type 1 where
@@ -31,8 +32,8 @@ cleaner_of state is_settled calls = record { state = state; is_settled = is_sett
 abbrev pub not_superuser : Denial
 not_superuser = record { rule = IsSuperuser; path = 0; at = 0 }
 
--- A cleaner's call of the superuser may be answered so, from one store to another: as the store's call gives it. The
--- bytes of the ifile alone may want memory. The calls that only read leave the store as it was.
+-- A cleaner's call of the superuser may be answered so, from one store to another: as the store's call gives it. Of the
+-- store's calls the one for the ifile's bytes alone may want memory. Those that only read leave the store as it was.
 abbrev pub IsDone : {F : Type 0} → Cleaner F → F → CleanerCall → CleanerAnswer → F → Type 0
 IsDone r old call.Ifile (Ifile bytes) new = r.calls.gives_ifile old bytes × (new ≡ old)
 IsDone r old call.Ifile (Refused NoMemory) new = new ≡ old
@@ -46,9 +47,16 @@ IsDone r old (call.Segclean segment) Cleaned new = r.calls.reclaims old segment 
 IsDone r old (call.Segclean segment) (Fault fault) new = r.calls.reclaims old segment (Err fault) new
 IsDone r old asked answer new = ⊥
 
--- a cleaner's call of this caller may be answered so: it is denied exactly where the caller isn't the superuser
+-- a cleaner's call of this caller may want memory: anybody's for a copy of the infos that it hands in, the superuser's
+-- for the bytes of the ifile
+abbrev pub MayWantMemory : Caller → CleanerCall → Type 0
+MayWantMemory caller asked = HandsIn asked ⊎ ((caller.uid ≡ 0) × (asked ≡ call.Ifile))
+
+-- A cleaner's call of this caller may be answered so. Where there is memory for it, it is denied exactly where the
+-- caller isn't the superuser; where there isn't, nothing is done.
 abbrev pub IsCleanerAnswer : {F : Type 0} → Cleaner F → F → Caller → CleanerCall → CleanerAnswer → F → Type 0
 IsCleanerAnswer r old caller call (Denied denial) new = (caller.uid ≢ 0) × (denial ≡ not_superuser) × (new ≡ old)
+IsCleanerAnswer r old caller call (Refused NoMemory) new = MayWantMemory caller call × (new ≡ old)
 IsCleanerAnswer r old caller call answer new = (caller.uid ≡ 0) × IsDone r old call answer new
 
 -- how a cleaner's answer leaves the clean segments: one more where it made a segment clean, else no more than before
@@ -65,8 +73,9 @@ IsCounted answer = Unit {0}
 -- clean than its event tells
 pub record IsCleaned (old new : StoreState) (caller : Caller) (call : CleanerCall)
     (answer : CleanerAnswer) : Type 0 where
-  pub outcome : IfSome (outcome_of answer) (IsCleaning old.shape.numbers old.shape.segments caller (kind_of call))
+  pub outcome : IfSome (outcome_of answer)
+      (IsCleaning old.shape.numbers old.shape.segments caller (kind_of (act_of call)))
   pub content : new.content ≡ old.content
   pub leaves : CleansOnly answer old new
-  pub told : IfSome (outcome_of answer) (λ outcome. new.clean ≤ old.clean + cleans (Cleaning (kind_of call) outcome))
+  pub told : IfSome (outcome_of answer) (λ outcome. new.clean ≤ old.clean + cleans (Cleaning (act_of call) outcome))
   pub counted : IsCounted answer

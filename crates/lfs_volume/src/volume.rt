@@ -28,8 +28,9 @@ use lfs_calls::not_served::answered;
 use lfs_calls::serving::serve;
 use lfs_calls::tree::Tree;
 use lfs_explain::explain::{Explanation, explain};
+use lfs_model::asking::CleanerAct;
 use lfs_model::counts::Counts;
-use lfs_model::journal::{Call, CleanerAnswer, CleanerKind, Entry, Event};
+use lfs_model::journal::{Call, CleanerAnswer, Entry, Event};
 use lfs_model::steps::{Act, Step, StepAnswer};
 use lfs_types::answer::{Answer, Resource, Served};
 use lfs_types::cleaned::CleanedStore;
@@ -334,8 +335,9 @@ impl<F: FileStore + Drop> Volume<F> {
 }
 
 impl<F: CleanedStore + Drop> Volume<F> {
-    /// Makes a call of the cleaner, and enters what came of it. It is denied to all but the superuser, and changes no
-    /// file; the bytes of the ifile alone may want memory.
+    /// Makes a call of the cleaner, and enters it, with what it hands in and what came of it. It is denied to all but
+    /// the superuser, and changes no file. Only a copy of the infos that it hands in, for the entry, and the bytes of
+    /// the ifile may want memory; without it nothing is done.
     pub fn clean(&mut self, session: u8, cred: &Cred, call: CleanerCall) -> CleanerAnswer
         ensures full { (result ≡ CleanerAnswer.Refused Resource.JournalFull)
             ↔ (length self.old.journal ≡ self.old.limit) }
@@ -358,12 +360,14 @@ impl<F: CleanedStore + Drop> Volume<F> {
         if self.journal.len() == self.limit as usize {
             return CleanerAnswer::Refused(Resource::JournalFull);
         }
-        let kind = CleanerKind::of(&call);
+        let Ok(act) = CleanerAct::of(*self.journal.allocator(), &call) else {
+            return CleanerAnswer::Refused(Resource::NoMemory);
+        };
         let answer = cleaned(&mut self.store, cred, call);
         let Some(outcome) = outcome(&answer) else {
             return answer;
         };
-        let cleaning = Event::Cleaner(kind, outcome);
+        let cleaning = Event::Cleaner(act, outcome);
         enter(&mut self.journal, &mut self.counts, session, cred, cleaning);
         answer
     }

@@ -26,19 +26,19 @@ use Rattle.lfs_words.specs.Callers.{is_decimal, is_short}
 abbrev the_caller : ℕ → List ℕ → Bool → Caller
 the_caller uid groups init = record { uid = uid; groups = groups; init = init }
 
-decimal_is : (n : ℕ) → n < 2 ^ 32 → is_decimal (decimal n) ≡ true
+pub decimal_is : (n : ℕ) → n < 2 ^ 32 → is_decimal (decimal n) ≡ true
 decimal_is n lt =
     let numeral = decimal_is_IsNumeral n (omega arith) in
     let some : nat_lt 0 (length (decimal n)) ≡ true = lt-ltb 0 (length (decimal n)) numeral.0.0 in
     let few = le-leb (length (decimal n)) 20 (length-decimal-le 20 n (omega arith) (omega arith) (omega arith)) in
     rw (some, few, digits_pass 10 (decimal n) numeral.0.1) refl
 
-short_is : (n : ℕ) → n < 2 ^ 32 → is_short (decimal n) ≡ true
+pub short_is : (n : ℕ) → n < 2 ^ 32 → is_short (decimal n) ≡ true
 short_is n lt =
     let numeral = decimal_is_IsNumeral n (omega arith) in
     rw numeral.1 (le-leb n 4294967295 (omega arith))
 
-value_is : (n : ℕ) → n < 2 ^ 32 → decimal_value (decimal n) ≡ n
+pub value_is : (n : ℕ) → n < 2 ^ 32 → decimal_value (decimal n) ≡ n
 value_is n lt = (decimal_is_IsNumeral n (omega arith)).1
 
 far : (c : ℕ) → digit_value c < 10 → (c == 44) ≡ false

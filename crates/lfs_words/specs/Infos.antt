@@ -1,10 +1,12 @@
 -- The block infos that words of a script spell.
-use Rattle.std.specs.Prelude.{ℕ, Bool, ◌==◌, ◌&&◌, nat_lt, List, [], ◌∷◌, length, Result, Ok, Err, if◌then◌else◌}
-use Rattle.std.specs.List.{slice_split}
+use Rattle.std.specs.Prelude.{◌≡◌, ℕ, ◌^◌, ◌<◌, Bool, true, ◌==◌, ◌&&◌, nat_lt, List, [], ◌∷◌, decimal, length}
+use Rattle.std.specs.Prelude.{map, Result, Ok, Err, if◌then◌else◌}
+use Rattle.std.specs.List.{join_with_byte, list_all, slice_split}
 use Rattle.lfs_types.specs.declared.cleaner.BlockInfo.{BlockInfo}
 use Rattle.lfs_words.specs.Callers.{is_decimal}
 use Rattle.lfs_words.specs.Faults.{◌>>=◌}
 use Rattle.lfs_words.specs.Numbers.{short_of}
+use Rattle.lfs_words.specs.Wording.{is_word}
 use Rattle.lfs_words.specs.declared.fault.FaultKind.{FaultKind}
 use Rattle.lfs_words.specs.declared.fault.FaultKind.TheVariants.{Many, Number}
 
@@ -49,3 +51,19 @@ infos_of (word ∷ words) = do
 -- at most `most` infos
 abbrev pub infos_within : ℕ → List (List ℕ) → Result (List BlockInfo) FaultKind
 infos_within most words = if nat_lt most (length words) then Err Many else infos_of words
+
+-- an info as a word: its number, version, logical block and address, with a colon between
+abbrev pub info_text : BlockInfo → List ℕ
+info_text info = join_with_byte 58 (map decimal (info.ino ∷ info.version ∷ info.lbn ∷ info.addr ∷ []))
+
+-- each part of an info is below 2^32
+pub record IsShortInfo (info : BlockInfo) : Type 0 where
+  pub ino : info.ino < 2 ^ 32
+  pub version : info.version < 2 ^ 32
+  pub lbn : info.lbn < 2 ^ 32
+  pub addr : info.addr < 2 ^ 32
+
+-- infos are words of a line, and are read as they are
+pub record AreReadBack (infos : List BlockInfo) : Type 0 where
+  pub words : list_all is_word (map info_text infos) ≡ true
+  pub back : infos_of (map info_text infos) ≡ Ok infos

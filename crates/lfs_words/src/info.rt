@@ -1,14 +1,16 @@
 //! Block infos in scripts.
 
-ghost use Rattle.std.specs.Prelude.{◌≡◌, map};
+ghost use Rattle.std.specs.Prelude.{◌≡◌, ◌∷◌, ◌++◌, decimal, map, OnOk};
 ghost use Rattle.lfs_words.specs.Faults.{ReadsAs};
-ghost use Rattle.lfs_words.specs.Infos.{are_decimals, info_from, info_of, info_of_parts, infos_within};
+ghost use Rattle.lfs_words.specs.Infos.{AreReadBack, IsShortInfo, are_decimals, info_from, info_of, info_of_parts, info_text, infos_within};
+ghost use Rattle.lfs_words.specs.Wording.{spaced};
 
+use crate::append::{push_decimal, push_number};
 use crate::fault::FaultKind;
 use crate::number::{is_decimal, short_decimal};
 use crate::words::pieces;
 use lfs_types::cleaner::{BlockInfo, BlockInfos};
-use std::alloc::Global;
+use std::alloc::{AllocError, Global};
 
 /// The infos that words spell, where the list takes as many.
 pub fn infos<const LIMIT: usize>(
@@ -70,4 +72,34 @@ fn are_decimals(first: &str, second: &str, third: &str, fourth: &str) -> bool
     ensures { result ≡ are_decimals first.now second.now third.now fourth.now }
 {
     is_decimal(first) && is_decimal(second) && is_decimal(third) && is_decimal(fourth)
+}
+
+/// Appends infos, each as a word, which are read back as they are.
+pub fn spell_infos(out: &mut Vec<u8>, infos: &[BlockInfo]) -> Result<(), AllocError>
+    ensures spelled { OnOk result (out.new.items ≡ out.old.items ++ spaced (map info_text infos.now)) }
+    ensures back { OnOk result (AreReadBack infos.now) }
+{
+    for info in infos {
+        push_info(out, info)?;
+    }
+    Ok(())
+}
+
+/// Appends an info as a word.
+fn push_info(out: &mut Vec<u8>, info: &BlockInfo) -> Result<(), AllocError>
+    ensures spelled { OnOk result (out.new.items ≡ out.old.items ++ 32 ∷ info_text info.now) }
+    ensures short { OnOk result (IsShortInfo info.now) }
+{
+    push_number(out, u64::from(info.ino))?;
+    push_part(out, info.version)?;
+    push_part(out, info.lbn)?;
+    push_part(out, info.addr)
+}
+
+/// Appends a part of an info behind a colon.
+fn push_part(out: &mut Vec<u8>, number: u32) -> Result<(), AllocError>
+    ensures { OnOk result (out.new.items ≡ out.old.items ++ 58 ∷ decimal number) }
+{
+    out.push(b':')?;
+    push_decimal(out, u64::from(number))
 }

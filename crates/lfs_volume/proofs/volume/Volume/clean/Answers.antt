@@ -25,7 +25,7 @@ longer g c = λ from begins.
     (omega (arith, c.if-len-self.false, c.len.ensures, c.self.inside.journal.ok.0, j.within))
     (subst (λ k. IsStep old new c.self.inside.level
     (world_after old.shape.numbers c.self.inside.journal.items from) caller (Cleaner k c.in-Some.outcome))
-    (sym c.of-kind.ensures) step)
+    (sym c.in-Ok.ensures.asked) step)
 
 pub invariant_of-self-2 : goal.invariant_of-self-2
 invariant_of-self-2 g c = (
