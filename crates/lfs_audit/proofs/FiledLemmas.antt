@@ -15,7 +15,8 @@ use Rattle.lfs_model.specs.declared.journal.Entry.{Entry}
 use Rattle.lfs_model.specs.declared.steps.Step.{Step as Made}
 use Rattle.lfs_model.specs.declared.steps.StepAnswer.{StepAnswer}
 use Rattle.lfs_model.proofs.RunLemmas.{world_after-append}
-use Rattle.lfs_print.specs.ReportText.{report_text}
+use Rattle.lfs_sinks.specs.Refusals.{AddsUp, refusals_of, run_report}
+use Rattle.lfs_sinks.specs.declared.refusals.Refusals.{Refusals}
 use Rattle.lfs_script.specs.declared.plan.Act.{Act}
 use Rattle.lfs_script.specs.declared.plan.Act.TheVariants as plan
 use Rattle.lfs_script.specs.declared.plan.Step.{Step}
@@ -29,7 +30,7 @@ use Rattle.lfs_volume.specs.Seen.{Seen}
 use Rattle.lfs_volume.specs.StepRuns.{AreSteps}
 use Rattle.lfs_audit.specs.FiledRuns.{IsFiledRun}
 use Rattle.lfs_audit.specs.Filing.{Filed, FilesLine, IsBegun, IsHandedOut, IsShut, LeadsOn, MovesOn, Takes, closed, drained}
-use Rattle.lfs_audit.specs.Runs.{AreAsked, IsAsked, Runs, TellsLine, lines_text}
+use Rattle.lfs_audit.specs.Runs.{AreAsked, CountsLine, IsAsked, Runs, TellsLine, lines_text}
 use Rattle.lfs_audit.proofs.RunLemmas.{asked-more, collected, kept-joined, lines-joined, runs_joined, runs_none}
 use Rattle.lfs_audit.proofs.RunLemmas.{steps-joined, still-begins}
 use Rattle.lfs_audit.proofs.ShiftLemmas.{Agree, legal_joined, none_entered, steps_shifted}
@@ -95,6 +96,7 @@ pub record IsFiling {F J : Type 0} (r : Cleaner F) (contents : J → Option (Lis
   pub shape : (r.state middle.store).shape ≡ (r.state old.volume.store).shape
   pub ran : Runs r middle now.volume refused refusals
   pub counted : now.told ≡ counts_of handed
+  pub refused_so : now.refusals ≡ refusals_of (answers ++ refusals)
   pub opened : now.is_open ≡ true → IsOpen contents next old now steps first rest refused refusals middle handed
   pub shut : now.is_open ≡ false → middle.limit ≡ length middle.journal
   pub printed : Appends start known (lines_text made answers ++ lines_text refused refusals)
@@ -130,6 +132,7 @@ filing_none r contents next old start known begun printed = record {
   shape = refl;
   ran = runs_none r old.volume;
   counted = begun.untold;
+  refused_so = begun.unrefused;
   opened = λ _. record {
     only = refl;
     none = refl;
@@ -244,11 +247,13 @@ grown {F} r contents next old now steps step start known left text after f v tel
 -- the entries of the line were handed out
 filing_handed : {F J : Type 0} (r : Cleaner F) (contents : J → Option (List ℕ)) (next : J → ℕ)
     (old now new : Filed F J) (steps : List Step) (v : Seen F) (handed : List Entry) (made : List Made)
-    (answers : List StepAnswer) (start left : Option (List ℕ)) → now.is_open ≡ true → now.told ≡ counts_of handed
+    (answers : List StepAnswer) (counts : Refusals) (start left : Option (List ℕ)) → now.is_open ≡ true
+    → now.told ≡ counts_of handed → counts ≡ refusals_of (answers ++ [])
     → Takes contents next old.sink now.sink handed → IsGrown r old steps v handed made answers start left
-    → IsHandedOut r.state contents next (record now { volume = v }) new
+    → IsHandedOut r.state contents next (record now { volume = v; refusals = counts }) new
     → IsFiling r contents next old new steps start left
-filing_handed {F} {J} r contents next old now new steps v handed made answers start left taking counted taken g out =
+filing_handed {F} {J} r contents next old now new steps v handed made answers counts start left taking counted refused
+    taken g out =
     let all = handed ++ v.journal in
     let volume : new.volume ≡ drained v = ap (λ (f : Filed F J). f.volume) out.is in
     let opened : new.is_open ≡ true = ap (λ (f : Filed F J). f.is_open) out.is ∙ taking in
@@ -284,6 +289,7 @@ filing_handed {F} {J} r contents next old now new steps v handed made answers st
       ran = subst (λ (u : Seen F). Runs r (drained v) u [] []) (sym volume) (runs_none r (drained v));
       counted = ap (λ (f : Filed F J). f.told) out.is
           ∙ ap (λ (c : Counts). counts_sum c (counts_of v.journal)) counted ∙ counts_joined handed v.journal;
+      refused_so = ap (λ (f : Filed F J). f.refusals) out.is ∙ refused;
       opened = λ _. record {
         only = refl;
         none = refl;
@@ -301,10 +307,12 @@ filing_handed {F} {J} r contents next old now new steps v handed made answers st
 -- the sink takes no more
 filing_shut : {F J : Type 0} (r : Cleaner F) (contents : J → Option (List ℕ)) (next : J → ℕ)
     (old now new : Filed F J) (steps : List Step) (v : Seen F) (handed : List Entry) (made : List Made)
-    (answers : List StepAnswer) (start left : Option (List ℕ)) → now.told ≡ counts_of handed
-    → IsGrown r old steps v handed made answers start left → IsShut (record now { volume = v }) new
+    (answers : List StepAnswer) (counts : Refusals) (start left : Option (List ℕ)) → now.told ≡ counts_of handed
+    → counts ≡ refusals_of (answers ++ [])
+    → IsGrown r old steps v handed made answers start left
+    → IsShut (record now { volume = v; refusals = counts }) new
     → IsFiling r contents next old new steps start left
-filing_shut {F} {J} r contents next old now new steps v handed made answers start left counted g is =
+filing_shut {F} {J} r contents next old now new steps v handed made answers counts start left counted refused g is =
     let volume : new.volume ≡ closed v = ap (λ (f : Filed F J). f.volume) is in
     let shuts : new.is_open ≡ false = ap (λ (f : Filed F J). f.is_open) is in
     record {
@@ -326,6 +334,7 @@ filing_shut {F} {J} r contents next old now new steps v handed made answers star
       shape = g.shape;
       ran = subst (λ (u : Seen F). Runs r (closed v) u [] []) (sym volume) (runs_none r (closed v));
       counted = ap (λ (f : Filed F J). f.told) is ∙ counted;
+      refused_so = ap (λ (f : Filed F J). f.refusals) is ∙ refused;
       opened = λ taking. absurd (both new.is_open taking shuts);
       shut = λ _. refl;
       printed = subst (λ (l : List ℕ). Appends start left l) (sym (append-nil (lines_text made answers))) g.printed;
@@ -335,10 +344,11 @@ filing_shut {F} {J} r contents next old now new steps v handed made answers star
 
 filing_on : {F J : Type 0} (r : Cleaner F) (contents : J → Option (List ℕ)) (next : J → ℕ) (old now : Filed F J)
     (steps : List Step) (step : Step) (start known left : Option (List ℕ)) (text after : List ℕ) (v : Seen F)
-    → now.is_open ≡ false → IsFiling r contents next old now steps start (append_known known text)
-    → TellsLine r now.volume v step.session step.cred step.act text after → Keeps (append_known known after) left
-    → IsFiling r contents next old (record now { volume = v }) (steps ++ step ∷ []) start left
-filing_on {F} {J} r contents next old now steps step start known left text after v shuts f tells keeps =
+    (counts : Refusals) → now.is_open ≡ false → IsFiling r contents next old now steps start (append_known known text)
+    → (tells : TellsLine r now.volume v step.session step.cred step.act text after)
+    → AddsUp now.refusals counts tells.answers → Keeps (append_known known after) left
+    → IsFiling r contents next old (record now { volume = v; refusals = counts }) (steps ++ step ∷ []) start left
+filing_on {F} {J} r contents next old now steps step start known left text after v counts shuts f tells counted keeps =
     let more = tells.made in
     let others = tells.answers in
     let lines = lines_text f.made f.answers in
@@ -362,6 +372,8 @@ filing_on {F} {J} r contents next old now steps step start known left text after
       shape = f.shape;
       ran = runs_joined r f.middle now.volume v f.refused f.refusals more others f.ran tells.ran;
       counted = f.counted;
+      refused_so = counted (f.answers ++ f.refusals) f.refused_so
+          ∙ ap refusals_of (append_assoc f.answers f.refusals others);
       opened = λ taking. absurd (both now.is_open taking shuts);
       shut = f.shut;
       printed = subst (λ (l : List ℕ). Appends start left l)
@@ -374,21 +386,34 @@ filing_on {F} {J} r contents next old now steps step start known left text after
 
 -- ---- a line
 
+-- the answers to a further line are counted while the sink takes entries
+counted_more : {F J : Type 0} (r : Cleaner F) (contents : J → Option (List ℕ)) (next : J → ℕ) (old now new : Filed F J)
+    (steps : List Step) (step : Step) (start known : Option (List ℕ)) (text after : List ℕ)
+    (f : IsFiling r contents next old now steps start known)
+    (line : FilesLine r contents next now new step.session step.cred step.act text after)
+    → IsOpen contents next old now steps f.first f.rest f.refused f.refusals f.middle f.handed
+    → line.counts ≡ refusals_of ((f.answers ++ line.tells.answers) ++ [])
+counted_more r contents next old now new steps step start known text after f line o =
+    line.counted f.answers (f.refused_so ∙ ap (λ (l : List StepAnswer). refusals_of (f.answers ++ l)) o.no_answers
+    ∙ ap refusals_of (append-nil f.answers)) ∙ ap refusals_of (sym (append-nil (f.answers ++ line.tells.answers)))
+
 moved_on : {F J : Type 0} (r : Cleaner F) (contents : J → Option (List ℕ)) (next : J → ℕ) (old now new : Filed F J)
     (steps : List Step) (step : Step) (start known left : Option (List ℕ)) (text after : List ℕ)
     (f : IsFiling r contents next old now steps start (append_known known text))
     (line : FilesLine r contents next now new step.session step.cred step.act text after)
     → Keeps (append_known known after) left → now.is_open ≡ true
-    → IsHandedOut r.state contents next (record now { volume = line.middle }) new
-    ⊎ IsShut (record now { volume = line.middle }) new
+    → IsHandedOut r.state contents next (record now { volume = line.middle; refusals = line.counts }) new
+    ⊎ IsShut (record now { volume = line.middle; refusals = line.counts }) new
     → IsFiling r contents next old new (steps ++ step ∷ []) start left
 moved_on r contents next old now new steps step start known left text after f line keeps taking (inl out) =
     let o = f.opened taking in
-    filing_handed r contents next old now new (steps ++ step ∷ []) line.middle f.handed _ _ start left taking f.counted
+    filing_handed r contents next old now new (steps ++ step ∷ []) line.middle f.handed _ _ line.counts start left taking
+    f.counted (counted_more r contents next old now new steps step start (append_known known text) text after f line o)
     o.taken (grown r contents next old now steps step start known left text after f line.middle line.tells o keeps) out
 moved_on r contents next old now new steps step start known left text after f line keeps taking (inr is) =
     let o = f.opened taking in
-    filing_shut r contents next old now new (steps ++ step ∷ []) line.middle f.handed _ _ start left f.counted
+    filing_shut r contents next old now new (steps ++ step ∷ []) line.middle f.handed _ _ line.counts start left f.counted
+    (counted_more r contents next old now new steps step start (append_known known text) text after f line o)
     (grown r contents next old now steps step start known left text after f line.middle line.tells o keeps) is
 
 filed_so : {F J : Type 0} (r : Cleaner F) (contents : J → Option (List ℕ)) (next : J → ℕ) (old now new : Filed F J)
@@ -401,7 +426,8 @@ filed_so r contents next old now new steps step start known left text after true
 filed_so {F} {J} r contents next old now new steps step start known left text after false is f line keeps =
     subst (λ (n : Filed F J). IsFiling r contents next old n (steps ++ step ∷ []) start left)
     (sym (line.moves.stays is))
-    (filing_on r contents next old now steps step start known left text after line.middle is f line.tells keeps)
+    (filing_on r contents next old now steps step start known left text after line.middle line.counts is f line.tells
+    line.counted keeps)
 
 -- a further line was done, its answers' lines were collected, and perhaps a piece was written
 pub filing_more : {F J : Type 0} (r : Cleaner F) (contents : J → Option (List ℕ)) (next : J → ℕ)
@@ -427,11 +453,20 @@ opened_so state contents next now new true is moves opened = is
 opened_so {F} {J} state contents next now new false is moves opened =
     sym (ap (λ (f : Filed F J). f.is_open) (moves.stays is)) ∙ opened
 
+-- what a line of a plan asks for was done, and what it entered moved on
+pub files_line : {F J : Type 0} (r : Cleaner F) (contents : J → Option (List ℕ)) (next : J → ℕ) (old new : Filed F J)
+    (session : ℕ) (caller : Caller) (act : Act) (text after : List ℕ) (middle : Seen F) (counts : Refusals)
+    → CountsLine r old.volume middle old.refusals counts session caller act text after
+    → MovesOn r.state contents next (record old { volume = middle; refusals = counts }) new
+    → FilesLine r contents next old new session caller act text after
+files_line r contents next old new session caller act text after middle counts line moves =
+    record { middle = middle; counts = counts; tells = line.tells; counted = line.counted; moves = moves }
+
 pub was_open : {F J : Type 0} (r : Cleaner F) (contents : J → Option (List ℕ)) (next : J → ℕ) (now new : Filed F J)
     (session : ℕ) (caller : Caller) (act : Act) (text after : List ℕ)
     → FilesLine r contents next now new session caller act text after → new.is_open ≡ true → now.is_open ≡ true
 was_open r contents next now new session caller act text after line opened =
-    opened_so r.state contents next (record now { volume = line.middle }) new now.is_open refl line.moves opened
+    opened_so r.state contents next (record now { volume = line.middle; refusals = line.counts }) new now.is_open refl line.moves opened
 
 -- ---- the whole run
 
@@ -481,8 +516,9 @@ pub filed_run : {F J : Type 0} (r : Cleaner F) (contents : J → Option (List �
     → Since (r.state now.volume.since) now.volume.since_level
     (λ from. IsLegal (r.state now.volume.store).shape.numbers (r.state now.volume.store).shape.segments
     now.volume.journal from)
-    → ((handed : List Entry) → now.told ≡ counts_of handed
-    → Appends (append_known known text) left (report_text (handed ++ now.volume.journal)))
+    → ((handed : List Entry) (answers : List StepAnswer) → now.told ≡ counts_of handed
+    → now.refusals ≡ refusals_of answers
+    → Appends (append_known known text) left (run_report (handed ++ now.volume.journal) answers))
     → (all : List ℕ) × (entries : List Entry)
     × IsFiledRun r (Begins (r.state old.volume.since) old.volume.since_level) old.volume.store steps now.is_open
     entries all × Appends start left all × (now.is_open ≡ true → Takes contents next old.sink now.sink entries)
@@ -497,10 +533,11 @@ filed_run {F} {J} r contents next old now steps start known left text begun f le
     f.ran.entered ∙ ap (λ (l : List Entry). f.middle.journal ++ l) none ∙ append-nil f.middle.journal in
     let whole : entries ≡ f.handed ++ now.volume.journal =
     f.entered ∙ ap (λ (l : List Entry). f.handed ++ l) (sym still) in
-    let report : Appends (append_known known text) left (report_text entries) =
-    subst (λ (l : List Entry). Appends (append_known known text) left (report_text l)) (sym whole)
-    (reported f.handed f.counted) in (
-      lines ++ report_text entries,
+    let all = f.answers ++ f.refusals in
+    let report : Appends (append_known known text) left (run_report entries all) =
+    subst (λ (l : List Entry). Appends (append_known known text) left (run_report l all)) (sym whole)
+    (reported f.handed all f.counted f.refused_so) in (
+      lines ++ run_report entries all,
       entries,
       record {
         first = f.first;
@@ -529,7 +566,7 @@ filed_run {F} {J} r contents next old now steps start known left text begun f le
             now.volume.since_level f.ran.since f.ran.since_level leads.1))));
         printed = refl;
       },
-      Appends-trans start (append_known known text) left lines (report_text entries) f.printed report,
+      Appends-trans start (append_known known text) left lines (run_report entries all) f.printed report,
       λ is.
           let taking = f.opened is in
           subst (λ (l : List Entry). Takes contents next old.sink now.sink l)
@@ -544,6 +581,7 @@ handed_out old sink = record {
   volume = drained old.volume;
   sink = sink;
   told = counts_sum old.told (counts_of old.volume.journal);
+  refusals = old.refusals;
   is_open = old.is_open;
 }
 

@@ -15,7 +15,8 @@ use Rattle.lfs_model.specs.declared.journal.Entry.{Entry}
 use Rattle.lfs_model.specs.declared.steps.Step.{Step as Made}
 use Rattle.lfs_model.specs.declared.steps.StepAnswer.{StepAnswer}
 use Rattle.lfs_model.specs.declared.steps.StepAnswer.TheVariants as told
-use Rattle.lfs_model.specs.Runs.{kept_step, kept_steps, kind_of}
+use Rattle.lfs_model.specs.Cleaning.{kind_of}
+use Rattle.lfs_model.specs.Runs.{act_of, kept_step, kept_steps}
 use Rattle.lfs_model.specs.Steps.{IsLegal}
 use Rattle.lfs_calls.specs.Volumes.{IsVolume}
 use Rattle.lfs_cleaner.specs.Passing.{Steps, calls_left}
@@ -23,6 +24,9 @@ use Rattle.lfs_cleaner.specs.declared.pass.Pass.{Pass}
 use Rattle.lfs_print.specs.AnswerText.{answer_line}
 use Rattle.lfs_print.specs.CleanerText.{cleaner_line}
 use Rattle.lfs_print.specs.ReportText.{report_text}
+use Rattle.lfs_sinks.specs.Refusals.{AddsUp, refusals_of, refusals_text, run_report}
+use Rattle.lfs_sinks.specs.declared.refusals.Refusals.{Refusals}
+use Rattle.lfs_sinks.proofs.RefusalLemmas.{adds_joined, adds_none}
 use Rattle.lfs_script.specs.declared.plan.Act.TheVariants as plan
 use Rattle.lfs_script.specs.declared.plan.Step.{Step}
 use Rattle.lfs_types.specs.declared.level.Level.{Level}
@@ -31,17 +35,18 @@ use Rattle.lfs_volume.specs.Journals.{AtPresent, Begins, Since}
 use Rattle.lfs_volume.specs.Seen.{Seen}
 use Rattle.lfs_volume.specs.StepRuns.{AreSteps, IsActMade}
 use Rattle.lfs_audit.specs.Output.{IsRun}
-use Rattle.lfs_audit.specs.Runs.{AreAsked, TellsCleaning, IsAsked, Passes, Runs, TellsLine, WritesLines, call_line}
+use Rattle.lfs_audit.specs.Runs.{AreAsked, CountsLine, TellsCleaning, IsAsked, Passes, Runs, TellsLine, WritesLines, call_line}
 use Rattle.lfs_audit.specs.Runs.{call_step, cleaning_step, first_pass, lines_text}
 
--- a volume became this one by the steps of a pass so far, which stands there, told this answer, and the lines were
--- added to a text
-pub record IsPassing {F : Type 0} (r : Cleaner F) (old new : Seen F) (session : ℕ) (caller : Caller) (pass : Pass)
-    (last : Option CleanerAnswer) (before after : List ℕ) : Type 0 where
+-- a volume became this one by the steps of a pass so far, which stands there, told this answer; the answers were
+-- counted, and the lines added to a text
+pub record IsPassing {F : Type 0} (r : Cleaner F) (old new : Seen F) (counts then : Refusals) (session : ℕ)
+    (caller : Caller) (pass : Pass) (last : Option CleanerAnswer) (before after : List ℕ) : Type 0 where
   pub made : List Made
   pub answers : List StepAnswer
   pub makes : Passes session caller first_pass None made answers pass last
   pub ran : Runs r old new made answers
+  pub counted : AddsUp counts then answers
   pub printed : after ≡ before ++ lines_text made answers
   pub few : length made + calls_left pass ≤ 105
 
@@ -173,31 +178,37 @@ text-joined before middle after lines more all first then joined =
 -- ---- a line of a plan
 
 -- a user's call was made
-pub call_tells : {F : Type 0} (r : Cleaner F) (old new : Seen F) (session : ℕ) (caller : Caller) (request : Request)
-    (answer : Answer) (before after : List ℕ)
-    → Runs r old new (call_step session caller request ∷ []) (told.User answer ∷ []) → after ≡ before
-    ++ answer_line session answer
-    → TellsLine r old new session caller (plan.User request) before after
-call_tells r old new session caller request answer before after ran printed = record {
-  made = call_step session caller request ∷ [];
-  answers = told.User answer ∷ [];
-  asked = (told.User answer, refl, refl);
-  ran = ran;
-  printed = printed ∙ ap (λ (l : List ℕ). before ++ l) (sym (append-nil (answer_line session answer)));
+pub call_tells : {F : Type 0} (r : Cleaner F) (old new : Seen F) (counts then : Refusals) (session : ℕ)
+    (caller : Caller) (request : Request) (answer : Answer) (before after : List ℕ)
+    → Runs r old new (call_step session caller request ∷ []) (told.User answer ∷ [])
+    → AddsUp counts then (told.User answer ∷ []) → after ≡ before ++ answer_line session answer
+    → CountsLine r old new counts then session caller (plan.User request) before after
+call_tells r old new counts then session caller request answer before after ran counted printed = record {
+  tells = record {
+    made = call_step session caller request ∷ [];
+    answers = told.User answer ∷ [];
+    asked = (told.User answer, refl, refl);
+    ran = ran;
+    printed = printed ∙ ap (λ (l : List ℕ). before ++ l) (sym (append-nil (answer_line session answer)));
+  };
+  counted = counted;
 }
 
 -- a call of the cleaner was made
-pub cleaning_tells : {F : Type 0} (r : Cleaner F) (old new : Seen F) (session : ℕ) (caller : Caller)
-    (call : CleanerCall) (answer : CleanerAnswer) (before after : List ℕ)
-    → TellsCleaning r old new session caller call answer before after
-    → TellsLine r old new session caller (plan.Cleaner call) before after
-cleaning_tells r old new session caller call answer before after cleans = record {
-  made = cleaning_step session caller call ∷ [];
-  answers = told.Cleaner answer ∷ [];
-  asked = (told.Cleaner answer, refl, refl);
-  ran = cleans.ran;
-  printed = cleans.printed ∙ ap (λ (l : List ℕ). before ++ l)
-      (sym (append-nil (cleaner_line session (kind_of call) answer)));
+pub cleaning_tells : {F : Type 0} (r : Cleaner F) (old new : Seen F) (counts then : Refusals) (session : ℕ)
+    (caller : Caller) (call : CleanerCall) (answer : CleanerAnswer) (before after : List ℕ)
+    → TellsCleaning r old new counts then session caller call answer before after
+    → CountsLine r old new counts then session caller (plan.Cleaner call) before after
+cleaning_tells r old new counts then session caller call answer before after cleans = record {
+  tells = record {
+    made = cleaning_step session caller call ∷ [];
+    answers = told.Cleaner answer ∷ [];
+    asked = (told.Cleaner answer, refl, refl);
+    ran = cleans.ran;
+    printed = cleans.printed ∙ ap (λ (l : List ℕ). before ++ l)
+        (sym (append-nil (cleaner_line session (kind_of (act_of call)) answer)));
+  };
+  counted = cleans.counted;
 }
 
 -- ---- a pass
@@ -232,43 +243,69 @@ passes-more session caller pass last (s ∷ made) (a ∷ answers) then latest ca
 )
 
 -- a pass begins
-pub pass_begins : {F : Type 0} (r : Cleaner F) (v : Seen F) (session : ℕ) (caller : Caller) (pass : Pass)
-    (last : Option CleanerAnswer) (text : List ℕ)
-    → pass ≡ first_pass → last ≡ None → calls_left pass ≡ 105 → IsPassing r v v session caller pass last text text
-pass_begins r v session caller pass last text ready none left = record {
+pub pass_begins : {F : Type 0} (r : Cleaner F) (v : Seen F) (counts : Refusals) (session : ℕ) (caller : Caller)
+    (pass : Pass) (last : Option CleanerAnswer) (text : List ℕ) → pass ≡ first_pass → last ≡ None
+    → calls_left pass ≡ 105 → IsPassing r v v counts counts session caller pass last text text
+pass_begins r v counts session caller pass last text ready none left = record {
   made = [];
   answers = [];
   makes = (ready, none);
   ran = runs_none r v;
+  counted = adds_none counts;
   printed = sym (append-nil text);
   few = omega (arith, left);
 }
 
 -- a pass goes on by one call
-pub pass_goes_on : {F : Type 0} (r : Cleaner F) (old middle new : Seen F) (session : ℕ) (caller : Caller) (pass : Pass)
-    (last : Option CleanerAnswer)
+pub pass_goes_on : {F : Type 0} (r : Cleaner F) (old middle new : Seen F) (counts between then : Refusals)
+    (session : ℕ) (caller : Caller) (pass : Pass) (last : Option CleanerAnswer)
     (call : CleanerCall) (answer : CleanerAnswer) (next : Pass) (before text after : List ℕ)
-    → IsPassing r old middle session caller pass last before text → Steps pass last (Some call) next
+    → IsPassing r old middle counts between session caller pass last before text → Steps pass last (Some call) next
     → calls_left next < calls_left pass
-    → TellsCleaning r middle new session caller call answer text after
-    → IsPassing r old new session caller next (Some answer) before after
+    → TellsCleaning r middle new between then session caller call answer text after
+    → IsPassing r old new counts then session caller next (Some answer) before after
 unfolding cleaning_tells
-pass_goes_on r old middle new session caller pass last call answer next before text after passing steps fewer cleans =
+pass_goes_on r old middle new counts between then session caller pass last call answer next before text after passing
+    steps fewer cleans =
     let one = cleaning_step session caller call ∷ [] in
     let given = told.Cleaner answer ∷ [] in
-    let line = cleaning_tells r middle new session caller call answer text after cleans in
+    let line = (cleaning_tells r middle new between then session caller call answer text after cleans).tells in
     record {
       made = passing.made ++ one;
       answers = passing.answers ++ given;
       makes = passes-more session caller first_pass None passing.made passing.answers pass last call answer next
           passing.makes steps;
       ran = runs_joined r old middle new passing.made passing.answers one given passing.ran cleans.ran;
+      counted = adds_joined counts between then passing.answers given passing.counted cleans.counted;
       printed = text-joined before text after (lines_text passing.made passing.answers) (lines_text one given)
           (lines_text (passing.made ++ one) (passing.answers ++ given)) passing.printed line.printed
           (lines_of_runs r old middle passing.made passing.answers one given passing.ran);
       few = let count : length (passing.made ++ one) ≡ length passing.made
           + 1 = length-append passing.made one in omega (arith, count, passing.few, fewer);
     }
+
+-- a pass makes no further call
+pub pass_ends : {F : Type 0} (r : Cleaner F) (old new : Seen F) (counts then : Refusals) (session : ℕ)
+    (caller : Caller) (pass : Pass) (last : Option CleanerAnswer) (after : Pass) (before text : List ℕ)
+    → IsPassing r old new counts then session caller pass last before text → Steps pass last None after
+    → CountsLine r old new counts then session caller plan.Pass before text
+pass_ends r old new counts then session caller pass last after before text passing steps = record {
+  tells = record {
+    made = passing.made;
+    answers = passing.answers;
+    asked = record {
+      pass = pass;
+      last = last;
+      after = after;
+      makes = passing.makes;
+      ends = steps;
+      few = let few = passing.few in omega (arith, few);
+    };
+    ran = passing.ran;
+    printed = passing.printed;
+  };
+  counted = passing.counted;
+}
 
 -- ---- the lines of a plan
 
@@ -308,22 +345,25 @@ collected (Some x) (Some y) old new lines line p grown =
     rw grown (sym (append_assoc y old line) ∙ ap (λ (xs : List ℕ). xs ++ line) p ∙ append_assoc x lines line)
 
 -- no line was done
-pub writes_none : {F : Type 0} (r : Cleaner F) (v : Seen F) (start : Option (List ℕ)) → WritesLines r v v [] start start
-writes_none r v start = record {
+pub writes_none : {F : Type 0} (r : Cleaner F) (v : Seen F) (counts : Refusals) (start : Option (List ℕ))
+    → WritesLines r v v counts counts [] start start
+writes_none r v counts start = record {
   made = [];
   answers = [];
   asked = (refl, refl);
   ran = runs_none r v;
+  counted = adds_none counts;
   printed = Appends-nil start;
 }
 
 -- a further line was done, its answers' lines were collected, and perhaps a piece was written
-pub writes_more : {F : Type 0} (r : Cleaner F) (old middle new : Seen F) (steps : List Step) (step : Step)
-    (start known left : Option (List ℕ)) (text after : List ℕ)
-    → WritesLines r old middle steps start (append_known known text)
-    → TellsLine r middle new step.session step.cred step.act text after
-    → Keeps (append_known known after) left → WritesLines r old new (steps ++ step ∷ []) start left
-writes_more r old middle new steps step start known left text after writes tells keeps =
+pub writes_more : {F : Type 0} (r : Cleaner F) (old middle new : Seen F) (counts between then : Refusals)
+    (steps : List Step) (step : Step) (start known left : Option (List ℕ)) (text after : List ℕ)
+    → WritesLines r old middle counts between steps start (append_known known text)
+    → CountsLine r middle new between then step.session step.cred step.act text after
+    → Keeps (append_known known after) left → WritesLines r old new counts then (steps ++ step ∷ []) start left
+writes_more r old middle new counts between then steps step start known left text after writes line keeps =
+    let tells = line.tells in
     let lines = lines_text writes.made writes.answers in
     let more = lines_text tells.made tells.answers in
     let grown : Appends start (append_known known after) (lines ++ more) =
@@ -334,6 +374,7 @@ writes_more r old middle new steps step start known left text after writes tells
       answers = writes.answers ++ tells.answers;
       asked = asked-more steps writes.made writes.answers step tells.made tells.answers writes.asked tells.asked;
       ran = runs_joined r old middle new writes.made writes.answers tells.made tells.answers writes.ran tells.ran;
+      counted = adds_joined counts between then writes.answers tells.answers writes.counted line.counted;
       printed = subst (λ (l : List ℕ). Appends start left l) (sym joined)
           (Appends-kept start (append_known known after) left (lines ++ more) grown keeps);
     }
@@ -346,14 +387,20 @@ on_ok (Ok a) x next = next x
 on_ok (Err e) x next = tt
 
 -- what is known to be written grows by what was collected and by the report
-pub report_written : (journal : List Entry) (start written left : Option (List ℕ)) (text whole out : List ℕ) → whole
-    ≡ text ++ report_text journal → out ≡ whole
-    → Appends start written out → Keeps written left → Appends (append_known start text) left (report_text journal)
-report_written journal None written left text whole out grown is w k = tt
-report_written journal (Some x) None left text whole out grown is w k = absurd w
-report_written journal (Some x) (Some y) None text whole out grown is w k = absurd k
-report_written journal (Some x) (Some y) (Some v) text whole out grown is w k =
-    k ∙ w ∙ ap (λ (xs : List ℕ). x ++ xs) (is ∙ grown) ∙ sym (append_assoc x text (report_text journal))
+pub report_written : (report : List ℕ) (start written left : Option (List ℕ)) (text whole out : List ℕ)
+    → whole ≡ text ++ report → out ≡ whole → Appends start written out → Keeps written left
+    → Appends (append_known start text) left report
+report_written report None written left text whole out grown is w k = tt
+report_written report (Some x) None left text whole out grown is w k = absurd w
+report_written report (Some x) (Some y) None text whole out grown is w k = absurd k
+report_written report (Some x) (Some y) (Some v) text whole out grown is w k =
+    k ∙ w ∙ ap (λ (xs : List ℕ). x ++ xs) (is ∙ grown) ∙ sym (append_assoc x text report)
+
+-- a text with two further parts at its end
+pub report_joined : (text middle whole first then : List ℕ) → middle ≡ text ++ first → whole ≡ middle ++ then
+    → whole ≡ text ++ (first ++ then)
+report_joined text middle whole first then is grown =
+    grown ∙ ap (λ (l : List ℕ). l ++ then) is ∙ append_assoc text first then
 
 -- nothing is collected first
 pub from_start : (start left : Option (List ℕ)) (text : List ℕ) → Appends (append_known start []) left text
@@ -403,15 +450,16 @@ run_begun r these those limit store steps text within run = record {
 }
 
 -- the lines of a plan were done on a volume without entries, and all is written
-pub whole_run : {F : Type 0} (r : Cleaner F) (old new : Seen F) (steps : List Step) (empty text : List ℕ)
-    (start known left : Option (List ℕ))
-    → old.journal ≡ [] → WritesLines r old new steps (append_known start empty) (append_known known text) → empty ≡ []
+pub whole_run : {F : Type 0} (r : Cleaner F) (old new : Seen F) (counts then : Refusals) (steps : List Step)
+    (empty text : List ℕ) (start known left : Option (List ℕ))
+    → old.journal ≡ [] → counts ≡ refusals_of []
+    → WritesLines r old new counts then steps (append_known start empty) (append_known known text) → empty ≡ []
     → Since (r.state new.since) new.since_level
     (λ from. IsLegal (r.state new.store).shape.numbers (r.state new.store).shape.segments new.journal from)
-    × Appends (append_known known text) left (report_text new.journal)
+    × Appends (append_known known text) left (report_text new.journal ++ refusals_text then)
     → (all : List ℕ) × IsRun r (Begins (r.state old.since) old.since_level) old.limit old.store steps all
     × Appends start left all
-whole_run {F} r old new steps empty text start known left none writes nothing (lawful, reported) =
+whole_run {F} r old new counts then steps empty text start known left none fresh writes nothing (lawful, reported) =
     let made = writes.made in
     let answers = writes.answers in
     let lines = lines_text made answers in
@@ -419,9 +467,12 @@ whole_run {F} r old new steps empty text start known left none writes nothing (l
     ∙ ap (λ (j : List Entry). j ++ kept_steps made answers) none in
     let from_empty : Appends (append_known start []) (append_known known text) lines =
     subst (λ (e : List ℕ). Appends (append_known start e) (append_known known text) lines) nothing writes.printed in
-    let report : Appends (append_known known text) left (report_text (kept_steps made answers)) =
-    subst (λ (j : List Entry). Appends (append_known known text) left (report_text j)) entries reported in (
-      lines ++ report_text (kept_steps made answers),
+    let all = run_report (kept_steps made answers) answers in
+    let report : Appends (append_known known text) left all =
+    subst (λ (j : List Entry). Appends (append_known known text) left (run_report j answers)) entries
+    (subst (λ (c : Refusals). Appends (append_known known text) left (report_text new.journal ++ refusals_text c))
+    (writes.counted [] fresh) reported) in (
+      lines ++ all,
       record {
         made = made;
         answers = answers;
@@ -431,7 +482,6 @@ whole_run {F} r old new steps empty text start known left none writes nothing (l
         legal = begun_legal r old new made answers none writes.ran lawful;
         printed = refl;
       },
-      from_start start left (lines ++ report_text (kept_steps made answers))
-          (Appends-trans (append_known start []) (append_known known text) left lines
-          (report_text (kept_steps made answers)) from_empty report),
+      from_start start left (lines ++ all)
+          (Appends-trans (append_known start []) (append_known known text) left lines all from_empty report),
     )

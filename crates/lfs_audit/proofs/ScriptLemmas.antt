@@ -8,7 +8,8 @@ use Rattle.lfs_types.specs.declared.level.Level.{Level}
 use Rattle.lfs_model.specs.Steps.{IsLegal}
 use Rattle.lfs_model.specs.declared.journal.Entry.{Entry}
 use Rattle.lfs_model.specs.declared.steps.Step.{Step as Made}
-use Rattle.lfs_print.specs.ReportText.{report_text}
+use Rattle.lfs_model.specs.declared.steps.StepAnswer.{StepAnswer}
+use Rattle.lfs_sinks.specs.Refusals.{run_report}
 use Rattle.lfs_staging.specs.declared.parts.Parts.{Parts}
 use Rattle.lfs_script.specs.PlanTypes.{Planned}
 use Rattle.lfs_script.specs.declared.plan.Step.{Step}
@@ -75,9 +76,12 @@ unfiled_run {F} r begins store steps is_whole entries text limit whole less run 
       legal = λ from begun. subst (λ (l : List Entry). IsLegal (r.state store).shape.numbers
           (r.state store).shape.segments l from) run.entered (run.legal from begun);
       printed = run.printed
-          ∙ ap (λ (m : List Made). (lines ++ lines_text m run.refusals) ++ report_text entries) calls.0
-          ∙ ap (λ (l : List ℕ). l ++ report_text entries) (append-nil lines)
-          ∙ ap (λ (l : List Entry). lines ++ report_text l) run.entered;
+          ∙ ap (λ (m : List Made). (lines ++ lines_text m run.refusals)
+          ++ run_report entries (run.answers ++ run.refusals)) calls.0
+          ∙ ap (λ (l : List ℕ). l ++ run_report entries (run.answers ++ run.refusals)) (append-nil lines)
+          ∙ ap (λ (a : List StepAnswer). lines ++ run_report entries (run.answers ++ a)) calls.1
+          ∙ ap (λ (a : List StepAnswer). lines ++ run_report entries a) (append-nil run.answers)
+          ∙ ap (λ (l : List Entry). lines ++ run_report l run.answers) run.entered;
     }
 
 -- a run that began in one of these worlds began in one of those

@@ -3,10 +3,10 @@ use Rattle.std.proofs.Common.{Result, Err, IfErr, OnOk, ◌≡◌, ℕ, zero, su
 use Rattle.std.proofs.Common.{◌++◌, length, map, take, get_or, Option, IfSome, Ok, refl, sym, ap, subst, ◌∙◌, arith}
 use Rattle.std.proofs.Common.{append_assoc, append-nil, false}
 use Rattle.std.proofs.lemmas.Grind.{flat_map-append}
-use Rattle.std.proofs.lemmas.List.{length-map, take_more}
+use Rattle.std.proofs.lemmas.List.{length-map, take_all, take_more}
 use Rattle.std.specs.Io.KnownBytes.{Appends, Keeps, append_known}
 use Rattle.std.specs.Global.{Vec}
-use Rattle.std.specs.List.{list_any, slice_get}
+use Rattle.std.specs.List.{flat_map, list_any, slice_get}
 use Rattle.std.proofs.KnownBytes.{Appends-kept, Appends-trans}
 use Rattle.lfs_types.specs.Caller.{Caller}
 use Rattle.lfs_types.specs.StoreStates.{Shape}
@@ -16,15 +16,21 @@ use Rattle.lfs_types.specs.declared.request.Request.{Request}
 use Rattle.lfs_logstore.specs.States.{shape_of}
 use Rattle.lfs_model.specs.Steps.{IsLegal}
 use Rattle.lfs_model.specs.declared.journal.Entry.{Entry}
+use Rattle.lfs_model.specs.declared.steps.StepAnswer.{StepAnswer}
+use Rattle.lfs_model.specs.declared.steps.StepAnswer.TheVariants.{User}
 use Rattle.lfs_settle.specs.Interleaving.{Agrees, IsInterleaving, Run, is_full, later_entries, run_of}
 use Rattle.lfs_print.specs.AnswerText.{answer_line}
 use Rattle.lfs_script.specs.PlanTypes.{Planned}
 use Rattle.lfs_print.specs.ReportText.{report_text}
+use Rattle.lfs_sinks.specs.Refusals.{AddsUp, refusals_of, refusals_text, run_report}
+use Rattle.lfs_sinks.specs.declared.refusals.Refusals.{Refusals}
+use Rattle.lfs_sinks.proofs.RefusalLemmas.{adds_joined}
 use Rattle.lfs_script.specs.Splitting.{Sorts, is_of_cleaner}
 use Rattle.lfs_audit.specs.Faults.{IsRead}
 use Rattle.lfs_audit.specs.FiledRuns.{IsFiledThreads}
 use Rattle.lfs_audit.specs.declared.fault.ThreadsFault.{ThreadsFault}
-use Rattle.lfs_audit.specs.Threads.{IsClosedText, IsSplit, IsThreadsOutput, MayHaveWrittenThreads, closed_text}
+use Rattle.lfs_audit.specs.Threads.{IsClosedText, IsSplit, IsThreadsOutput, MayHaveWrittenThreads, answers_of}
+use Rattle.lfs_audit.specs.Threads.{closed_text}
 use Rattle.lfs_audit.specs.Threads.{transcript_text, transcripts_text}
 use Rattle.lfs_audit.proofs.FaultLemmas.{if_some}
 use Rattle.lfs_audit.proofs.RunLemmas.{collected, from_start}
@@ -108,19 +114,64 @@ vectors_grow transcripts k transcript told start known left lt here tells printe
     transcripts_grow lists k told start known left within (item-answers transcripts k transcript lt here
     ∙ sym tells) printed then
 
+-- the answers of the setup were counted
+pub adds_setup : (none new : Refusals) (setup : List Answer) → none ≡ refusals_of [] → AddsUp none new (map User setup)
+    → AddsUp (refusals_of []) new (answers_of setup [])
+adds_setup none new setup is adds =
+    subst (λ (l : List StepAnswer). AddsUp (refusals_of []) new l) (sym (append-nil (map User setup)))
+    (subst (λ (n : Refusals). AddsUp n new (map User setup)) is adds)
+
+-- those of all sessions were counted
+pub adds_transcripts : (new : Refusals) (setup : List Answer) (transcripts : List (Vec Answer)) (k : ℕ)
+    → length transcripts ≤ k
+    → AddsUp (refusals_of []) new (answers_of setup (take k (map (λ (t : Vec Answer). t.items) transcripts)))
+    → new ≡ refusals_of (answers_of setup (map (λ (t : Vec Answer). t.items) transcripts))
+adds_transcripts new setup transcripts k le adds =
+    let lists = map (λ (t : Vec Answer). t.items) transcripts in
+    let within : length lists ≤ k = subst (λ (n : ℕ). n ≤ k)
+    (sym (length-map transcripts (λ (t : Vec Answer). t.items))) le in
+    adds [] refl ∙ ap (λ (l : List (List Answer)). refusals_of (answers_of setup l)) (take_all k lists within)
+
+-- the answers to a further session's calls were counted
+pub adds_transcript : (old middle new : Refusals) (setup told : List Answer) (transcripts : List (Vec Answer)) (k : ℕ)
+    (transcript : Vec Answer) → k < length transcripts → get_or transcripts k transcript ≡ transcript
+    → told ≡ transcript.items
+    → AddsUp old middle (answers_of setup (take k (map (λ (t : Vec Answer). t.items) transcripts)))
+    → AddsUp middle new (map User told)
+    → AddsUp old new (answers_of setup (take (k + 1) (map (λ (t : Vec Answer). t.items) transcripts)))
+adds_transcript old middle new setup told transcripts k transcript lt here tells before one =
+    let lists = map (λ (t : Vec Answer). t.items) transcripts in
+    let within : k < length lists = subst (λ (n : ℕ). k < n)
+    (sym (length-map transcripts (λ (t : Vec Answer). t.items))) lt in
+    let last : get_or lists k [] ≡ told = item-answers transcripts k transcript lt here ∙ sym tells in
+    let so_far = take k lists in
+    let all : answers_of setup (take (k + 1) lists) ≡ answers_of setup so_far ++ map User told =
+    ap (answers_of setup) (take_more lists k [] within)
+    ∙ ap (λ (l : List StepAnswer). map User setup ++ l)
+    (flat_map-append (map User) so_far (get_or lists k [] ∷ [])
+    ∙ ap (λ (l : List StepAnswer). flat_map (map User) so_far ++ l) (append-nil (map User (get_or lists k []))))
+    ∙ sym (append_assoc (map User setup) (flat_map (map User) so_far) (map User (get_or lists k [])))
+    ∙ ap (λ (l : List Answer). answers_of setup so_far ++ map User l) last in
+    subst (λ (l : List StepAnswer). AddsUp old new l) (sym all)
+    (adds_joined old middle new (answers_of setup so_far) (map User told) before one)
+
 -- the setup's lines, those of the sessions and the report are all written
 pub closed_written : (journal : List Entry) (setup told : List Answer) (transcripts : List (List Answer))
-    (start known more left : Option (List ℕ)) (empty text after : List ℕ) (first : ℕ)
+    (counts : Refusals) (start known more left : Option (List ℕ)) (empty text after : List ℕ) (first : ℕ)
     → told ≡ setup → empty ≡ [] → Appends (append_known start empty) (append_known known text)
     (transcript_text first told) → first ≡ 0
     → Appends (append_known known text) (append_known more after) (transcripts_text 1 transcripts)
-    → Appends (append_known more after) left (report_text journal)
+    → counts ≡ refusals_of (answers_of setup transcripts)
+    → Appends (append_known more after) left (report_text journal ++ refusals_text counts)
     → Appends start left (closed_text journal setup transcripts)
-closed_written journal setup told transcripts start known more left empty text after first tells nothing printed
-    is_first then last =
+closed_written journal setup told transcripts counts start known more left empty text after first tells nothing printed
+    is_first then counted last =
     let a = transcript_text 0 setup in
     let b = transcripts_text 1 transcripts in
-    let report = report_text journal in
+    let report = run_report journal (answers_of setup transcripts) in
+    let told_last : Appends (append_known more after) left report =
+    subst (λ (c : Refusals). Appends (append_known more after) left (report_text journal ++ refusals_text c)) counted
+    last in
     let from_empty : Appends (append_known start []) (append_known known text) a =
     subst (λ (t : List Answer). Appends (append_known start []) (append_known known text) (transcript_text 0 t)) tells
     (subst (λ (e : List ℕ). Appends (append_known start e) (append_known known text) (transcript_text 0 told)) nothing
@@ -129,7 +180,7 @@ closed_written journal setup told transcripts start known more left empty text a
     let both : Appends (append_known start []) (append_known more after) (a ++ b) =
     Appends-trans (append_known start []) (append_known known text) (append_known more after) a b from_empty then in
     from_start start left (a ++ b ++ report)
-    (Appends-trans (append_known start []) (append_known more after) left (a ++ b) report both last)
+    (Appends-trans (append_known start []) (append_known more after) left (a ++ b) report both told_last)
 
 -- there are no more lists of answers than of calls where each agrees with its partner
 few-lists : (is_full : Bool) (entries : List Entry) (scripts : List (List (Caller × Request)))

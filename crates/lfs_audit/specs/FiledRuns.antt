@@ -9,8 +9,8 @@ use Rattle.lfs_model.specs.Steps.{IsLegal}
 use Rattle.lfs_script.specs.PlanTypes.{Planned}
 use Rattle.lfs_script.specs.declared.plan.Step.{Step}
 use Rattle.lfs_staging.specs.declared.parts.Parts.{Parts}
-use Rattle.lfs_print.specs.ReportText.{report_text}
 use Rattle.lfs_server.specs.Fresh.{IsFreshLog}
+use Rattle.lfs_sinks.specs.Refusals.{run_report}
 use Rattle.lfs_volume.specs.Cleanings.{Cleaner}
 use Rattle.lfs_volume.specs.StepRuns.{AreSteps}
 use Rattle.lfs_audit.specs.Faults.{IsRead}
@@ -21,7 +21,7 @@ use Rattle.lfs_audit.specs.Threads.{IsThreadsOutput}
 -- A text is that of a run of a plan on a volume over this store, whose journal began in such a world, and which entered
 -- these entries while a file took them. The first lines are answered as with any journal that has room for all of these
 -- entries. The rest, of which there is none where the file took all, is answered as with one that they fill: each call
--- is refused JournalFull. The report is over all of the entries.
+-- is refused JournalFull. The report is over all of the entries, and of all answers.
 pub record IsFiledRun {F : Type 0} (r : Cleaner F) (begins : World → Type 0) (store : F) (steps : List Step)
     (is_whole : Bool) (entries : List Entry) (text : List ℕ) : Type 0 where
   pub first : List Step
@@ -42,7 +42,8 @@ pub record IsFiledRun {F : Type 0} (r : Cleaner F) (begins : World → Type 0) (
   pub entered : entries ≡ kept_steps made answers
   pub legal : (from : World) → begins from
       → IsLegal (r.state store).shape.numbers (r.state store).shape.segments entries from
-  pub printed : text ≡ (lines_text made answers ++ lines_text refused refusals) ++ report_text entries
+  pub printed : text ≡ (lines_text made answers ++ lines_text refused refusals)
+      ++ run_report entries (answers ++ refusals)
 
 -- A text is that of a run of a script on a fresh volume over a log of so many segments, inode numbers and frames, whose
 -- entries these are. Where the file took all it is the text of a run without a file too, with any journal that has room.

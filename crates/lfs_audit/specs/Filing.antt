@@ -9,25 +9,29 @@ use Rattle.lfs_model.specs.declared.counts.Counts.{Counts}
 use Rattle.lfs_model.specs.declared.journal.Entry.{Entry}
 use Rattle.lfs_script.specs.declared.plan.Act.{Act}
 use Rattle.lfs_sinks.specs.Numbered.{numbered_text}
+use Rattle.lfs_sinks.specs.Refusals.{AddsUp, refusals_of}
 use Rattle.lfs_sinks.specs.Sums.{counts_sum}
+use Rattle.lfs_sinks.specs.declared.refusals.Refusals.{Refusals}
 use Rattle.lfs_volume.specs.Cleanings.{Cleaner}
 use Rattle.lfs_volume.specs.Journals.{Begins, HasBegun, Since}
 use Rattle.lfs_volume.specs.Seen.{Seen}
 use Rattle.lfs_audit.specs.Runs.{TellsLine}
 
--- a volume, the sink of its journal, how the calls of the entries that were handed out were answered, and whether the
--- sink takes more
+-- a volume, the sink of its journal, how the calls of the entries that were handed out were answered, how many calls were
+-- refused of which no entry tells, and whether the sink takes more
 pub record Filed (F J : Type 0) : Type 0 where
   pub volume : Seen F
   pub sink : J
   pub told : Counts
+  pub refusals : Refusals
   pub is_open : Bool
 
--- the sink takes entries, none was handed out, and the journal, which began at a tree, is empty and has room for what a
--- line may ask for
+-- the sink takes entries, none was handed out, no call was answered, and the journal, which began at a tree, is empty and
+-- has room for what a line may ask for
 pub record IsBegun {F J : Type 0} (state : F → StoreState) (filed : Filed F J) : Type 0 where
   pub opened : filed.is_open ≡ true
   pub untold : filed.told ≡ counts_of []
+  pub unrefused : filed.refusals ≡ refusals_of []
   pub empty : filed.volume.journal ≡ []
   pub room : 105 ≤ filed.volume.limit
   pub tree : HasBegun (state filed.volume.since) filed.volume.since_level
@@ -61,6 +65,7 @@ pub record IsHandedOut {F J : Type 0} (state : F → StoreState) (contents : J �
     volume = drained old.volume;
     sink = new.sink;
     told = counts_sum old.told (counts_of old.volume.journal);
+    refusals = old.refusals;
     is_open = old.is_open;
   }
   pub taken : Takes contents next old.sink new.sink old.volume.journal
@@ -76,9 +81,12 @@ pub record MovesOn {F J : Type 0} (state : F → StoreState) (contents : J → O
   pub opened : old.is_open ≡ true → IsHandedOut state contents next old new ⊎ IsShut old new
   pub stays : old.is_open ≡ false → new ≡ old
 
--- what a line of a plan asks for was done, the lines of its answers were added to a text, and what it entered moved on
+-- what a line of a plan asks for was done, its answers were counted, their lines were added to a text, and what it entered
+-- moved on
 pub record FilesLine {F J : Type 0} (r : Cleaner F) (contents : J → Option (List ℕ)) (next : J → ℕ)
     (old new : Filed F J) (session : ℕ) (caller : Caller) (act : Act) (before after : List ℕ) : Type 0 where
   pub middle : Seen F
+  pub counts : Refusals
   pub tells : TellsLine r old.volume middle session caller act before after
-  pub moves : MovesOn r.state contents next (record old { volume = middle }) new
+  pub counted : AddsUp old.refusals counts tells.answers
+  pub moves : MovesOn r.state contents next (record old { volume = middle; refusals = counts }) new

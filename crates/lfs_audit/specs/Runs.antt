@@ -10,7 +10,8 @@ use Rattle.lfs_model.specs.declared.steps.Act.TheVariants as acts
 use Rattle.lfs_model.specs.declared.steps.Step.{Step as Made}
 use Rattle.lfs_model.specs.declared.steps.StepAnswer.{StepAnswer}
 use Rattle.lfs_model.specs.declared.steps.StepAnswer.TheVariants as told
-use Rattle.lfs_model.specs.Runs.{kept_steps, kind_of}
+use Rattle.lfs_model.specs.Cleaning.{kind_of}
+use Rattle.lfs_model.specs.Runs.{act_of, kept_steps}
 use Rattle.lfs_cleaner.specs.Passing.{Steps}
 use Rattle.lfs_cleaner.specs.declared.pass.Pass.{Pass}
 use Rattle.lfs_cleaner.specs.declared.pass.Stage.TheVariants.{Ready}
@@ -22,6 +23,8 @@ use Rattle.lfs_script.specs.declared.plan.Step.{Step}
 use Rattle.lfs_volume.specs.Cleanings.{Cleaner}
 use Rattle.lfs_volume.specs.Journals.{Since}
 use Rattle.lfs_volume.specs.Seen.{Seen}
+use Rattle.lfs_sinks.specs.Refusals.{AddsUp}
+use Rattle.lfs_sinks.specs.declared.refusals.Refusals.{Refusals}
 use Rattle.lfs_volume.specs.StepRuns.{AreSteps}
 
 -- ---- lines
@@ -31,7 +34,7 @@ abbrev pub call_line : ℕ → Asked → StepAnswer → List ℕ
 call_line session (acts.User request) (told.User answer) = answer_line session answer
 call_line session (acts.User request) (told.Cleaner answer) = []
 call_line session (acts.Cleaner call) (told.User answer) = []
-call_line session (acts.Cleaner call) (told.Cleaner answer) = cleaner_line session (kind_of call) answer
+call_line session (acts.Cleaner call) (told.Cleaner answer) = cleaner_line session (kind_of (act_of call)) answer
 
 -- the lines of the answers to steps
 abbrev pub lines_text : List Made → List StepAnswer → List ℕ
@@ -106,11 +109,12 @@ pub record Runs {F : Type 0} (r : Cleaner F) (old new : Seen F) (made : List Mad
   pub since : new.since ≡ old.since
   pub since_level : new.since_level ≡ old.since_level
 
--- a volume became this one by a call of the cleaner, whose answer's line was added to a text
-pub record TellsCleaning {F : Type 0} (r : Cleaner F) (old new : Seen F) (session : ℕ) (caller : Caller)
-    (call : CleanerCall) (answer : CleanerAnswer) (before after : List ℕ) : Type 0 where
+-- a volume became this one by a call of the cleaner, whose answer was counted, and its line added to a text
+pub record TellsCleaning {F : Type 0} (r : Cleaner F) (old new : Seen F) (counts then : Refusals) (session : ℕ)
+    (caller : Caller) (call : CleanerCall) (answer : CleanerAnswer) (before after : List ℕ) : Type 0 where
   pub ran : Runs r old new (cleaning_step session caller call ∷ []) (told.Cleaner answer ∷ [])
-  pub printed : after ≡ before ++ cleaner_line session (kind_of call) answer
+  pub counted : AddsUp counts then (told.Cleaner answer ∷ [])
+  pub printed : after ≡ before ++ cleaner_line session (kind_of (act_of call)) answer
 
 -- a volume became this one by what a line of a plan asks for, and the lines of the answers were added to a text
 pub record TellsLine {F : Type 0} (r : Cleaner F) (old new : Seen F) (session : ℕ) (caller : Caller) (act : Act)
@@ -121,12 +125,19 @@ pub record TellsLine {F : Type 0} (r : Cleaner F) (old new : Seen F) (session : 
   pub ran : Runs r old new made answers
   pub printed : after ≡ before ++ lines_text made answers
 
--- a volume became this one by what the lines of a plan ask for, and what a writer is known to hold or to get became
--- longer by the lines of the answers
-pub record WritesLines {F : Type 0} (r : Cleaner F) (old new : Seen F) (steps : List Step)
+-- the same, and the answers were counted
+pub record CountsLine {F : Type 0} (r : Cleaner F) (old new : Seen F) (counts then : Refusals) (session : ℕ)
+    (caller : Caller) (act : Act) (before after : List ℕ) : Type 0 where
+  pub tells : TellsLine r old new session caller act before after
+  pub counted : AddsUp counts then tells.answers
+
+-- a volume became this one by what the lines of a plan ask for, the answers were counted, and what a writer is known to
+-- hold or to get became longer by their lines
+pub record WritesLines {F : Type 0} (r : Cleaner F) (old new : Seen F) (counts then : Refusals) (steps : List Step)
     (start known : Option (List ℕ)) : Type 0 where
   pub made : List Made
   pub answers : List StepAnswer
   pub asked : AreAsked steps made answers
   pub ran : Runs r old new made answers
+  pub counted : AddsUp counts then answers
   pub printed : Appends start known (lines_text made answers)

@@ -9,10 +9,12 @@ use Rattle.lfs_types.specs.declared.answer.Answer.{Answer}
 use Rattle.lfs_types.specs.declared.request.Request.{Request}
 use Rattle.lfs_model.specs.Steps.{IsLegal}
 use Rattle.lfs_model.specs.declared.journal.Entry.{Entry}
+use Rattle.lfs_model.specs.declared.steps.StepAnswer.{StepAnswer}
+use Rattle.lfs_model.specs.declared.steps.StepAnswer.TheVariants.{User}
 use Rattle.lfs_settle.specs.Interleaving.{IsInterleaving, Run}
 use Rattle.lfs_print.specs.AnswerText.{answer_line}
 use Rattle.lfs_script.specs.PlanTypes.{Planned}
-use Rattle.lfs_print.specs.ReportText.{report_text}
+use Rattle.lfs_sinks.specs.Refusals.{run_report}
 use Rattle.lfs_script.specs.Splitting.{Sorts, is_of_cleaner}
 use Rattle.lfs_server.specs.Serving.{IsInRange, IsServeFault}
 use Rattle.lfs_audit.specs.Faults.{IsRead, IsReadingFault, MayHaveWritten}
@@ -36,10 +38,15 @@ transcripts_text session [] = []
 transcripts_text session (answers ∷ transcripts) = transcript_text session answers
     ++ transcripts_text (session + 1) transcripts
 
+-- the answers to all calls of the setup and of the sessions
+abbrev pub answers_of : List Answer → List (List Answer) → List StepAnswer
+answers_of setup transcripts = map User setup ++ flat_map (map User) transcripts
+
 -- what is written of a run with this journal and these answers: the setup's lines, those of each session, and the
 -- report
 abbrev pub closed_text : List Entry → List Answer → List (List Answer) → List ℕ
-closed_text journal setup transcripts = transcript_text 0 setup ++ transcripts_text 1 transcripts ++ report_text journal
+closed_text journal setup transcripts =
+    transcript_text 0 setup ++ transcripts_text 1 transcripts ++ run_report journal (answers_of setup transcripts)
 
 -- a writer got the text of a run with this journal and these answers
 abbrev pub IsClosedText : List Entry → List Answer → List (Vec Answer) → Option (List ℕ) → Option (List ℕ) → Type 0

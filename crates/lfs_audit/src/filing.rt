@@ -5,7 +5,8 @@ ghost use Rattle.std.specs.Io.KnownBytes.{Appends, append_known};
 ghost use Rattle.std.specs.Vec.{vec_capacity};
 ghost use Rattle.lfs_model.specs.Counts.{counts_of};
 ghost use Rattle.lfs_model.specs.Steps.{IsLegal};
-ghost use Rattle.lfs_print.specs.ReportText.{report_text};
+ghost use Rattle.lfs_model.specs.declared.steps.StepAnswer.{StepAnswer};
+ghost use Rattle.lfs_sinks.specs.Refusals.{refusals_of, run_report};
 ghost use Rattle.lfs_sinks.specs.Sums.{counts_sum};
 ghost use Rattle.lfs_volume.specs.Cleanings.{cleaner_of};
 ghost use Rattle.lfs_volume.specs.Journals.{Begins, Since};
@@ -20,7 +21,7 @@ use lfs_io::tell::tell;
 use lfs_model::journal::Entry;
 use lfs_script::plan::Step;
 use lfs_sinks::sink::{JournalSink, SinkFault};
-use lfs_sinks::totals::{Totals, push_report};
+use lfs_sinks::totals::{Tally, push_report};
 use lfs_types::cleaned::CleanedStore;
 use lfs_types::store::FileStore;
 use lfs_volume::volume::Volume;
@@ -34,8 +35,8 @@ use std::marker::Model;
 pub struct FiledVolume<F: FileStore + Drop, J: Drop> {
     volume: Volume<F>,
     sink: J,
-    /// How the calls of the entries that were handed out were answered.
-    told: Totals,
+    /// How the calls of the entries that were handed out were answered, and how many had no entry.
+    tally: Tally,
     /// Whether the sink takes more.
     is_open: bool,
     /// Room for a journal, without entries.
@@ -53,7 +54,8 @@ impl<F: FileStore + Drop, J: Drop> Model for FiledVolume<F, J> {
     ghost view = { λ v. record {
       volume = v.volume;
       sink = v.sink;
-      told = v.told;
+      told = v.tally.totals;
+      refusals = v.tally.refusals;
       is_open = v.is_open;
     } };
 
@@ -68,12 +70,18 @@ impl<F: FileStore + Drop, J: JournalSink + Drop> FiledVolume<F, J> {
         sink: J,
         program: &'static str,
     ) -> FiledVolume<F, J>
-        ensures { result ≡ record { volume = volume; sink = sink; told = counts_of []; is_open = true } }
+        ensures { result ≡ record {
+          volume = volume;
+          sink = sink;
+          told = counts_of [];
+          refusals = refusals_of [];
+          is_open = true;
+        } }
     {
         FiledVolume {
             volume,
             sink,
-            told: Totals::none(),
+            tally: Tally::none(),
             is_open: true,
             spare: Vec::new(alloc),
             program,
@@ -126,17 +134,18 @@ impl<F: FileStore + Drop, J: JournalSink + Drop> FiledVolume<F, J> {
           volume = drained self.old.volume;
           sink = self.old.sink;
           told = counts_sum self.old.told (counts_of self.old.volume.journal);
+          refusals = self.old.refusals;
           is_open = self.old.is_open;
         }) }
         ensures leads { OnOk result (LeadsOn F.state self.old.volume self.new.volume) }
         ensures failed { OnErr result (self.new ≡ self.old) }
     {
-        let Some(told) = self.told.with(self.volume.counts()) else {
+        let Some(totals) = self.tally.totals.with(self.volume.counts()) else {
             return Err(SinkFault::Numbers);
         };
         let room = room_of(&mut self.spare, self.volume.journal_limit())?;
         self.spare = emptied(self.volume.drain(room));
-        self.told = told;
+        self.tally.totals = totals;
         Ok(())
     }
 
@@ -149,16 +158,17 @@ impl<F: FileStore + Drop, J: JournalSink + Drop> FiledVolume<F, J> {
 
     /// Adds the report over all entries to a text, and writes the text whole.
     fn report<W: Write>(&self, text: &mut Vec<u8>, writer: &mut W) -> Result<(), RunFault>
-        ensures written { OnOk result ((handed : List Entry) → self.now.told ≡ counts_of handed
+        ensures written { OnOk result ((handed : List Entry) (answers : List StepAnswer)
+            → self.now.told ≡ counts_of handed → self.now.refusals ≡ refusals_of answers
             → Appends (append_known (W.contents writer.old) text.old.items)
-            (W.contents writer.new) (report_text (handed ++ self.now.volume.journal))) }
+            (W.contents writer.new) (run_report (handed ++ self.now.volume.journal) answers)) }
         ensures legal { let v = self.now.volume in
             let shape = (F.state v.store).shape in
             Since (F.state v.since) v.since_level
             (λ from. IsLegal shape.numbers shape.segments v.journal from) }
         ensures fault { IfErr result MayHaveWritten }
     {
-        push_report(text, &self.told, self.volume.counts())?;
+        push_report(text, &self.tally, self.volume.counts())?;
         write_text(writer, text.as_slice())?;
         flush(writer)?;
         Ok(())
@@ -207,7 +217,7 @@ impl<F: CleanedStore + Drop, J: JournalSink + Drop> FiledVolume<F, J> {
             self.old self.new step.session step.cred step.act text.old.items text.new.items) }
         ensures silent { self.new.is_open ≡ self.old.is_open → teller.new ≡ teller.old }
     {
-        let done = run_step(&mut self.volume, step, text);
+        let done = run_step(&mut self.volume, &mut self.tally.refusals, step, text);
         self.move_on(teller);
         done
     }

@@ -1,10 +1,11 @@
 //! Running a script, on a fresh volume over the log store or on one over any store.
 
-ghost use Rattle.std.specs.Prelude.{◌≡◌, ◌<◌, ◌^◌, ℕ, List, [], length, IfErr, IfOk, IfSome, OnOk};
+ghost use Rattle.std.specs.Prelude.{◌≡◌, ◌<◌, ◌^◌, ◌++◌, ℕ, List, [], length, IfErr, IfOk, IfSome, OnOk};
 ghost use Rattle.std.specs.Io.KnownBytes.{Appends, Keeps, append_known};
 ghost use Rattle.lfs_model.specs.Steps.{IsLegal};
 ghost use Rattle.lfs_server.specs.Serving.{IsInRange};
 ghost use Rattle.lfs_print.specs.ReportText.{report_text};
+ghost use Rattle.lfs_sinks.specs.Refusals.{refusals_text};
 ghost use Rattle.lfs_volume.specs.Cleanings.{cleaner_of};
 ghost use Rattle.lfs_volume.specs.Journals.{Begins, Since};
 ghost use Rattle.lfs_audit.specs.Faults.{IsFaultOf, IsRead, IsReadingFault, MayHaveWritten};
@@ -20,6 +21,7 @@ use lfs_print::report::append_counts;
 use lfs_script::plan::{Plan, Step};
 use lfs_script::script::parse_script;
 use lfs_server::fresh::fresh_volume;
+use lfs_sinks::refusals::{Refusals, push_refusals};
 use lfs_types::cleaned::CleanedStore;
 use lfs_types::store::{FileStore, Params};
 use lfs_volume::volume::Volume;
@@ -101,34 +103,38 @@ pub fn run_plan<F: CleanedStore + Drop, W: Write>(
     ensures fault { IfErr result MayHaveWritten }
 {
     let mut text = Vec::new(alloc);
-    print_steps(volume, steps, &mut text, writer)?;
-    print_report(volume, &mut text, writer)
+    let mut refusals = Refusals::none();
+    print_steps(volume, &mut refusals, steps, &mut text, writer)?;
+    print_report(volume, &refusals, &mut text, writer)
 }
 
-/// Does what the lines of a plan ask for, and adds the lines of the answers to a text, which is written piece by piece.
+/// Does what the lines of a plan ask for, counts the answers, and adds their lines to a text, which is written piece by piece.
 fn print_steps<F: CleanedStore + Drop, W: Write>(
     volume: &mut Volume<F>,
+    refusals: &mut Refusals,
     steps: Vec<Step>,
     text: &mut Vec<u8>,
     writer: &mut W,
 ) -> Result<(), RunFault>
     ensures written { OnOk result (WritesLines
         (cleaner_of F.state F.is_settled F.cleaner)
-        volume.old volume.new steps.items
+        volume.old volume.new refusals.old refusals.new steps.items
         (append_known (W.contents writer.old) text.old.items)
         (append_known (W.contents writer.new) text.new.items)) }
     ensures fault { IfErr result MayHaveWritten }
 {
     for step in steps {
-        run_step(volume, step, text)?;
+        run_step(volume, refusals, step, text)?;
         write_full(writer, text)?;
     }
     Ok(())
 }
 
-/// Adds the report over a volume's journal to a text, and writes the text whole.
+/// Adds the report over a volume's journal, and of the calls that were refused without an entry, to a text, and writes the
+/// text whole.
 pub fn print_report<F: FileStore + Drop, W: Write>(
     volume: &Volume<F>,
+    refusals: &Refusals,
     text: &mut Vec<u8>,
     writer: &mut W,
 ) -> Result<(), RunFault>
@@ -137,10 +143,11 @@ pub fn print_report<F: FileStore + Drop, W: Write>(
         Since (F.state volume.now.since) volume.now.since_level
         (λ from. IsLegal shape.numbers shape.segments volume.now.journal from)
         × Appends (append_known (W.contents writer.old) text.old.items)
-        (W.contents writer.new) (report_text volume.now.journal)) }
+        (W.contents writer.new) (report_text volume.now.journal ++ refusals_text refusals.now)) }
     ensures fault { IfErr result MayHaveWritten }
 {
     append_counts(text, volume.counts())?;
+    push_refusals(text, refusals)?;
     write_text(writer, text.as_slice())?;
     flush(writer)?;
     Ok(())

@@ -8,7 +8,8 @@ ghost use Rattle.lfs_model.specs.declared.journal.Entry.{Entry};
 ghost use Rattle.lfs_audit.specs.Faults.{MayHaveWritten};
 ghost use Rattle.lfs_audit.specs.FiledRuns.{IsFiledThreads};
 ghost use Rattle.lfs_audit.specs.Filing.{Takes};
-ghost use Rattle.lfs_audit.specs.Threads.{IsClosedText, IsSplit, IsSplittingFault, IsThreadsFault, IsThreadsOutput, MayHaveWrittenThreads, transcript_text, transcripts_text};
+ghost use Rattle.lfs_audit.specs.Threads.{IsClosedText, IsSplit, IsSplittingFault, IsThreadsFault, IsThreadsOutput, MayHaveWrittenThreads, answers_of, transcript_text, transcripts_text};
+ghost use Rattle.lfs_sinks.specs.Refusals.{refusals_of};
 
 use crate::fault::{RunFault, ThreadsFault};
 use crate::run::{print_report, read_plan};
@@ -17,6 +18,7 @@ use lfs_model::journal::Entry;
 use lfs_print::print::append_answer;
 use lfs_server::serve::serve;
 use lfs_server::serving::Closed;
+use lfs_sinks::refusals::Refusals;
 use lfs_sinks::sink::{JournalSink, SinkFault};
 use lfs_types::answer::Answer;
 use lfs_types::cleaned::CleanedStore;
@@ -127,8 +129,22 @@ fn print_closed<F: CleanedStore + Drop, W: Write>(
     let mut text = Vec::new(alloc);
     print_transcript(writer, &mut text, 0, closed.setup.as_slice())?;
     print_transcripts(writer, &mut text, closed.transcripts.as_slice())?;
-    print_report(&closed.volume, &mut text, writer)?;
+    let refusals = refusals_of(closed.setup.as_slice(), closed.transcripts.as_slice());
+    print_report(&closed.volume, &refusals, &mut text, writer)?;
     Ok(())
+}
+
+/// How many of the answers to the setup and to the sessions are refusals of which no entry tells.
+fn refusals_of(setup: &[Answer], transcripts: &[Vec<Answer>]) -> Refusals
+    ensures { result ≡ refusals_of (answers_of setup.now
+        (map (λ (transcript : Vec Answer). transcript.items) transcripts.now)) }
+{
+    let mut refusals = Refusals::none();
+    refusals.add_answers(setup);
+    for transcript in transcripts {
+        refusals.add_answers(transcript.as_slice());
+    }
+    refusals
 }
 
 /// Adds the lines of the sessions' answers to a text, session 1's first, which is written piece by piece.

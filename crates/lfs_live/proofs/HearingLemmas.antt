@@ -7,13 +7,15 @@ use Rattle.std.proofs.lemmas.List.{take_all}
 use Rattle.std.specs.List.{starts_with}
 use Rattle.std.proofs.lemmas.Bool.{le-ltb, lt-ltb}
 use Rattle.lfs_script.specs.Plans.{line_said}
+use Rattle.lfs_script.specs.Requests.{lone_path}
 use Rattle.lfs_words.specs.Faults.{ReadsAs}
 use Rattle.lfs_words.specs.Lines.{is_printable}
 use Rattle.lfs_words.specs.Wording.{words_of}
 use Rattle.lfs_words.specs.declared.fault.FaultKind.{FaultKind}
 use Rattle.lfs_words.specs.declared.fault.FaultKind.TheVariants.{Words}
+use Rattle.lfs_browse.specs.declared.look.Look.TheVariants.{Listing, Content}
 use Rattle.lfs_live.specs.Hearing.{asked_heard, call_heard, dot_heard, dot_of, dot_said, dot_with, dotted_heard}
-use Rattle.lfs_live.specs.Hearing.{heard_of, is_dotted, lone_dot}
+use Rattle.lfs_live.specs.Hearing.{heard_of, is_dotted, lone_dot, look_heard, path_said, word_heard}
 use Rattle.lfs_live.specs.declared.fault.LineFault.TheVariants.{TooLong}
 use Rattle.lfs_live.specs.declared.hearing.Dot.{Dot}
 use Rattle.lfs_live.specs.declared.hearing.Heard.TheVariants.{Fault}
@@ -30,6 +32,13 @@ pub dot_there : (line text : List ℕ) (words : List (List ℕ)) (result : Resul
 dot_there line text words result printable same split is =
     rw printable (subst (λ (r : Result Dot FaultKind). ReadsAs r result) (is ∙ ap dot_of (split ∙ ap words_of same))
     (reads-same result))
+
+-- those of a printable line that is to be a path
+pub path_there : (line text : List ℕ) (words : List (List ℕ)) (result : Result (List (List ℕ)) FaultKind)
+    → is_printable line ≡ true → text ≡ line → words ≡ words_of text
+    → ReadsAs (lone_path words) result → ReadsAs (path_said line) result
+path_there line text words result printable same split reads =
+    rw printable (subst (λ (w : List (List ℕ)). ReadsAs (lone_path w) result) (split ∙ ap words_of same) reads)
 
 -- a line is too long
 pub heard_long : (line : List ℕ) → 65536 < length line → Fault TooLong [] ≡ heard_of line
@@ -78,8 +87,27 @@ pub heard_who : (line : List ℕ) → starts_with nat_eq line (codes ".why ") �
 heard_who line other who = rw (other, who) refl
 
 -- or with another dot
-pub heard_lone : (line : List ℕ) → starts_with nat_eq line (codes ".why ") ≡ false
-    → starts_with nat_eq line (codes ".who ") ≡ false → dot_heard (dot_said line) ≡ dotted_heard line
+pub heard_word : (line : List ℕ) → starts_with nat_eq line (codes ".why ") ≡ false
+    → starts_with nat_eq line (codes ".who ") ≡ false → word_heard line ≡ dotted_heard line
+heard_word line other none = rw (other, none) refl
+
+-- what stands behind `.ls `
+pub rest_behind : (line : List ℕ) (n : ℕ) → take (length line - n) (drop n line) ≡ drop n line
+rest_behind line n = take_all (length line - n) (drop n line) (rw (length-drop n line) (omega arith))
+
+-- a line begins with `.ls `
+pub heard_ls : (line : List ℕ) → starts_with nat_eq line (codes ".ls ") ≡ true
+    → look_heard Listing (path_said (drop 4 line)) ≡ word_heard line
+heard_ls line ls = rw ls refl
+
+-- or with `.cat `
+pub heard_cat : (line : List ℕ) → starts_with nat_eq line (codes ".ls ") ≡ false
+    → starts_with nat_eq line (codes ".cat ") ≡ true → look_heard Content (path_said (drop 5 line)) ≡ word_heard line
+heard_cat line other cat = rw (other, cat) refl
+
+-- or is a word of the server's own
+pub heard_lone : (line : List ℕ) → starts_with nat_eq line (codes ".ls ") ≡ false
+    → starts_with nat_eq line (codes ".cat ") ≡ false → dot_heard (dot_said line) ≡ word_heard line
 heard_lone line other none = rw (other, none) refl
 
 -- three words and more are no word of the server's own

@@ -13,6 +13,9 @@ use Rattle.lfs_model.specs.Steps.{IsLegal, after_event, world_after}
 use Rattle.lfs_model.proofs.RunLemmas.{world_after-append}
 use Rattle.lfs_model.specs.declared.counts.Counts.{Counts}
 use Rattle.lfs_model.specs.declared.journal.Entry.{Entry}
+use Rattle.lfs_model.specs.declared.steps.StepAnswer.{StepAnswer}
+use Rattle.lfs_sinks.specs.Refusals.{tally_of}
+use Rattle.lfs_sinks.specs.declared.totals.Tally.{Tally}
 use Rattle.lfs_volume.specs.Cleanings.{Cleaner}
 use Rattle.lfs_volume.specs.Journals.{Begins, Since}
 use Rattle.lfs_volume.specs.Seen.{Seen}
@@ -98,17 +101,18 @@ run_follows r old new session caller act told tells =
     let ran = tells.ran in
     record { more = _; entered = ran.entered; since = ran.since; since_level = ran.since_level; shape = ran.shape }
 
-pub line_follows : {F : Type 0} (r : Talker F) (handed : List Entry) (old new : Seen F) (speaker
-    then : Speaker) (said : Heard) (told : List ℕ)
-    → Hears r handed old speaker said told new then → Follows r.cleaner.state old new
-line_follows r handed old new speaker then (heard.Line says.Nothing) told h = follows_same r.cleaner.state old new h.0
-line_follows r handed old new speaker then (heard.Line (says.Session session)) told h =
+pub line_follows : {F : Type 0} (r : Talker F) (handed : List Entry) (answers given : List StepAnswer)
+    (old new : Seen F) (speaker then : Speaker) (said : Heard) (told : List ℕ)
+    → Hears r handed answers old speaker said told new then given → Follows r.cleaner.state old new
+line_follows r handed answers given old new speaker then (heard.Line says.Nothing) told h =
     follows_same r.cleaner.state old new h.0
-line_follows r handed old new speaker then (heard.Line (says.Caller cred)) told h =
+line_follows r handed answers given old new speaker then (heard.Line (says.Session session)) told h =
     follows_same r.cleaner.state old new h.0
-line_follows r handed old new speaker then (heard.Line (says.Act act)) told h =
+line_follows r handed answers given old new speaker then (heard.Line (says.Caller cred)) told h =
+    follows_same r.cleaner.state old new h.0
+line_follows r handed answers given old new speaker then (heard.Line (says.Act act)) told h =
     run_follows r.cleaner old new speaker.session speaker.cred act told h.0
-line_follows r handed old new speaker then (heard.Asks inquiry request) told h =
+line_follows r handed answers given old new speaker then (heard.Asks inquiry request) told h =
     let looks = h.0 in
     record {
       more = [];
@@ -117,8 +121,13 @@ line_follows r handed old new speaker then (heard.Asks inquiry request) told h =
       since_level = looks.since_level;
       shape = ap (λ (s : StoreState). s.shape) looks.state;
     }
-line_follows r handed old new speaker then (heard.Dot dot) told h = follows_same r.cleaner.state old new h.0
-line_follows r handed old new speaker then (heard.Fault fault place) told h = follows_same r.cleaner.state old new h.0
+line_follows r handed answers given old new speaker then (heard.Looks look path) told h =
+    let ran = h.0.asks.ran in
+    record { more = _; entered = ran.entered; since = ran.since; since_level = ran.since_level; shape = ran.shape }
+line_follows r handed answers given old new speaker then (heard.Dot dot) told h =
+    follows_same r.cleaner.state old new h.0
+line_follows r handed answers given old new speaker then (heard.Fault fault place) told h =
+    follows_same r.cleaner.state old new h.0
 
 true-false : false ≡ true → ⊥
 true-false e = absurd (cc)
@@ -129,8 +138,8 @@ never_both b holds fails = absurd (cc)
 -- ---- what was kept
 
 -- nothing was handed out by then
-pub kept_none : {F J : Type 0} (state : F → StoreState) (sink : Sink J) (old : Held F J) → old.told ≡ counts_of []
-    → old.volume.journal ≡ [] → HasKept state sink old old []
+pub kept_none : {F J : Type 0} (state : F → StoreState) (sink : Sink J) (old : Held F J)
+    → old.tally ≡ tally_of [] [] → old.volume.journal ≡ [] → HasKept state sink old old [] []
 kept_none {F} {J} state sink old told empty = record {
   counted = told;
   caught = λ taking. subst (λ (l : List Entry). Takes sink old.sink old.sink l) (sym empty)
@@ -168,32 +177,33 @@ left_whole {F} now after (inr (inl out)) taking =
 left_whole {F} now after (inr (inr shut)) taking =
     absurd (true-false (sym (ap (λ (c : Course F). c.is_open) shut.is) ∙ taking))
 
--- a talk with what was handed out before
-abbrev since_handed : {F : Type 0} → List Entry → Course F → Course F
-since_handed handed c = record c { handed = handed ++ c.handed }
+-- a talk with what was handed out and told before
+abbrev since_handed : {F : Type 0} → List Entry → List StepAnswer → Course F → Course F
+since_handed handed answers c = record c { handed = handed ++ c.handed; answers = answers }
 
-left_behind : {F : Type 0} (handed : List Entry) (now after : Course F)
+left_behind : {F : Type 0} (handed : List Entry) (answers : List StepAnswer) (now after : Course F)
     → (after ≡ now) ⊎ (IsHanded now after ⊎ IsShut now after)
-    → let now = since_handed handed now in let after = since_handed handed after in
+    → let now = since_handed handed answers now in let after = since_handed handed answers after in
     (after ≡ now) ⊎ (IsHanded now after ⊎ IsShut now after)
-left_behind handed now after (inl stays) = inl (ap (since_handed handed) stays)
-left_behind {F} handed now after (inr (inl out)) = inr (inl (record {
+left_behind handed answers now after (inl stays) = inl (ap (since_handed handed answers) stays)
+left_behind {F} handed answers now after (inr (inl out)) = inr (inl (record {
   opened = out.opened;
-  is = ap (since_handed handed) out.is
-      ∙ ap (λ (l : List Entry). record now { volume = drained now.volume; handed = l })
+  is = ap (since_handed handed answers) out.is
+      ∙ ap (λ (l : List Entry). record now { volume = drained now.volume; handed = l; answers = answers })
       (sym (append_assoc handed now.handed now.volume.journal));
 }))
-left_behind handed now after (inr (inr shut)) =
-    inr (inr (record { opened = shut.opened; some = shut.some; is = ap (since_handed handed) shut.is }))
+left_behind handed answers now after (inr (inr shut)) =
+    inr (inr (record { opened = shut.opened; some = shut.some; is = ap (since_handed handed answers) shut.is }))
 
--- the same of how a volume that is talked to moved on, with what was handed out before
+-- the same of how a volume that is talked to moved on, with what was handed out and told before
 pub moves_on : {F J : Type 0} (state : F → StoreState) (sink : Sink J) (before : ℕ) (now new : Held F J)
-    (handed more : List Entry) → Moves state sink before now new more
-    → MovesOn (course_of now handed) (course_of new (handed ++ more))
-moves_on {F} {J} state sink before now new handed more moves =
-    subst (λ (l : List Entry). MovesOn (course_of now l) (course_of new (handed ++ more))) (append-nil handed)
+    (handed more : List Entry) (answers : List StepAnswer) → Moves state sink before now new more
+    → MovesOn (course_of now handed answers) (course_of new (handed ++ more) answers)
+moves_on {F} {J} state sink before now new handed more answers moves =
+    subst (λ (l : List Entry). MovesOn (course_of now l answers) (course_of new (handed ++ more) answers))
+    (append-nil handed)
     (record {
-      left = left_behind handed (course_of now []) (course_of new more) moves.moves.left;
+      left = left_behind handed answers (course_of now [] []) (course_of new more []) moves.moves.left;
       room = moves.moves.room;
     })
 
@@ -213,25 +223,25 @@ all_entered handed more kept before entered middle whole grown =
 
 -- a line, or a pass, was done
 pub kept_moved : {F J : Type 0} (state : F → StoreState) (sink : Sink J) (old now new : Held F J) (middle : Seen F)
-    (handed more : List Entry)
-    → HasKept state sink old now handed → Follows state now.volume middle
-    → Moves state sink (length now.volume.journal) (record now { volume = middle }) new more
-    → HasKept state sink old new (handed ++ more)
-kept_moved {F} {J} state sink old now new middle handed more kept follows moves =
-    let done : Held F J = record now { volume = middle } in
+    (tally : Tally) (handed more : List Entry) (answers told : List StepAnswer)
+    → HasKept state sink old now handed answers → tally ≡ tally_of handed told → Follows state now.volume middle
+    → Moves state sink (length now.volume.journal) (record now { volume = middle; tally = tally }) new more
+    → HasKept state sink old new (handed ++ more) told
+kept_moved {F} {J} state sink old now new middle tally handed more answers told kept counted follows moves =
+    let done : Held F J = record now { volume = middle; tally = tally } in
     let left = moves.moves.left in
     record {
-      counted = moves.counted handed kept.counted;
+      counted = moves.counted handed told counted;
       caught = λ taking.
           let journal = now.volume.journal in
           let lacked : drop (length journal) middle.journal ≡ follows.more =
           ap (drop (length journal)) follows.entered ∙ drop_entered journal follows.more in
           takes_more sink old.sink now.sink new.sink (handed ++ journal) follows.more _
           (all_entered handed more new.volume.journal journal follows.more middle.journal
-          (left_whole (course_of done []) (course_of new more) left taking) follows.entered)
-          (kept.caught (left_opened (course_of done []) (course_of new more) left taking))
+          (left_whole (course_of done [] []) (course_of new more []) left taking) follows.entered)
+          (kept.caught (left_opened (course_of done [] []) (course_of new more []) left taking))
           (subst (λ (l : List Entry). Takes sink now.sink new.sink l) lacked (moves.caught taking));
-      opened = λ taking. kept.opened (left_opened (course_of done []) (course_of new more) left taking);
+      opened = λ taking. kept.opened (left_opened (course_of done [] []) (course_of new more []) left taking);
       legal = λ from begins.
           let shape = (state old.volume.store).shape in
           let before = kept.legal from begins in
@@ -245,20 +255,20 @@ kept_moved {F} {J} state sink old now new middle handed more kept follows moves 
             subst (λ (w : World). Begins (state new.volume.since) new.volume.since_level w)
                 (sym (world_after-append shape.numbers handed more from)) then.1,
           );
-      shape = ap (λ (s : F). (state s).shape) (left_store (course_of done []) (course_of new more) left)
+      shape = ap (λ (s : F). (state s).shape) (left_store (course_of done [] []) (course_of new more []) left)
           ∙ follows.shape ∙ kept.shape;
     }
 
 -- all entries are legal from where the journal began
 pub all_legal : {F J : Type 0} (state : F → StoreState) (sink : Sink J) (old now : Held F J) (handed : List Entry)
-    → HasKept state sink old now handed
+    (answers : List StepAnswer) → HasKept state sink old now handed answers
     → Since (state now.volume.since) now.volume.since_level
     (λ from. IsLegal (state now.volume.store).shape.numbers
     (state now.volume.store).shape.segments now.volume.journal from)
     → Since (state old.volume.since) old.volume.since_level
     (λ from. IsLegal (state old.volume.store).shape.numbers (state old.volume.store).shape.segments (handed
     ++ now.volume.journal) from)
-all_legal state sink old now handed kept legal = λ from begins.
+all_legal state sink old now handed answers kept legal = λ from begins.
     let shape = (state old.volume.store).shape in
     let before = kept.legal from begins in
     legal_joined shape.numbers shape.segments handed now.volume.journal from before.0
@@ -272,7 +282,7 @@ pub moves_none : {F J : Type 0} (state : F → StoreState) (sink : Sink J) (befo
     → old.is_open ≡ false → Moves state sink before old old []
 moves_none state sink before old shut = record {
   moves = record { left = inl refl; room = λ taking. absurd (true-false (sym shut ∙ taking)) };
-  counted = λ handed told. told ∙ ap counts_of (sym (append-nil handed));
+  counted = λ handed answers told. told ∙ ap (λ (l : List Entry). tally_of l answers) (sym (append-nil handed));
   caught = λ taking. absurd (true-false (sym shut ∙ taking));
   legal = λ from begins. (tt, begins);
 }
@@ -286,7 +296,7 @@ moves_given {F} {J} state sink before old new is takes room =
     subst (λ (h : Held F J). Moves state sink before old h []) (sym is)
     (record {
       moves = record { left = inl refl; room = λ taking. subst (λ (h : Held F J). HasRoom h.volume) is room };
-      counted = λ handed told. told ∙ ap counts_of (sym (append-nil handed));
+      counted = λ handed answers told. told ∙ ap (λ (l : List Entry). tally_of l answers) (sym (append-nil handed));
       caught = λ taking. takes;
       legal = λ from begins. (tt, begins);
     })
@@ -303,7 +313,7 @@ moves_closed {F} {J} state sink before old new taking some is =
         left = inr (inr (record { opened = taking; some = some; is = refl }));
         room = λ more. absurd (true-false more);
       };
-      counted = λ handed told. told ∙ ap counts_of (sym (append-nil handed));
+      counted = λ handed answers told. told ∙ ap (λ (l : List Entry). tally_of l answers) (sym (append-nil handed));
       caught = λ more. absurd (true-false more);
       legal = λ from begins. (tt, begins);
     })
@@ -327,7 +337,7 @@ abbrev pub handed_out : {F J : Type 0} → Held F J → J → Held F J
 handed_out old sink = record {
   volume = drained old.volume;
   sink = sink;
-  told = counts_sum old.told (counts_of old.volume.journal);
+  tally = record old.tally { totals = counts_sum old.tally.totals (counts_of old.volume.journal) };
   is_open = old.is_open;
   cleans = old.cleans;
 }
@@ -343,12 +353,13 @@ moves_out {F} {J} state sink before old new taking is takes legal =
       moves = record {
         left = inr (inl (record {
           opened = taking;
-          is = ap (λ (h : Held F J). course_of h journal) is;
+          is = ap (λ (h : Held F J). course_of h journal []) is;
         }));
         room = λ more. subst (λ (h : Held F J). HasRoom h.volume) (sym is) (drained_room old.volume);
       };
-      counted = λ handed told. ap (λ (h : Held F J). h.told) is
-          ∙ ap (λ (c : Counts). counts_sum c (counts_of journal)) told ∙ counts_joined handed journal;
+      counted = λ handed answers told. ap (λ (h : Held F J). h.tally) is
+          ∙ ap (λ (t : Tally). record t { totals = counts_sum t.totals (counts_of journal) }) told
+          ∙ ap (λ (c : Counts). record (tally_of [] answers) { totals = c }) (counts_joined handed journal);
       caught = λ more. takes;
       legal = legal;
     }
@@ -371,11 +382,12 @@ moves_if_out {A} {E} {F} {J} state sink before old middle new (Ok a) taking same
 moves_if_out state sink before old middle new (Err e) taking same takes is legal = tt
 
 -- a volume whose entries were handed out, part by part
-pub handed_view : {F J : Type 0} (old inside : Held F J) (volume : Seen F) (told : Counts)
+pub handed_view : {F J : Type 0} (old inside : Held F J) (volume : Seen F) (totals : Counts)
     → inside ≡ old → volume ≡ drained inside.volume
-    → told ≡ counts_sum inside.told (counts_of inside.volume.journal)
-    → ◌≡◌ {A = Held F J} (record inside { volume = volume; told = told }) (handed_out old old.sink)
-handed_view {F} {J} old inside volume told same is counted =
+    → totals ≡ counts_sum inside.tally.totals (counts_of inside.volume.journal)
+    → ◌≡◌ {A = Held F J} (record inside { volume = volume; tally = record inside.tally { totals = totals } })
+    (handed_out old old.sink)
+handed_view {F} {J} old inside volume totals same is counted =
     rw (is, counted) (ap (λ (h : Held F J). handed_out h h.sink) same)
 
 -- which of three was open, where the last is only where the second was, and the second only where the first was
@@ -393,35 +405,37 @@ same_open false false false first then same = (refl, refl)
 -- ---- a pass that is made where one is due
 
 tidied_so : {F J : Type 0} (r : Cleaner F) (sink : Sink J) (old now new : Held F J) (handed more : List Entry)
-    (due : Bool) → is_due r.state (course_of now []) ≡ due
-    → HasKept r.state sink old now handed → HasTidied r sink now new more
-    → HasKept r.state sink old new (handed ++ more)
-tidied_so r sink old now new handed more true is kept tidied =
+    (answers : List StepAnswer) (due : Bool) → is_due r.state (course_of now [] []) ≡ due
+    → HasKept r.state sink old now handed answers → HasTidied r sink now new more
+    → HasKept r.state sink old new (handed ++ more) answers
+tidied_so r sink old now new handed more answers true is kept tidied =
     let pass = tidied.passes is in
-    kept_moved r.state sink old now new pass.0 handed more kept (run_follows r now.volume pass.0 _ _ _ pass.1 pass.2)
-    pass.3
-tidied_so r sink old now new handed more false is kept tidied =
+    kept_moved r.state sink old now new pass.0 now.tally handed more answers answers kept kept.counted
+    (run_follows r now.volume pass.0 _ _ _ pass.1 pass.2) pass.3
+tidied_so r sink old now new handed more answers false is kept tidied =
     let stays = tidied.stays is in
     rw (stays.0, stays.1, append-nil handed) kept
 
 -- what is handed out and what the sink has, behind it
 pub kept_tidied : {F J : Type 0} (r : Cleaner F) (sink : Sink J) (old now new : Held F J) (handed more : List Entry)
-    → HasKept r.state sink old now handed → HasTidied r sink now new more
-    → HasKept r.state sink old new (handed ++ more)
-kept_tidied r sink old now new handed more kept tidied =
-    tidied_so r sink old now new handed more (is_due r.state (course_of now [])) refl kept tidied
+    (answers : List StepAnswer) → HasKept r.state sink old now handed answers → HasTidied r sink now new more
+    → HasKept r.state sink old new (handed ++ more) answers
+kept_tidied r sink old now new handed more answers kept tidied =
+    tidied_so r sink old now new handed more answers (is_due r.state (course_of now [] [])) refl kept tidied
 
 -- the talk goes on
 pub tidies_on : {F J : Type 0} (r : Cleaner F) (sink : Sink J) (now new : Held F J) (handed more : List Entry)
-    → HasTidied r sink now new more → Tidies r (course_of now handed) (course_of new (handed ++ more))
-tidies_on {F} {J} r sink now new handed more tidied = record {
+    (answers : List StepAnswer) → HasTidied r sink now new more
+    → Tidies r (course_of now handed answers) (course_of new (handed ++ more) answers)
+tidies_on {F} {J} r sink now new handed more answers tidied = record {
   passes = λ due.
       let pass = tidied.passes due in
       record {
         passed = pass.0;
         untold = pass.1;
         makes = pass.2;
-        moves = moves_on r.state sink (length now.volume.journal) (record now { volume = pass.0 }) new handed more pass.3;
+        moves = moves_on r.state sink (length now.volume.journal) (record now { volume = pass.0 }) new handed more answers
+            pass.3;
       };
   stays = λ none.
       let stays = tidied.stays none in
@@ -429,11 +443,11 @@ tidies_on {F} {J} r sink now new handed more tidied = record {
 }
 
 tidied_opened_so : {F J : Type 0} (r : Cleaner F) (sink : Sink J) (now new : Held F J) (more : List Entry)
-    (due : Bool) → is_due r.state (course_of now []) ≡ due
+    (due : Bool) → is_due r.state (course_of now [] []) ≡ due
     → HasTidied r sink now new more → new.is_open ≡ true → now.is_open ≡ true
 tidied_opened_so r sink now new more true is tidied taking =
     let pass = tidied.passes is in
-    on_opened (course_of (record now { volume = pass.0 }) []) (course_of new more) pass.3.moves taking
+    on_opened (course_of (record now { volume = pass.0 }) [] []) (course_of new more []) pass.3.moves taking
 tidied_opened_so {F} {J} r sink now new more false is tidied taking =
     sym (ap (λ (h : Held F J). h.is_open) (tidied.stays is).0) ∙ taking
 
@@ -441,7 +455,7 @@ tidied_opened_so {F} {J} r sink now new more false is tidied taking =
 pub tidied_opened : {F J : Type 0} (r : Cleaner F) (sink : Sink J) (now new : Held F J) (more : List Entry)
     → HasTidied r sink now new more → new.is_open ≡ true → now.is_open ≡ true
 tidied_opened {F} {J} r sink now new more tidied taking =
-    tidied_opened_so r sink now new more (is_due r.state (course_of now [])) refl tidied taking
+    tidied_opened_so r sink now new more (is_due r.state (course_of now [] [])) refl tidied taking
 
 -- ---- results
 

@@ -12,7 +12,7 @@ use Rattle.lfs_model.specs.declared.steps.Step.{Step as Made}
 use Rattle.lfs_model.specs.declared.steps.StepAnswer.{StepAnswer}
 use Rattle.lfs_model.specs.Runs.{kept_steps}
 use Rattle.lfs_model.specs.Steps.{IsLegal}
-use Rattle.lfs_print.specs.ReportText.{report_text}
+use Rattle.lfs_sinks.specs.Refusals.{run_report}
 use Rattle.lfs_words.specs.Lines.{HasNoLineFeed, IsFirstLine, is_printable}
 use Rattle.lfs_words.specs.Wording.{is_bare, words_of}
 use Rattle.lfs_words.specs.declared.fault.FaultKind.{FaultKind}
@@ -90,12 +90,13 @@ heard-said line said few ok = rw (le-ltb 65536 (length line) few, undotted line 
 
 -- ---- a line follows a draft
 
--- a volume became this one by what the lines ask for that a draft grew by, and this is told of them
+-- a volume became this one by what the lines ask for that a draft grew by, and this is told of them, and these answers
 record Followed {F : Type 0} (r : Cleaner F) (old new : Seen F) (draft after : Drafted) (then : Speaker)
-    (told : List ℕ) : Type 0 where
+    (told : List ℕ) (given : List StepAnswer) : Type 0 where
   steps : List Step
   made : List Made
   answers : List StepAnswer
+  given_so : given ≡ answers
   asked : AreAsked steps made answers
   ran : Runs r old new made answers
   printed : told ≡ lines_text made answers
@@ -122,13 +123,15 @@ asked-joined (s ∷ steps) made answers more others given are then = (
 )
 
 followed-joined : {F : Type 0} (r : Cleaner F) (old middle new : Seen F) (draft after last : Drafted) (speaker
-    then : Speaker) (first rest told : List ℕ)
-    → told ≡ first ++ rest → Followed r old middle draft after speaker first → Followed r middle new after last
-    then rest → Followed r old new draft last then told
-followed-joined r old middle new draft after last speaker then first rest told whole before behind = record {
+    then : Speaker) (first rest told : List ℕ) (given others : List StepAnswer)
+    → told ≡ first ++ rest → Followed r old middle draft after speaker first given → Followed r middle new after last
+    then rest others → Followed r old new draft last then told (given ++ others)
+followed-joined r old middle new draft after last speaker then first rest told given others whole before behind = record {
   steps = before.steps ++ behind.steps;
   made = before.made ++ behind.made;
   answers = before.answers ++ behind.answers;
+  given_so = ap (λ (l : List StepAnswer). l ++ others) before.given_so
+      ∙ ap (λ (l : List StepAnswer). before.answers ++ l) behind.given_so;
   asked = asked-joined before.steps before.made before.answers behind.steps behind.made behind.answers before.asked
       behind.asked;
   ran = runs_joined r old middle new before.made before.answers behind.made behind.answers before.ran behind.ran;
@@ -143,12 +146,13 @@ followed-joined r old middle new draft after last speaker then first rest told w
 
 -- nothing is asked for
 followed-none : {F : Type 0} (r : Cleaner F) (old new : Seen F) (draft after : Drafted) (then : Speaker) (told : List ℕ)
-    → new ≡ old → after.steps ≡ draft.steps → after.session ≡ then.session → after.cred ≡ then.cred → told ≡ []
-    → Followed r old new draft after then told
-followed-none {F} r old new draft after then told same steps session cred nothing = record {
+    (given : List StepAnswer) → new ≡ old → after.steps ≡ draft.steps → after.session ≡ then.session
+    → after.cred ≡ then.cred → told ≡ [] → given ≡ [] → Followed r old new draft after then told given
+followed-none {F} r old new draft after then told given same steps session cred nothing none = record {
   steps = [];
   made = [];
   answers = [];
+  given_so = none;
   asked = (refl, refl);
   ran = subst (λ (v : Seen F). Runs r old v [] []) (sym same) (runs_none r old);
   printed = nothing;
@@ -158,26 +162,28 @@ followed-none {F} r old new draft after then told same steps session cred nothin
 }
 
 followed-line : {F : Type 0} (r : Cleaner F) (old new : Seen F) (draft : Drafted) (speaker
-    then : Speaker) (said : Line) (told : List ℕ)
+    then : Speaker) (said : Line) (told : List ℕ) (given : List StepAnswer)
     → draft.session ≡ speaker.session → draft.cred ≡ speaker.cred → Does r old speaker said told new
-    then → Followed r old new draft (added draft said) then told
-followed-line r old new draft speaker then says.Nothing told session cred does =
-    followed-none r old new draft draft then told does.0 refl (session ∙ ap (λ (s : Speaker). s.session) (sym does.1))
-    (cred ∙ ap (λ (s : Speaker). s.cred) (sym does.1)) does.2
-followed-line r old new draft speaker then (says.Session number) told session cred does =
+    then given → Followed r old new draft (added draft said) then told given
+followed-line r old new draft speaker then says.Nothing told given session cred does =
+    followed-none r old new draft draft then told given does.0 refl
+    (session ∙ ap (λ (s : Speaker). s.session) (sym does.1)) (cred ∙ ap (λ (s : Speaker). s.cred) (sym does.1)) does.2
+    does.3
+followed-line r old new draft speaker then (says.Session number) told given session cred does =
     followed-none r old new draft (added draft (says.Session number))
-    then told does.0 refl (ap (λ (s : Speaker). s.session) (sym does.1)) (cred
-    ∙ ap (λ (s : Speaker). s.cred) (sym does.1)) does.2
-followed-line r old new draft speaker then (says.Caller caller) told session cred does =
+    then told given does.0 refl (ap (λ (s : Speaker). s.session) (sym does.1)) (cred
+    ∙ ap (λ (s : Speaker). s.cred) (sym does.1)) does.2 does.3
+followed-line r old new draft speaker then (says.Caller caller) told given session cred does =
     followed-none r old new draft (added draft (says.Caller caller))
-    then told does.0 refl (session ∙ ap (λ (s : Speaker). s.session) (sym does.1))
-    (ap (λ (s : Speaker). s.cred) (sym does.1)) does.2
-followed-line r old new draft speaker then (says.Act act) told session cred does =
+    then told given does.0 refl (session ∙ ap (λ (s : Speaker). s.session) (sym does.1))
+    (ap (λ (s : Speaker). s.cred) (sym does.1)) does.2 does.3
+followed-line r old new draft speaker then (says.Act act) told given session cred does =
     let tells = does.0 in
     record {
       steps = record { session = draft.session; cred = draft.cred; act = act } ∷ [];
       made = tells.made;
       answers = tells.answers;
+      given_so = does.2;
       asked = (
         tells.made,
         [],
@@ -216,10 +222,10 @@ IsShort line = length line ≤ 65536
 
 -- the plan of a script goes on behind the lines that were heard
 record Goes {F : Type 0} (r : Cleaner F) (old new : Seen F) (draft : Drafted) (then : Speaker) (told rest : List ℕ)
-    (plan : Planned) : Type 0 where
+    (given : List StepAnswer) (plan : Planned) : Type 0 where
   number : ℕ
   after : Drafted
-  followed : Followed r old new draft after then told
+  followed : Followed r old new draft after then told given
   short : All IsShort (lines_of rest)
   goes_on : plan_from number after (lines_of rest) ≡ Ok plan
 
@@ -244,23 +250,27 @@ script-heard : {F : Type 0} (t : Talker F) (old new : Course F) (speaker
     → HearsAll t old speaker lines told new then → old.is_open ≡ false → old.cleans ≡ false
     → draft.session ≡ speaker.session → draft.cred ≡ speaker.cred
     → All IsShort (lines_of (ended lines ++ rest)) → plan_from n draft (lines_of (ended lines ++ rest)) ≡ Ok plan
-    → Goes t.cleaner old.volume new.volume draft then told rest plan × (new.handed ≡ old.handed)
+    → (given : List StepAnswer) × Goes t.cleaner old.volume new.volume draft then told rest given plan
+    × (new.handed ≡ old.handed) × (new.answers ≡ old.answers ++ given)
 script-heard {F} t old new speaker then [] told rest n draft plan hears closed idle session cred short ok = (
+  [],
   record {
     number = n;
     after = draft;
     followed = followed-none t.cleaner old.volume new.volume draft draft
-        then told (ap (λ (c : Course F). c.volume) hears.0) refl (session
-        ∙ ap (λ (s : Speaker). s.session) (sym hears.1)) (cred ∙ ap (λ (s : Speaker). s.cred) (sym hears.1)) hears.2;
+        then told [] (ap (λ (c : Course F). c.volume) hears.0) refl (session
+        ∙ ap (λ (s : Speaker). s.session) (sym hears.1)) (cred ∙ ap (λ (s : Speaker). s.cred) (sym hears.1)) hears.2
+        refl;
     short = short;
     goes_on = ok;
   },
   ap (λ (c : Course F). c.handed) hears.0,
+  ap (λ (c : Course F). c.answers) hears.0 ∙ sym (append-nil old.answers),
 )
 script-heard {F} t old new speaker then (line ∷ lines) told rest n draft plan hears closed idle session cred short ok =
     let text = ended (line ∷ lines) ++ rest in
     let behind = ended lines ++ rest in
-    let cut = first-of line lines rest hears.7 in
+    let cut = first-of line lines rest hears.8 in
     let shorts : All IsShort (line ∷ lines_of behind) = subst (All IsShort) (lines_first text line behind cut) short in
     let read = said-there n (line_said line) (λ (s : Line). plan_from (n + 1) (added draft s) (lines_of behind)) plan
     (sym (plan_step n draft text line behind cut) ∙ ok) in
@@ -269,26 +279,31 @@ script-heard {F} t old new speaker then (line ∷ lines) told rest n draft plan 
     let middle = hears.2 in
     let after = hears.4 in
     let next = hears.5 in
-    let does : Does t.cleaner old.volume speaker read.0 hears.0 middle next =
-    subst (λ (h : Heard). Hears t old.handed old.volume speaker h hears.0 middle next) says hears.8 in
-    let still = unmoved t.cleaner (record old { volume = middle }) hears.3 after closed idle hears.9 hears.10 in
-    let followed = followed-line t.cleaner old.volume middle draft speaker next read.0 hears.0 session cred does in
+    let given = hears.6 in
+    let does : Does t.cleaner old.volume speaker read.0 hears.0 middle next given =
+    subst (λ (h : Heard). Hears t old.handed old.answers old.volume speaker h hears.0 middle next given) says hears.9 in
+    let still = unmoved t.cleaner (record old { volume = middle; answers = old.answers ++ given }) hears.3 after closed
+    idle hears.10 hears.11 in
+    let followed = followed-line t.cleaner old.volume middle draft speaker next read.0 hears.0 given session cred
+    does in
     let more = script-heard t after new next
-    then lines hears.1 rest (n + 1) (added draft read.0) plan hears.11
+    then lines hears.1 rest (n + 1) (added draft read.0) plan hears.12
     (ap (λ (c : Course F). c.is_open) still ∙ closed) (ap (λ (c : Course F). c.cleans) still ∙ idle)
     followed.session followed.cred
     (All-tail IsShort line (lines_of behind) shorts) read.2 in
     let goes = subst (λ (v : Seen F). Goes t.cleaner v new.volume (added draft read.0)
-    then hears.1 rest plan) (ap (λ (c : Course F). c.volume) still) more.0 in (
+    then hears.1 rest more.0 plan) (ap (λ (c : Course F). c.volume) still) more.1 in (
+      given ++ more.0,
       record {
         number = goes.number;
         after = goes.after;
         followed = followed-joined t.cleaner old.volume middle new.volume draft (added draft read.0) goes.after next
-            then hears.0 hears.1 told hears.6 followed goes.followed;
+            then hears.0 hears.1 told given more.0 hears.7 followed goes.followed;
         short = goes.short;
         goes_on = goes.goes_on;
       },
-      more.1 ∙ ap (λ (c : Course F). c.handed) still,
+      more.2 ∙ ap (λ (c : Course F). c.handed) still,
+      more.3 ∙ ap (λ (c : Course F). c.answers ++ more.0) still ∙ append_assoc old.answers given more.0,
     )
 
 -- ---- the end of a script
@@ -337,13 +352,14 @@ told-whole told told_last lines report all none is same =
     ∙ ap (λ (l : List ℕ). l ++ report) is ∙ ap (λ (l : List ℕ). lines ++ l) same
 
 script-written : (old new : Course Parts) (script behind : List ℕ) (start out : Option (List ℕ)) (plan : Planned)
-    → old.volume.journal ≡ [] → old.handed ≡ [] → old.is_open ≡ false → old.cleans ≡ false → plan_of script ≡ Ok plan
+    → old.volume.journal ≡ [] → old.handed ≡ [] → old.answers ≡ [] → old.is_open ≡ false → old.cleans ≡ false
+    → plan_of script ≡ Ok plan
     → All IsShort (lines_of script)
     → IsTalk log_talker old new (Some script) (Some behind) start out
     → (text : List ℕ) × IsOutput log_cleaner
     (Begins (state_of old.volume.since) old.volume.since_level) script old.volume.limit old.volume.store text
     × Appends start out text
-script-written old new script behind start out plan empty unhanded closed idle parsed short talk =
+script-written old new script behind start out plan empty unhanded untold closed idle parsed short talk =
     let all = talk.heard in
     let rest = all.last ++ behind in
     let whole : script ≡ ended all.lines ++ rest = all.taken ∙ append_assoc (ended all.lines) all.last behind in
@@ -351,8 +367,8 @@ script-written old new script behind start out plan empty unhanded closed idle p
     all.heard closed idle refl refl
     (subst (λ (s : List ℕ). All IsShort (lines_of s)) whole short)
     (subst (λ (s : List ℕ). plan_from 1 first_draft (lines_of s) ≡ Ok plan) whole parsed) in
-    let goes = went.0 in
-    let none : new.handed ≡ [] = went.1 ∙ unhanded in
+    let goes = went.1 in
+    let none : new.handed ≡ [] = went.2 ∙ unhanded in
     let fin = script-ends goes.number goes.after plan all.last all.told_last behind all.ends goes.short goes.goes_on in
     let ran = goes.followed.ran in
     let made = goes.followed.made in
@@ -362,10 +378,12 @@ script-written old new script behind start out plan empty unhanded closed idle p
     ∙ ap (λ (j : List Entry). j ++ kept_steps made answers) empty in
     let kept : new.handed ++ new.volume.journal
     ≡ kept_steps made answers = ap (λ (l : List Entry). l ++ new.volume.journal) none ∙ entries in
-    let text = lines_text made answers ++ report_text (kept_steps made answers) in
-    let written : Appends start out ((all.told ++ all.told_last) ++ report_text (new.handed ++ new.volume.journal)) =
-    Appends-trans start talk.before out (all.told ++ all.told_last)
-    (report_text (new.handed ++ new.volume.journal)) all.printed talk.reported in (
+    let told : new.answers ≡ answers =
+    went.3 ∙ ap (λ (l : List StepAnswer). l ++ went.0) untold ∙ goes.followed.given_so in
+    let text = lines_text made answers ++ run_report (kept_steps made answers) answers in
+    let report = run_report (new.handed ++ new.volume.journal) new.answers in
+    let written : Appends start out ((all.told ++ all.told_last) ++ report) =
+    Appends-trans start talk.before out (all.told ++ all.told_last) report all.printed talk.reported in (
       text,
       record {
         plan = plan;
@@ -382,13 +400,16 @@ script-written old new script behind start out plan empty unhanded closed idle p
         };
       },
       subst (λ (l : List ℕ). Appends start out l)
-          (told-whole all.told all.told_last (lines_text made answers) (report_text (new.handed ++ new.volume.journal))
-          (report_text (kept_steps made answers)) fin.0 goes.followed.printed (ap report_text kept))
+          (told-whole all.told all.told_last (lines_text made answers) report
+          (run_report (kept_steps made answers) answers) fin.0 goes.followed.printed
+          (ap (λ (l : List Entry). run_report l new.answers) kept
+          ∙ ap (run_report (kept_steps made answers)) told))
           written,
     )
 
 -- the lines of a script that is all that a reader has
 pub script_law : WritesAsScript
-script_law old new script None start out plan empty unhanded closed idle parsed short talk = absurd talk.heard.taken
-script_law old new script (Some behind) start out plan empty unhanded closed idle parsed short talk =
-    script-written old new script behind start out plan empty unhanded closed idle parsed short talk
+script_law old new script None start out plan empty unhanded untold closed idle parsed short talk =
+    absurd talk.heard.taken
+script_law old new script (Some behind) start out plan empty unhanded untold closed idle parsed short talk =
+    script-written old new script behind start out plan empty unhanded untold closed idle parsed short talk

@@ -3,7 +3,7 @@ use Rattle.std.proofs.Common.{◌≡◌, ℕ, Bool, List, [], refl, subst, sym, 
 use Rattle.lfs_staging.specs.declared.parts.Parts.{Parts}
 use Rattle.lfs_types.specs.Tree.{opening_world}
 use Rattle.lfs_logstore.specs.States.{state_of}
-use Rattle.lfs_model.specs.Counts.{counts_of}
+use Rattle.lfs_sinks.specs.Refusals.{tally_of}
 use Rattle.lfs_volume.specs.Journals.{Begins}
 use Rattle.lfs_volume.specs.Seen.{Seen}
 use Rattle.lfs_audit.specs.declared.fault.RunFault.{RunFault}
@@ -37,7 +37,7 @@ abbrev pub begun : {F J : Type 0} → Seen F → J → Manner → Held F J
 begun volume sink manner = record {
   volume = volume;
   sink = sink;
-  told = counts_of [];
+  tally = tally_of [] [];
   is_open = manner.is_open;
   cleans = manner.cleans;
 }
@@ -53,7 +53,7 @@ begun_talk {J} sink begins volume j manner old new known left start out is begin
     let ended = subst (λ (h : Held Parts J). HasBegun h → IsKeptTalk log_talker sink h new known left start out) is talk
     (refl, empty) in
     record {
-      talk = record { old = volume; new = course_of new ended.handed; begun = begin; talk = ended.talk };
+      talk = record { old = volume; new = course_of new ended.handed ended.answers; begun = begin; talk = ended.talk };
       kept = λ taking. (ended.kept taking).lines;
     }
 
@@ -68,7 +68,7 @@ begun_heard {J} sink begins volume j manner old new known left start out is begi
     heard (refl, empty) in
     record {
       old = volume;
-      new = course_of new so_far.handed;
+      new = course_of new so_far.handed so_far.answers;
       begun = begin;
       so_far = so_far.so_far;
     }

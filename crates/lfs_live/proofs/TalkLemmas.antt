@@ -5,10 +5,11 @@ use Rattle.std.specs.Io.KnownBytes.{Appends, Consumes, Keeps}
 use Rattle.std.proofs.KnownBytes.{Appends-kept, Appends-nil, Appends-trans, Consumes-nil, Consumes-trans}
 use Rattle.std.proofs.lemmas.Grind.{flat_map-append}
 use Rattle.std.proofs.lemmas.List.Elements.{All-nil}
-use Rattle.lfs_model.specs.Counts.{counts_of}
 use Rattle.lfs_model.specs.Steps.{IsLegal}
 use Rattle.lfs_model.specs.declared.journal.Entry.{Entry}
-use Rattle.lfs_print.specs.ReportText.{report_text}
+use Rattle.lfs_model.specs.declared.steps.StepAnswer.{StepAnswer}
+use Rattle.lfs_sinks.specs.Refusals.{run_report, tally_of}
+use Rattle.lfs_sinks.specs.declared.totals.Tally.{Tally}
 use Rattle.lfs_volume.specs.Journals.{Since}
 use Rattle.lfs_volume.specs.Seen.{Seen}
 use Rattle.lfs_live.specs.Held.{Course, HasKept, Held, MovesOn, Sink, course_of}
@@ -33,19 +34,21 @@ use Rattle.lfs_live.specs.declared.telling.Speaker.{Speaker}
 pub record HasHeard {F J : Type 0} (r : Talker F) (sink : Sink J) (old new : Held F J) (then : Speaker)
     (known left start out : Option (List ℕ)) : Type 0 where
   pub handed : List Entry
+  pub answers : List StepAnswer
   pub lines : List (List ℕ)
   pub told : List ℕ
-  pub heard : HearsAll r (course_of old []) first_speaker lines told (course_of new handed) then
-  pub kept : HasKept r.cleaner.state sink old new handed
+  pub heard : HearsAll r (course_of old [] []) first_speaker lines told (course_of new handed answers) then
+  pub kept : HasKept r.cleaner.state sink old new handed answers
   pub taken : Consumes known left (ended lines)
   pub printed : Appends start out told
 
 -- no line was heard
 pub heard_none : {F J : Type 0} (r : Talker F) (sink : Sink J) (v : Held F J) (speaker : Speaker)
     (known start : Option (List ℕ)) → speaker ≡ first_speaker
-    → v.told ≡ counts_of [] → v.volume.journal ≡ [] → HasHeard r sink v v speaker known known start start
+    → v.tally ≡ tally_of [] [] → v.volume.journal ≡ [] → HasHeard r sink v v speaker known known start start
 heard_none r sink v speaker known start first told empty = record {
   handed = [];
+  answers = [];
   lines = [];
   told = [];
   heard = (refl, first, refl);
@@ -55,14 +58,14 @@ heard_none r sink v speaker known start first told empty = record {
 }
 
 -- one more line
-hears-more : {F : Type 0} (r : Talker F) (old middle : Course F) (volume : Seen F) (after new : Course F)
-    (first speaker
+hears-more : {F : Type 0} (r : Talker F) (old middle : Course F) (volume : Seen F) (given : List StepAnswer)
+    (after new : Course F) (first speaker
     then : Speaker) (lines : List (List ℕ)) (line told more : List ℕ)
     → HearsAll r old first lines told middle speaker → HasNoLineFeed line
-    → Hears r middle.handed middle.volume speaker (heard_of line) more volume then
-    → MovesOn (record middle { volume = volume }) after → Tidies r.cleaner after new
+    → Hears r middle.handed middle.answers middle.volume speaker (heard_of line) more volume then given
+    → MovesOn (record middle { volume = volume; answers = middle.answers ++ given }) after → Tidies r.cleaner after new
     → HearsAll r old first (lines ++ line ∷ []) (told ++ more) new then
-hears-more {F} r old middle volume after new first speaker
+hears-more {F} r old middle volume given after new first speaker
     then [] line told more heard unended next moves tidies = (
       more,
       [],
@@ -70,15 +73,17 @@ hears-more {F} r old middle volume after new first speaker
       after,
       new,
       then,
+      given,
       ap (λ (l : List ℕ). l ++ more) heard.2 ∙ sym (append-nil more),
       unended,
-      subst (λ (c : Course F). Hears r c.handed c.volume first (heard_of line) more volume then) heard.0
-          (subst (λ (s : Speaker). Hears r middle.handed middle.volume s (heard_of line) more volume then) heard.1 next),
-      subst (λ (c : Course F). MovesOn (record c { volume = volume }) after) heard.0 moves,
+      subst (λ (c : Course F). Hears r c.handed c.answers c.volume first (heard_of line) more volume then given) heard.0
+          (subst (λ (s : Speaker). Hears r middle.handed middle.answers middle.volume s (heard_of line) more volume
+          then given) heard.1 next),
+      subst (λ (c : Course F). MovesOn (record c { volume = volume; answers = c.answers ++ given }) after) heard.0 moves,
       tidies,
       (refl, refl, refl),
     )
-hears-more r old middle volume after new first speaker
+hears-more r old middle volume given after new first speaker
     then (l ∷ lines) line told more heard unended next moves tidies = (
       heard.0,
       heard.1 ++ more,
@@ -86,13 +91,14 @@ hears-more r old middle volume after new first speaker
       heard.3,
       heard.4,
       heard.5,
-      ap (λ (l : List ℕ). l ++ more) heard.6 ∙ append_assoc heard.0 heard.1 more,
-      heard.7,
+      heard.6,
+      ap (λ (l : List ℕ). l ++ more) heard.7 ∙ append_assoc heard.0 heard.1 more,
       heard.8,
       heard.9,
       heard.10,
-      hears-more r heard.4 middle volume after new heard.5 speaker
-          then lines line heard.1 more heard.11 unended next moves tidies,
+      heard.11,
+      hears-more r heard.4 middle volume given after new heard.5 speaker
+          then lines line heard.1 more heard.12 unended next moves tidies,
     )
 
 ended-more : (lines : List (List ℕ)) (line : List ℕ) → ended (lines ++ line ∷ []) ≡ ended lines ++ ended_line line
@@ -108,23 +114,28 @@ heard_next {F} {J} r sink old middle new speaker then known left rest start out 
     let told = next.heard in
     let volume = told.middle in
     let tended = told.tended in
-    let done : Held F J = record middle { volume = volume } in
-    let hears = told.heard heard.handed heard.kept.counted in
-    let follows = line_follows r heard.handed middle.volume volume speaker then (heard_of next.line) told.told hears in
+    let done : Held F J = record middle { volume = volume; tally = told.tally } in
+    let given = told.answered.given in
+    let answers = heard.answers ++ given in
+    let hears = told.answered.heard heard.handed heard.answers heard.kept.counted in
+    let follows = line_follows r heard.handed heard.answers given middle.volume volume speaker then (heard_of next.line)
+    told.told hears in
     let handed = heard.handed ++ tended.first in
-    let kept = kept_moved r.cleaner.state sink old middle tended.between volume heard.handed tended.first heard.kept
-    follows tended.moves in
+    let kept = kept_moved r.cleaner.state sink old middle tended.between volume told.tally heard.handed tended.first
+    heard.answers answers heard.kept (told.answered.counted heard.handed heard.answers heard.kept.counted) follows
+    tended.moves in
     record {
       handed = handed ++ tended.then;
+      answers = answers;
       lines = heard.lines ++ next.line ∷ [];
       told = heard.told ++ told.told;
-      heard = hears-more r (course_of old []) (course_of middle heard.handed) volume
-          (course_of tended.between handed) (course_of new (handed ++ tended.then)) first_speaker speaker
+      heard = hears-more r (course_of old [] []) (course_of middle heard.handed heard.answers) volume given
+          (course_of tended.between handed answers) (course_of new (handed ++ tended.then) answers) first_speaker speaker
           then heard.lines next.line heard.told told.told
           heard.heard next.unended hears (moves_on r.cleaner.state sink (length middle.volume.journal) done
-          tended.between heard.handed tended.first tended.moves)
-          (tidies_on r.cleaner sink tended.between new handed tended.then tended.tidies);
-      kept = kept_tidied r.cleaner sink old tended.between new handed tended.then kept tended.tidies;
+          tended.between heard.handed tended.first answers tended.moves)
+          (tidies_on r.cleaner sink tended.between new handed tended.then answers tended.tidies);
+      kept = kept_tidied r.cleaner sink old tended.between new handed tended.then answers kept tended.tidies;
       taken = subst (λ (l : List ℕ). Consumes known rest l) (sym (ended-more heard.lines next.line))
           (Consumes-trans known left rest (ended heard.lines) (ended_line next.line) heard.taken next.taken);
       printed = Appends-trans start out more heard.told told.told heard.printed told.printed;
@@ -139,6 +150,7 @@ heard_last {F} {J} r sink old middle new speaker known left rest start out more 
     subst (λ (v : Held F J). HeardAll r sink old v known rest start more) (sym same)
     (record {
       handed = heard.handed;
+      answers = heard.answers;
       heard = record {
         then = speaker;
         lines = heard.lines;
@@ -162,6 +174,7 @@ heard_failed {F} {J} r sink old middle new speaker known left rest start out mor
     subst (λ (v : Held F J). HeardSoFar r sink old v known rest start more) (sym same)
     (record {
       handed = heard.handed;
+      answers = heard.answers;
       heard = record {
         then = speaker;
         lines = heard.lines;
@@ -181,6 +194,7 @@ pub heard_enough : {F J : Type 0} (r : Talker F) (sink : Sink J) (old new : Held
     → HasHeard r sink old new speaker known left start out → HeardSoFar r sink old new known left start out
 heard_enough r sink old new speaker known left start out heard = record {
   handed = heard.handed;
+  answers = heard.answers;
   heard = record {
     then = speaker;
     lines = heard.lines;
@@ -195,10 +209,10 @@ heard_enough r sink old new speaker known left start out heard = record {
 }
 
 -- a sink that takes more behind a line took entries before it
-pub tended_opened : {F J : Type 0} (r : Talker F) (sink : Sink J) (old : Held F J) (middle : Seen F) (new : Held F J)
-    → IsTended r.cleaner sink old middle new → new.is_open ≡ true → old.is_open ≡ true
-tended_opened r sink old middle new tended taking =
-    on_opened (course_of (record old { volume = middle }) []) (course_of tended.between tended.first)
+pub tended_opened : {F J : Type 0} (r : Talker F) (sink : Sink J) (old : Held F J) (middle : Seen F) (tally : Tally)
+    (new : Held F J) → IsTended r.cleaner sink old middle tally new → new.is_open ≡ true → old.is_open ≡ true
+tended_opened r sink old middle tally new tended taking =
+    on_opened (course_of (record old { volume = middle; tally = tally }) [] []) (course_of tended.between tended.first [])
     tended.moves.moves (tidied_opened r.cleaner sink tended.between new tended.then tended.tidies taking)
 
 -- ---- the end
@@ -207,19 +221,20 @@ tended_opened r sink old middle new tended taking =
 pub talk_ended : {F J : Type 0} (r : Talker F) (sink : Sink J) (old new : Held F J)
     (known left start before out : Option (List ℕ))
     → HeardAll r sink old new known left start before
-    → ((handed : List Entry) → new.told ≡ counts_of handed
-    → Appends before out (report_text (handed ++ new.volume.journal)))
+    → ((handed : List Entry) (answers : List StepAnswer) → new.tally ≡ tally_of handed answers
+    → Appends before out (run_report (handed ++ new.volume.journal) answers))
     → Since (r.cleaner.state new.volume.since) new.volume.since_level
     (λ from. IsLegal (r.cleaner.state new.volume.store).shape.numbers
     (r.cleaner.state new.volume.store).shape.segments new.volume.journal from)
     → IsKeptTalk r sink old new known left start out
 talk_ended r sink old new known left start before out heard reported legal = record {
   handed = heard.handed;
+  answers = heard.answers;
   talk = record {
     before = before;
     heard = heard.heard;
-    legal = all_legal r.cleaner.state sink old new heard.handed heard.kept legal;
-    reported = reported heard.handed heard.kept.counted;
+    legal = all_legal r.cleaner.state sink old new heard.handed heard.answers heard.kept legal;
+    reported = reported heard.handed heard.answers heard.kept.counted;
   };
   kept = heard.kept.caught;
 }
@@ -229,7 +244,7 @@ pub talk_failed : {F J : Type 0} (r : Talker F) (sink : Sink J) (old new : Held 
     (known left start out : Option (List ℕ))
     → HeardSoFar r sink old new known left start out → HasKeptSoFar r sink old new known left start out
 talk_failed r sink old new known left start out heard =
-    record { handed = heard.handed; so_far = heard.heard; kept = heard.kept.caught }
+    record { handed = heard.handed; answers = heard.answers; so_far = heard.heard; kept = heard.kept.caught }
 
 -- ---- one line
 

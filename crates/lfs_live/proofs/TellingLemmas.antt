@@ -1,6 +1,30 @@
 -- What is told of a volume, from wherever its journal began.
-use Rattle.std.proofs.Common.{Result, Ok, Err}
-use Rattle.std.specs.Prelude.{IfOk}
+use Rattle.std.proofs.Common.{◌≡◌, ℕ, List, [], ◌++◌, Option, None, Some, Result, Ok, Err, refl, sym, ap, subst, ◌∙◌}
+use Rattle.std.proofs.Common.{append-nil}
+use Rattle.std.specs.Prelude.{IfOk, MatchOption}
+use Rattle.lfs_types.specs.declared.request.Request.{Request}
+use Rattle.lfs_model.specs.declared.journal.Entry.{Entry}
+use Rattle.lfs_model.specs.declared.steps.StepAnswer.{StepAnswer}
+use Rattle.lfs_script.specs.declared.plan.Line.{Line}
+use Rattle.lfs_sinks.specs.Refusals.{AddsUp, tally_of}
+use Rattle.lfs_sinks.specs.declared.totals.Tally.{Tally}
+use Rattle.lfs_sinks.proofs.RefusalLemmas.{tally_is}
+use Rattle.lfs_volume.specs.Journals.{AtPresent}
+use Rattle.lfs_volume.specs.Seen.{Seen}
+use Rattle.lfs_live.specs.Hearing.{heard_of}
+use Rattle.lfs_live.specs.Steps.{HasAnswered}
+use Rattle.lfs_live.specs.Talkers.{Talker}
+use Rattle.lfs_browse.specs.Looks.{TellsLook}
+use Rattle.lfs_browse.specs.declared.look.Look.{Look}
+use Rattle.lfs_live.specs.Talking.{Does, Hears, IsAnsweredBy, LooksOn, asker_of}
+use Rattle.lfs_live.specs.Telling.{dot_text, fault_line}
+use Rattle.lfs_live.specs.declared.fault.LineFault.{LineFault}
+use Rattle.lfs_live.specs.declared.hearing.Dot.{Dot}
+use Rattle.lfs_live.specs.declared.hearing.Dot.TheVariants.{Quit}
+use Rattle.lfs_live.specs.declared.hearing.Inquiry.{Inquiry}
+use Rattle.lfs_live.specs.declared.hearing.Heard.{Heard}
+use Rattle.lfs_live.specs.declared.hearing.Heard.TheVariants as heard
+use Rattle.lfs_live.specs.declared.telling.Speaker.{Speaker}
 
 -- what holds of a result from each of some worlds, holds from each of them of a result that is Ok
 pub if_ok_at : {A E W : Type 0} (result : Result A E) (P : W → Type 0) (Q : W → A → Type 0)
@@ -15,3 +39,85 @@ pub if_ok_from : {A E W : Type 0} (result : Result A E) (P Q R S : W → Type 0)
     → (w : W) → P w → Q w → R w → S w → IfOk result (T w)
 if_ok_from (Ok a) P Q R S T holds = holds
 if_ok_from (Err e) P Q R S T holds = λ w p q r s. tt
+
+-- ---- what a line answers
+
+-- further answers were counted
+counted_more : (tally after : Tally) (given : List StepAnswer) → after.totals ≡ tally.totals
+    → AddsUp tally.refusals after.refusals given → (handed : List Entry) (answers : List StepAnswer)
+    → tally ≡ tally_of handed answers → after ≡ tally_of handed (answers ++ given)
+counted_more tally after given same adds = λ handed answers is.
+    tally_is after handed (answers ++ given) (same ∙ ap (λ (t : Tally). t.totals) is)
+    (adds answers (ap (λ (t : Tally). t.refusals) is))
+
+-- a line of a script was done
+pub line_answered : {F : Type 0} (r : Talker F) (old new : Seen F) (tally after : Tally) (speaker
+    then : Speaker) (line : List ℕ) (said : Line) (told : List ℕ) → heard_of line ≡ heard.Line said
+    → after.totals ≡ tally.totals
+    → (given : List StepAnswer) × Does r.cleaner old speaker said told new then given
+    × AddsUp tally.refusals after.refusals given
+    → HasAnswered r old new tally after speaker then (heard_of line) told
+line_answered {F} r old new tally after speaker then line said told is same (given, does, adds) =
+    subst (λ (h : Heard). HasAnswered r old new tally after speaker then h told) (sym is)
+    (record {
+      given = given;
+      heard = λ handed answers counted. does;
+      counted = counted_more tally after given same adds;
+    })
+
+-- nothing was done
+pub none_answered : {F : Type 0} (r : Talker F) (old new : Seen F) (tally : Tally) (speaker
+    then : Speaker) (said : Heard) (told : List ℕ)
+    → ((handed : List Entry) (answers : List StepAnswer) → tally ≡ tally_of handed answers
+    → Hears r handed answers old speaker said told new then [])
+    → HasAnswered r old new tally tally speaker then said told
+none_answered r old new tally speaker then said told hears = record {
+  given = [];
+  heard = hears;
+  counted = λ handed answers is. is ∙ ap (tally_of handed) (sym (append-nil answers));
+}
+
+-- a call was asked about, which is not made
+pub asks_answered : {F : Type 0} (r : Talker F) (old new : Seen F) (tally : Tally) (speaker : Speaker) (line : List ℕ)
+    (inquiry : Inquiry) (request : Request) (told : List ℕ) → heard_of line ≡ heard.Asks inquiry request
+    → LooksOn (r.cleaner.state old.store) (r.cleaner.state new.store) old new
+    → AtPresent r.cleaner.state old (λ w. IsAnsweredBy w inquiry speaker.cred request told)
+    → HasAnswered r old new tally tally speaker speaker (heard_of line) told
+asks_answered {F} r old new tally speaker line inquiry request told is looks text =
+    subst (λ (h : Heard). HasAnswered r old new tally tally speaker speaker h told) (sym is)
+    (none_answered r old new tally speaker speaker (heard.Asks inquiry request) told
+    (λ handed answers counted. (looks, refl, text, refl)))
+
+-- a path was looked at, by calls whose refusals are not counted
+pub look_answered : {F : Type 0} (r : Talker F) (old new : Seen F) (tally : Tally) (speaker : Speaker) (line : List ℕ)
+    (look : Look) (path : List (List ℕ)) (told : List ℕ) → heard_of line ≡ heard.Looks look path
+    → TellsLook r.cleaner old new (asker_of speaker) look path [] told
+    → HasAnswered r old new tally tally speaker speaker (heard_of line) told
+look_answered {F} r old new tally speaker line look path told is looks =
+    subst (λ (h : Heard). HasAnswered r old new tally tally speaker speaker h told) (sym is)
+    (none_answered r old new tally speaker speaker (heard.Looks look path) told
+    (λ handed answers counted. (looks, refl, refl)))
+
+-- a fault was told
+pub fault_answered : {F : Type 0} (r : Talker F) (old : Seen F) (tally : Tally) (speaker : Speaker) (line : List ℕ)
+    (fault : LineFault) (place told : List ℕ) → heard_of line ≡ heard.Fault fault place
+    → told ≡ fault_line fault place → HasAnswered r old old tally tally speaker speaker (heard_of line) told
+fault_answered {F} r old tally speaker line fault place told is text =
+    subst (λ (h : Heard). HasAnswered r old old tally tally speaker speaker h told) (sym is)
+    (none_answered r old old tally speaker speaker (heard.Fault fault place) told
+    (λ handed answers counted. (refl, refl, text, refl)))
+
+-- a word of the server's own was told, or ends the talk
+pub dot_answered : {F T E : Type 0} (items : T → List ℕ) (r : Talker F) (old : Seen F) (tally : Tally)
+    (speaker : Speaker) (line : List ℕ) (dot : Dot) (result : Result (Option T) E) → heard_of line ≡ heard.Dot dot
+    → IfOk result (λ given. MatchOption given (dot ≡ Quit) (λ text. (handed : List Entry)
+    (answers : List StepAnswer) → tally ≡ tally_of handed answers → dot_text r dot handed answers old
+    ≡ Some (items text)))
+    → IfOk result (λ given. MatchOption given ((heard_of line ≡ heard.Dot Quit) × (old ≡ old) × (tally ≡ tally))
+    (λ text. HasAnswered r old old tally tally speaker speaker (heard_of line) (items text)))
+dot_answered {F} items r old tally speaker line dot (Ok (Some text)) is tells =
+    subst (λ (h : Heard). HasAnswered r old old tally tally speaker speaker h (items text)) (sym is)
+    (none_answered r old old tally speaker speaker (heard.Dot dot) (items text)
+    (λ handed answers counted. (refl, refl, tells handed answers counted, refl)))
+dot_answered items r old tally speaker line dot (Ok None) is quits = (is ∙ ap heard.Dot quits, refl, refl)
+dot_answered items r old tally speaker line dot (Err e) is tells = tt

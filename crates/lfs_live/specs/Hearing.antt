@@ -5,6 +5,7 @@ use Rattle.std.specs.List.{starts_with}
 use Rattle.std.specs.Str.{bytes_eq}
 use Rattle.lfs_script.specs.Places.{place_text}
 use Rattle.lfs_script.specs.Plans.{line_said}
+use Rattle.lfs_script.specs.Requests.{lone_path}
 use Rattle.lfs_script.specs.declared.plan.Line.{Line as Said}
 use Rattle.lfs_script.specs.declared.plan.Line.TheVariants.{Nothing, Session, Caller, Act}
 use Rattle.lfs_script.specs.declared.plan.Act.{Act as Asked}
@@ -15,11 +16,13 @@ use Rattle.lfs_words.specs.Numbers.{long_of}
 use Rattle.lfs_words.specs.Wording.{words_of}
 use Rattle.lfs_words.specs.declared.fault.FaultKind.{FaultKind}
 use Rattle.lfs_words.specs.declared.fault.FaultKind.TheVariants.{Bytes, Words}
+use Rattle.lfs_browse.specs.declared.look.Look.{Look}
+use Rattle.lfs_browse.specs.declared.look.Look.TheVariants.{Listing, Content}
 use Rattle.lfs_live.specs.declared.fault.LineFault.TheVariants.{TooLong, Kind}
 use Rattle.lfs_live.specs.declared.hearing.Dot.{Dot as Word}
 use Rattle.lfs_live.specs.declared.hearing.Dot.TheVariants.{Journal, Map, Segment, Space, Report, Help, Quit}
 use Rattle.lfs_live.specs.declared.hearing.Heard.{Heard}
-use Rattle.lfs_live.specs.declared.hearing.Heard.TheVariants.{Line, Asks, Dot, Fault}
+use Rattle.lfs_live.specs.declared.hearing.Heard.TheVariants.{Line, Asks, Looks, Dot, Fault}
 use Rattle.lfs_live.specs.declared.hearing.Inquiry.{Inquiry}
 use Rattle.lfs_live.specs.declared.hearing.Inquiry.TheVariants.{Why, Who}
 
@@ -114,16 +117,37 @@ abbrev pub asked_heard : Inquiry → List ℕ → Result Said FaultKind → Hear
 asked_heard inquiry line (Ok said) = asked_line inquiry said
 asked_heard inquiry line (Err kind) = Fault (Kind kind) (place_text 5 line)
 
--- what a line says that begins with a dot: what is asked about the call behind `.why ` or `.who `, or a word of the
--- server's own
+-- the path that a lone word of a line spells
+abbrev pub path_said : List ℕ → Result (List (List ℕ)) FaultKind
+path_said line = if is_printable line then lone_path (words_of line) else Err Bytes
+
+-- where the path of a look stands
+abbrev pub look_place : Look → List ℕ
+look_place Listing = codes " at 5: a path stands here"
+look_place Content = codes " at 6: a path stands here"
+
+-- a look at a path
+abbrev pub look_heard : Look → Result (List (List ℕ)) FaultKind → Heard
+look_heard look (Ok path) = Looks look path
+look_heard look (Err kind) = Fault (Kind kind) (look_place look)
+
+-- what a line says that begins with a dot and asks nothing about a call: a look at the path behind `.ls ` or `.cat `, or
+-- a word of the server's own
+abbrev pub word_heard : List ℕ → Heard
+word_heard line =
+    if starts_with nat_eq line (codes ".ls ") then look_heard Listing (path_said (drop 4 line)) else
+    if starts_with nat_eq line (codes ".cat ") then look_heard Content (path_said (drop 5 line)) else
+    dot_heard (dot_said line)
+
+-- what a line says that begins with a dot: what is asked about the call behind `.why ` or `.who `, or one of these
 abbrev pub dotted_heard : List ℕ → Heard
 dotted_heard line =
     if starts_with nat_eq line (codes ".why ") then asked_heard Why (drop 5 line) (line_said (drop 5 line)) else
     if starts_with nat_eq line (codes ".who ") then asked_heard Who (drop 5 line) (line_said (drop 5 line)) else
-    dot_heard (dot_said line)
+    word_heard line
 
 -- what a line says, which is given without its line feed: one that is too long says nothing, one that begins with a dot
--- a word of the server's own, each other what a line of a script says
+-- a word with a dot, each other what a line of a script says
 unfoldable pub heard_of : List ℕ → Heard
 heard_of line =
     if is_long line then Fault TooLong [] else

@@ -1,39 +1,46 @@
 -- A volume that is talked to, whose journal is given to a sink, and what was handed out of the journal by then.
 use Rattle.std.specs.Prelude.{◌≡◌, ℕ, ◌+◌, ◌<◌, ◌≤◌, ◌⊎◌, Bool, true, false, List, [], ◌++◌, drop, length, Option}
 use Rattle.std.specs.Io.KnownBytes.{Appends}
-use Rattle.lfs_model.specs.Counts.{counts_of}
 use Rattle.lfs_model.specs.Steps.{IsLegal, world_after}
-use Rattle.lfs_model.specs.declared.counts.Counts.{Counts}
 use Rattle.lfs_model.specs.declared.journal.Entry.{Entry}
+use Rattle.lfs_model.specs.declared.steps.StepAnswer.{StepAnswer}
 use Rattle.lfs_types.specs.StoreStates.{StoreState}
 use Rattle.lfs_volume.specs.Journals.{AtPresent, Begins, Since}
 use Rattle.lfs_volume.specs.Seen.{Seen}
 use Rattle.lfs_sinks.specs.Numbered.{numbered_text}
+use Rattle.lfs_sinks.specs.Refusals.{tally_of}
+use Rattle.lfs_sinks.specs.declared.totals.Tally.{Tally}
 
--- a volume, the sink of its journal, how the calls of the entries that were handed out were answered, whether the sink
--- takes more, and whether the cleaner makes a pass unasked where few segments are clean
+-- a volume, the sink of its journal, what is counted of the entries that were handed out and of the answers that were
+-- told, whether the sink takes more, and whether the cleaner makes a pass unasked where few segments are clean
 pub record Held (F J : Type 0) : Type 0 where
   pub volume : Seen F
   pub sink : J
-  pub told : Counts
+  pub tally : Tally
   pub is_open : Bool
   pub cleans : Bool
 
--- a volume's journal is empty, and nothing was handed out of it
+-- a volume's journal is empty, nothing was handed out of it, and no answer was told
 abbrev pub HasBegun : {F J : Type 0} → Held F J → Type 0
-HasBegun held = (held.told ≡ counts_of []) × (held.volume.journal ≡ [])
+HasBegun held = (held.tally ≡ tally_of [] []) × (held.volume.journal ≡ [])
 
--- a volume that is talked to, the entries that were handed out of its journal, whether more may be handed out, and
--- whether passes are made unasked
+-- a volume that is talked to, the entries that were handed out of its journal, the answers that were told, whether more
+-- entries may be handed out, and whether passes are made unasked
 pub record Course (F : Type 0) : Type 0 where
   pub volume : Seen F
   pub handed : List Entry
+  pub answers : List StepAnswer
   pub is_open : Bool
   pub cleans : Bool
 
-abbrev pub course_of : {F J : Type 0} → Held F J → List Entry → Course F
-course_of held handed =
-    record { volume = held.volume; handed = handed; is_open = held.is_open; cleans = held.cleans }
+abbrev pub course_of : {F J : Type 0} → Held F J → List Entry → List StepAnswer → Course F
+course_of held handed answers = record {
+  volume = held.volume;
+  handed = handed;
+  answers = answers;
+  is_open = held.is_open;
+  cleans = held.cleans;
+}
 
 -- a volume whose entries were handed out: its journal begins at its present tree
 abbrev pub drained : {F : Type 0} → Seen F → Seen F
@@ -78,11 +85,11 @@ pub record Takes {J : Type 0} (sink : Sink J) (old new : J) (entries : List Entr
   pub numbered : sink.next new ≡ sink.next old + length entries
 
 -- Since a talk began with an empty journal, these entries were handed out, a legal run from where the journal began then
--- to where it begins now; they are counted; and a sink that takes more has the line of each entry, of those that were
+-- to where it begins now, and these answers were told; they are counted; and a sink that takes more has the line of each entry, of those that were
 -- handed out and of those that are kept, in order, each once.
 pub record HasKept {F J : Type 0} (state : F → StoreState) (sink : Sink J) (old new : Held F J)
-    (handed : List Entry) : Type 0 where
-  pub counted : new.told ≡ counts_of handed
+    (handed : List Entry) (answers : List StepAnswer) : Type 0 where
+  pub counted : new.tally ≡ tally_of handed answers
   pub caught : new.is_open ≡ true → Takes sink old.sink new.sink (handed ++ new.volume.journal)
   pub opened : new.is_open ≡ true → old.is_open ≡ true
   pub legal : Since (state old.volume.since) old.volume.since_level (λ from.
@@ -95,8 +102,9 @@ pub record HasKept {F J : Type 0} (state : F → StoreState) (sink : Sink J) (ol
 -- sink that takes more has got the lines of its entries behind so many.
 pub record Moves {F J : Type 0} (state : F → StoreState) (sink : Sink J) (before : ℕ) (old new : Held F J)
     (more : List Entry) : Type 0 where
-  pub moves : MovesOn (course_of old []) (course_of new more)
-  pub counted : (handed : List Entry) → old.told ≡ counts_of handed → new.told ≡ counts_of (handed ++ more)
+  pub moves : MovesOn (course_of old [] []) (course_of new more [])
+  pub counted : (handed : List Entry) (answers : List StepAnswer) → old.tally ≡ tally_of handed answers
+      → new.tally ≡ tally_of (handed ++ more) answers
   pub caught : new.is_open ≡ true → Takes sink old.sink new.sink (drop before old.volume.journal)
   pub legal : Since (state old.volume.since) old.volume.since_level (λ from.
       let shape = (state old.volume.store).shape in

@@ -48,7 +48,7 @@ pub record Manner : Type 0 where
 -- a talk that begins so with a volume
 abbrev pub begins_with : {F : Type 0} → Seen F → Manner → Course F
 begins_with volume manner =
-    record { volume = volume; handed = []; is_open = manner.is_open; cleans = manner.cleans }
+    record { volume = volume; handed = []; answers = []; is_open = manner.is_open; cleans = manner.cleans }
 
 -- a talk over a volume that begins so
 pub record IsTalkOver (begins : Seen Parts → Type 0) (manner : Manner)
@@ -96,7 +96,7 @@ IsLogFault segments inodes frames fault = IsTalkFault fault
 abbrev pub WritesAsScript : Type 0
 WritesAsScript =
     (old new : Course Parts) (script : List ℕ) (left start out : Option (List ℕ)) (plan : Planned)
-    → old.volume.journal ≡ [] → old.handed ≡ [] → old.is_open ≡ false → old.cleans ≡ false
+    → old.volume.journal ≡ [] → old.handed ≡ [] → old.answers ≡ [] → old.is_open ≡ false → old.cleans ≡ false
     → plan_of script ≡ Ok plan → All (λ line. length line ≤ 65536) (lines_of script)
     → IsTalk log_talker old new (Some script) left start out
     → let v = old.volume in

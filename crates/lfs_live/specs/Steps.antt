@@ -1,8 +1,10 @@
 -- One line heard.
-use Rattle.std.specs.Prelude.{◌≡◌, ℕ, true, false, List, [], length, Option}
+use Rattle.std.specs.Prelude.{◌≡◌, ℕ, true, false, List, [], ◌++◌, length, Option}
 use Rattle.std.specs.Io.KnownBytes.{Appends, Consumes, Keeps}
-use Rattle.lfs_model.specs.Counts.{counts_of}
 use Rattle.lfs_model.specs.declared.journal.Entry.{Entry}
+use Rattle.lfs_model.specs.declared.steps.StepAnswer.{StepAnswer}
+use Rattle.lfs_sinks.specs.Refusals.{tally_of}
+use Rattle.lfs_sinks.specs.declared.totals.Tally.{Tally}
 use Rattle.lfs_words.specs.Lines.{HasNoLineFeed}
 use Rattle.lfs_script.specs.declared.plan.Act.TheVariants.{Pass}
 use Rattle.lfs_volume.specs.Cleanings.{Cleaner}
@@ -19,18 +21,28 @@ use Rattle.lfs_live.specs.declared.telling.Speaker.{Speaker}
 -- The cleaner made a pass where one was due, and what it entered moved on.
 pub record HasTidied {F J : Type 0} (r : Cleaner F) (sink : Sink J) (old new : Held F J)
     (more : List Entry) : Type 0 where
-  pub passes : is_due r.state (course_of old []) ≡ true → (passed : Seen F) × (untold : List ℕ)
+  pub passes : is_due r.state (course_of old [] []) ≡ true → (passed : Seen F) × (untold : List ℕ)
       × TellsLine r old.volume passed 255 first_speaker.cred Pass [] untold
       × Moves r.state sink (length old.volume.journal) (record old { volume = passed }) new more
-  pub stays : is_due r.state (course_of old []) ≡ false → (new ≡ old) × (more ≡ [])
+  pub stays : is_due r.state (course_of old [] []) ≡ false → (new ≡ old) × (more ≡ [])
+
+-- What a line says was done, its answers were counted, and this text is told of it.
+pub record HasAnswered {F : Type 0} (r : Talker F) (old new : Seen F) (tally after : Tally) (speaker
+    then : Speaker) (said : Heard) (told : List ℕ) : Type 0 where
+  pub given : List StepAnswer
+  pub heard : (handed : List Entry) (answers : List StepAnswer) → tally ≡ tally_of handed answers
+      → Hears r handed answers old speaker said told new then given
+  pub counted : (handed : List Entry) (answers : List StepAnswer) → tally ≡ tally_of handed answers
+      → after ≡ tally_of handed (answers ++ given)
 
 -- A volume that is talked to moved on behind a line that left it so, and a pass of the cleaner was made where one was due.
-pub record IsTended {F J : Type 0} (r : Cleaner F) (sink : Sink J) (old : Held F J) (middle : Seen F)
+pub record IsTended {F J : Type 0} (r : Cleaner F) (sink : Sink J) (old : Held F J) (middle : Seen F) (tally : Tally)
     (new : Held F J) : Type 0 where
   pub between : Held F J
   pub first : List Entry
   pub then : List Entry
-  pub moves : Moves r.state sink (length old.volume.journal) (record old { volume = middle }) between first
+  pub moves : Moves r.state sink (length old.volume.journal) (record old { volume = middle; tally = tally }) between
+      first
   pub tidies : HasTidied r sink between new then
 
 -- What a line says was done; then a sink that takes entries got the lines of those that it entered, and they were handed
@@ -38,10 +50,10 @@ pub record IsTended {F J : Type 0} (r : Cleaner F) (sink : Sink J) (old : Held F
 pub record IsTold {F J : Type 0} (r : Talker F) (sink : Sink J) (old new : Held F J) (speaker
     then : Speaker) (said : Heard) (start out : Option (List ℕ)) : Type 0 where
   pub middle : Seen F
+  pub tally : Tally
   pub told : List ℕ
-  pub heard : (handed : List Entry) → old.told ≡ counts_of handed → Hears r handed old.volume speaker said told middle
-      then
-  pub tended : IsTended r.cleaner sink old middle new
+  pub answered : HasAnswered r old.volume middle old.tally tally speaker then said told
+  pub tended : IsTended r.cleaner sink old middle tally new
   pub printed : Appends start out told
 
 -- the same of a line that was read with its line feed
@@ -71,12 +83,14 @@ pub record FailsHere (known left start out : Option (List ℕ)) : Type 0 where
 pub record HeardAll {F J : Type 0} (r : Talker F) (sink : Sink J) (old new : Held F J)
     (known left start out : Option (List ℕ)) : Type 0 where
   pub handed : List Entry
-  pub heard : HasHeardAll r (course_of old []) (course_of new handed) known left start out
-  pub kept : HasKept r.cleaner.state sink old new handed
+  pub answers : List StepAnswer
+  pub heard : HasHeardAll r (course_of old [] []) (course_of new handed answers) known left start out
+  pub kept : HasKept r.cleaner.state sink old new handed answers
 
 -- the same up to a read that failed
 pub record HeardSoFar {F J : Type 0} (r : Talker F) (sink : Sink J) (old new : Held F J)
     (known left start out : Option (List ℕ)) : Type 0 where
   pub handed : List Entry
-  pub heard : HasHeardSoFar r (course_of old []) (course_of new handed) known left start out
-  pub kept : HasKept r.cleaner.state sink old new handed
+  pub answers : List StepAnswer
+  pub heard : HasHeardSoFar r (course_of old [] []) (course_of new handed answers) known left start out
+  pub kept : HasKept r.cleaner.state sink old new handed answers

@@ -8,7 +8,8 @@ use Rattle.lfs_types.specs.Tree.{World}
 use Rattle.lfs_types.specs.declared.request.Request.{Request}
 use Rattle.lfs_model.specs.Steps.{IsLegal}
 use Rattle.lfs_model.specs.declared.journal.Entry.{Entry}
-use Rattle.lfs_print.specs.ReportText.{report_text}
+use Rattle.lfs_model.specs.declared.steps.StepAnswer.{StepAnswer}
+use Rattle.lfs_sinks.specs.Refusals.{run_report}
 use Rattle.lfs_script.specs.declared.plan.Line.{Line}
 use Rattle.lfs_script.specs.declared.plan.Act.TheVariants.{Pass}
 use Rattle.lfs_script.specs.declared.plan.Line.TheVariants.{Nothing, Session, Caller, Act}
@@ -17,6 +18,8 @@ use Rattle.lfs_volume.specs.Cleanings.{Cleaner}
 use Rattle.lfs_volume.specs.Journals.{AtPresent, Since}
 use Rattle.lfs_volume.specs.Seen.{Seen}
 use Rattle.lfs_audit.specs.Runs.{TellsLine}
+use Rattle.lfs_browse.specs.Looks.{TellsLook}
+use Rattle.lfs_browse.specs.declared.asker.Asker.{Asker}
 use Rattle.lfs_who.specs.WhoText.{IsWhoTold}
 use Rattle.lfs_why.specs.WhyText.{why_text}
 use Rattle.lfs_live.specs.Hearing.{heard_of}
@@ -35,14 +38,20 @@ use Rattle.lfs_live.specs.declared.telling.Speaker.{Speaker}
 abbrev pub first_speaker : Speaker
 first_speaker = record { session = 0; cred = record { uid = 0; groups = 0 ∷ []; init = false } }
 
--- what a line of a script did on a volume, who speaks then, and what is told of it
-abbrev pub Does : {F : Type 0} → Cleaner F → Seen F → Speaker → Line → List ℕ → Seen F → Speaker → Type 0
-Does r old speaker Nothing told new then = (new ≡ old) × (then ≡ speaker) × (told ≡ [])
-Does r old speaker (Session session) told new then =
-    (new ≡ old) × (then ≡ record speaker { session = session }) × (told ≡ [])
-Does r old speaker (Caller cred) told new then = (new ≡ old) × (then ≡ record speaker { cred = cred }) × (told ≡ [])
-Does r old speaker (Act act) told new then =
-    TellsLine r old new speaker.session speaker.cred act [] told × (then ≡ speaker)
+-- who speaks, as one who makes the calls of a look
+abbrev pub asker_of : Speaker → Asker
+asker_of speaker = record { session = speaker.session; cred = speaker.cred }
+
+-- what a line of a script did on a volume, who speaks then, what is told of it, and how its calls were answered
+abbrev pub Does : {F : Type 0} → Cleaner F → Seen F → Speaker → Line → List ℕ → Seen F → Speaker → List StepAnswer
+    → Type 0
+Does r old speaker Nothing told new then given = (new ≡ old) × (then ≡ speaker) × (told ≡ []) × (given ≡ [])
+Does r old speaker (Session session) told new then given =
+    (new ≡ old) × (then ≡ record speaker { session = session }) × (told ≡ []) × (given ≡ [])
+Does r old speaker (Caller cred) told new then given =
+    (new ≡ old) × (then ≡ record speaker { cred = cred }) × (told ≡ []) × (given ≡ [])
+Does r old speaker (Act act) told new then given =
+    (does : TellsLine r old new speaker.session speaker.cred act [] told) × (then ≡ speaker) × (given ≡ does.answers)
 
 -- a volume was looked at: its store shows what it showed, and all else is as it was
 pub record LooksOn {F : Type 0} (before after : StoreState) (old new : Seen F) : Type 0 where
@@ -58,17 +67,22 @@ abbrev pub IsAnsweredBy : World → Inquiry → Credential → Request → List 
 IsAnsweredBy w Why caller request told = told ≡ why_text w caller request
 IsAnsweredBy w Who caller request told = IsWhoTold w request told
 
--- The same of each line, with the entries that were handed out by then: a call that is asked about is not made, and a
--- word of the server's own and a fault change nothing.
-abbrev pub Hears : {F : Type 0} → Talker F → List Entry → Seen F → Speaker → Heard → List ℕ → Seen F → Speaker → Type 0
-Hears r handed old speaker (heard.Line line) told new then = Does r.cleaner old speaker line told new then
-Hears r handed old speaker (heard.Asks inquiry request) told new then =
+-- The same of each line, with the entries that were handed out and the answers that were told by then: a call that is
+-- asked about is not made, a look makes its calls, whose refusals are not counted, and a word of the server's own and a
+-- fault change nothing.
+abbrev pub Hears : {F : Type 0} → Talker F → List Entry → List StepAnswer → Seen F → Speaker → Heard → List ℕ → Seen F
+    → Speaker → List StepAnswer → Type 0
+Hears r handed answers old speaker (heard.Line line) told new then given =
+    Does r.cleaner old speaker line told new then given
+Hears r handed answers old speaker (heard.Asks inquiry request) told new then given =
     LooksOn (r.cleaner.state old.store) (r.cleaner.state new.store) old new × (then ≡ speaker)
-    × AtPresent r.cleaner.state old (λ w. IsAnsweredBy w inquiry speaker.cred request told)
-Hears r handed old speaker (heard.Dot dot) told new then =
-    (new ≡ old) × (then ≡ speaker) × (dot_text r dot handed old ≡ Some told)
-Hears r handed old speaker (heard.Fault fault place) told new then =
-    (new ≡ old) × (then ≡ speaker) × (told ≡ fault_line fault place)
+    × AtPresent r.cleaner.state old (λ w. IsAnsweredBy w inquiry speaker.cred request told) × (given ≡ [])
+Hears r handed answers old speaker (heard.Looks look path) told new then given =
+    TellsLook r.cleaner old new (asker_of speaker) look path [] told × (then ≡ speaker) × (given ≡ [])
+Hears r handed answers old speaker (heard.Dot dot) told new then given =
+    (new ≡ old) × (then ≡ speaker) × (dot_text r dot handed answers old ≡ Some told) × (given ≡ [])
+Hears r handed answers old speaker (heard.Fault fault place) told new then given =
+    (new ≡ old) × (then ≡ speaker) × (told ≡ fault_line fault place) × (given ≡ [])
 
 -- a pass of the cleaner is due: passes are made unasked, and at most three segments are clean
 abbrev pub is_due : {F : Type 0} → (F → StoreState) → Course F → Bool
@@ -93,9 +107,9 @@ abbrev pub HearsAll : {F : Type 0} → Talker F → Course F → Speaker → Lis
 HearsAll r old speaker [] told new then = (new ≡ old) × (then ≡ speaker) × (told ≡ [])
 HearsAll {F} r old speaker (line ∷ lines) told new then =
     (first : List ℕ) × (rest : List ℕ) × (middle : Seen F) × (after : Course F) × (tidied : Course F)
-    × (next : Speaker) × (told ≡ first ++ rest) × HasNoLineFeed line
-    × Hears r old.handed old.volume speaker (heard_of line) first middle next
-    × MovesOn (record old { volume = middle }) after × Tidies r.cleaner after tidied
+    × (next : Speaker) × (given : List StepAnswer) × (told ≡ first ++ rest) × HasNoLineFeed line
+    × Hears r old.handed old.answers old.volume speaker (heard_of line) first middle next given
+    × MovesOn (record old { volume = middle; answers = old.answers ++ given }) after × Tidies r.cleaner after tidied
     × HearsAll r tidied next lines rest new then
 
 -- lines, each with its line feed
@@ -135,7 +149,7 @@ pub record HasHeardAll {F : Type 0} (r : Talker F) (old new : Course F)
   pub printed : Appends start out (told ++ told_last)
 
 -- the same, and then the report of all entries, those that were handed out and those that are kept, which are legal from
--- the tree where the journal began
+-- the tree where the journal began, and of the answers that were told
 pub record IsTalk {F : Type 0} (r : Talker F) (old new : Course F)
     (known left start out : Option (List ℕ)) : Type 0 where
   pub before : Option (List ℕ)
@@ -143,19 +157,21 @@ pub record IsTalk {F : Type 0} (r : Talker F) (old new : Course F)
   pub legal : Since (r.cleaner.state old.volume.since) old.volume.since_level (λ from.
       let shape = (r.cleaner.state old.volume.store).shape in
       IsLegal shape.numbers shape.segments (new.handed ++ new.volume.journal) from)
-  pub reported : Appends before out (report_text (new.handed ++ new.volume.journal))
+  pub reported : Appends before out (run_report (new.handed ++ new.volume.journal) new.answers)
 
 -- A talk with its sink: the entries that were handed out; and a sink that takes more has the lines of all entries, in
 -- order, each once.
 pub record IsKeptTalk {F J : Type 0} (r : Talker F) (sink : Sink J) (old new : Held F J)
     (known left start out : Option (List ℕ)) : Type 0 where
   pub handed : List Entry
-  pub talk : IsTalk r (course_of old []) (course_of new handed) known left start out
+  pub answers : List StepAnswer
+  pub talk : IsTalk r (course_of old [] []) (course_of new handed answers) known left start out
   pub kept : new.is_open ≡ true → Takes sink old.sink new.sink (handed ++ new.volume.journal)
 
 -- the same up to a read that failed
 pub record HasKeptSoFar {F J : Type 0} (r : Talker F) (sink : Sink J) (old new : Held F J)
     (known left start out : Option (List ℕ)) : Type 0 where
   pub handed : List Entry
-  pub so_far : HasHeardSoFar r (course_of old []) (course_of new handed) known left start out
+  pub answers : List StepAnswer
+  pub so_far : HasHeardSoFar r (course_of old [] []) (course_of new handed answers) known left start out
   pub kept : new.is_open ≡ true → Takes sink old.sink new.sink (handed ++ new.volume.journal)

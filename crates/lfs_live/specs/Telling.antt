@@ -1,7 +1,8 @@
 -- What is told of faults and of the words of the server's own.
 use Rattle.std.specs.Prelude.{ℕ, List, [], ◌∷◌, ◌++◌, codes, decimal, length, Option, None, Some, if◌then◌else◌}
 use Rattle.lfs_model.specs.declared.journal.Entry.{Entry}
-use Rattle.lfs_print.specs.ReportText.{report_text}
+use Rattle.lfs_model.specs.declared.steps.StepAnswer.{StepAnswer}
+use Rattle.lfs_sinks.specs.Refusals.{run_report}
 use Rattle.lfs_words.specs.declared.fault.FaultKind.{FaultKind}
 use Rattle.lfs_words.specs.declared.fault.FaultKind.TheVariants.{Cut, Bytes, Words, Many, Number, Range, Path, Hex}
 use Rattle.lfs_words.specs.declared.fault.FaultKind.TheVariants.{Cred, Memory}
@@ -49,14 +50,14 @@ entries_told kept limit handed =
     ended_line (codes "entries" ++ 32 ∷ decimal kept ++ 32 ∷ codes "kept" ++ 32 ∷ codes "of" ++ 32 ∷ decimal limit)
     ++ ended_line (codes "entries" ++ 32 ∷ decimal handed ++ 32 ∷ codes "handed out")
 
--- What a word of the server's own tells of a volume and of the entries that were handed out of its journal, by the
--- texts that its store shows; `.quit` tells nothing, but ends.
-abbrev pub dot_text : {F : Type 0} → Talker F → Dot → List Entry → Seen F → Option (List ℕ)
-dot_text r (Journal count) handed volume = Some (journal_text count volume.journal)
-dot_text r Map handed volume = Some (r.map_text volume.store)
-dot_text r (Segment number) handed volume = Some (r.segment_text volume.store number)
-dot_text r Space handed volume =
+-- What a word of the server's own tells of a volume, of the entries that were handed out of its journal and of the answers
+-- that were told, by the texts that its store shows; `.quit` tells nothing, but ends.
+abbrev pub dot_text : {F : Type 0} → Talker F → Dot → List Entry → List StepAnswer → Seen F → Option (List ℕ)
+dot_text r (Journal count) handed answers volume = Some (journal_text count volume.journal)
+dot_text r Map handed answers volume = Some (r.map_text volume.store)
+dot_text r (Segment number) handed answers volume = Some (r.segment_text volume.store number)
+dot_text r Space handed answers volume =
     Some (r.space_text volume.store ++ entries_told (length volume.journal) volume.limit (length handed))
-dot_text r Report handed volume = Some (report_text (handed ++ volume.journal))
-dot_text r Help handed volume = Some help_text
-dot_text r Quit handed volume = None
+dot_text r Report handed answers volume = Some (run_report (handed ++ volume.journal) answers)
+dot_text r Help handed answers volume = Some help_text
+dot_text r Quit handed answers volume = None

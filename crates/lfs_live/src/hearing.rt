@@ -2,17 +2,21 @@
 
 ghost use Rattle.std.specs.Prelude.{◌≡◌, map, IfOk};
 ghost use Rattle.lfs_script.specs.Plans.{line_said};
+ghost use Rattle.lfs_script.specs.Requests.{lone_path};
 ghost use Rattle.lfs_words.specs.Faults.{ReadsAs};
-ghost use Rattle.lfs_live.specs.Hearing.{asked_act, asked_heard, asked_line, asks_help, call_heard, dot_alone, dot_heard, dot_of, dot_said, dot_with, dot_word, dotted_heard, heard_of, is_dotted, is_long, lone_dot, no_call, other_heard};
+ghost use Rattle.lfs_live.specs.Hearing.{asked_act, asked_heard, asked_line, asks_help, call_heard, dot_alone, dot_heard, dot_of, dot_said, dot_with, dot_word, dotted_heard, heard_of, is_dotted, is_long, lone_dot, look_heard, look_place, no_call, other_heard, path_said, word_heard};
 
 use crate::fault::{LineFault, Place};
+use lfs_browse::look::Look;
 use lfs_script::plan::{Act, Line};
 use lfs_script::script::parse_line;
+use lfs_types::path::Path;
 use lfs_types::request::Request;
 use lfs_words::fault::FaultKind;
 use lfs_words::line::text_of;
 use lfs_words::number::decimal;
-use lfs_words::words::pieces;
+use lfs_words::path::path_of;
+use lfs_words::words::{one_word, pieces};
 use std::alloc::{AllocError, Global};
 
 /// The most bytes of a line.
@@ -53,6 +57,8 @@ pub enum Heard {
     Line(Line),
     /// Tells what is asked about a call, which is not made. It changes nothing.
     Asks(Inquiry, Request),
+    /// Looks at a path, by calls of who speaks.
+    Looks(Look, Path),
     /// A word of the server's own.
     Dot(Dot),
     /// Nothing that is done, for this fault, which stands there.
@@ -160,7 +166,60 @@ fn hear_dotted(alloc: Global, line: &[u8]) -> Result<Heard, AllocError>
     if line.starts_with(b".who ") {
         return hear_inquiry(alloc, Inquiry::Who, &line[5..]);
     }
+    hear_word(alloc, line)
+}
+
+/// What a line says that begins with a dot and asks nothing about a call.
+fn hear_word(alloc: Global, line: &[u8]) -> Result<Heard, AllocError>
+    ensures { IfOk result (λ heard. heard ≡ word_heard line.now) }
+{
+    if line.starts_with(b".ls ") {
+        return hear_look(alloc, Look::Listing, &line[4..]);
+    }
+    if line.starts_with(b".cat ") {
+        return hear_look(alloc, Look::Content, &line[5..]);
+    }
     hear_dot(alloc, line)
+}
+
+/// A look at the path that a word is.
+fn hear_look(alloc: Global, look: Look, word: &[u8]) -> Result<Heard, AllocError>
+    ensures { IfOk result (λ heard. heard ≡ look_heard look (path_said word.now)) }
+{
+    match path_in(alloc, word) {
+        Ok(path) => Ok(Heard::Looks(look, path)),
+        Err(FaultKind::Memory) => Err(AllocError),
+        Err(kind) => {
+            let place = Place::told(alloc, look_place(look))?;
+            Ok(Heard::Fault(LineFault::Kind(kind), place))
+        }
+    }
+}
+
+/// What is told of a path to look at that is none.
+fn look_place(look: Look) -> &'static str
+    ensures { result.now ≡ look_place look }
+{
+    match look {
+        Look::Listing => " at 5: a path stands here",
+        Look::Content => " at 6: a path stands here",
+    }
+}
+
+/// The path that a lone word of a line spells.
+fn path_in(alloc: Global, line: &[u8]) -> Result<Path, FaultKind>
+    ensures { ReadsAs (path_said line.now) result }
+{
+    let text = text_of(line)?;
+    let words = pieces(alloc, text, ' ')?;
+    lone_path(alloc, words.as_slice())
+}
+
+/// The path that a lone word spells.
+fn lone_path(alloc: Global, words: &[&str]) -> Result<Path, FaultKind>
+    ensures { ReadsAs (lone_path (map (λ x. x.now) words.now)) result }
+{
+    path_of(alloc, one_word(words)?)
 }
 
 /// What is asked about what a line of a script says: a user's call, and nothing else. Five bytes stand before it.

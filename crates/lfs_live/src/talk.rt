@@ -3,9 +3,9 @@
 ghost use Rattle.std.specs.Prelude.{◌≡◌, ◌++◌, [], List, false, true, IfErr, IfOk, OnOk};
 ghost use Rattle.std.specs.Io.KnownBytes.{Appends, Keeps};
 ghost use Rattle.lfs_audit.specs.declared.fault.RunFault.TheVariants.{Read};
-ghost use Rattle.lfs_model.specs.Counts.{counts_of};
 ghost use Rattle.lfs_model.specs.Steps.{IsLegal};
-ghost use Rattle.lfs_print.specs.ReportText.{report_text};
+ghost use Rattle.lfs_model.specs.declared.steps.StepAnswer.{StepAnswer};
+ghost use Rattle.lfs_sinks.specs.Refusals.{run_report, tally_of};
 ghost use Rattle.lfs_volume.specs.Cleanings.{cleaner_of};
 ghost use Rattle.lfs_volume.specs.Journals.{Since};
 ghost use Rattle.lfs_live.specs.Held.{HasBegun, sink_of};
@@ -72,22 +72,23 @@ pub fn talk<
     report(alloc, writer, tended)
 }
 
-/// Writes the report over all entries.
+/// Writes the report over all entries, and of the answers that were told.
 fn report<F: FileStore + Drop, J: JournalSink + Drop, V: Drop, W: Write>(
     alloc: Global,
     writer: &mut W,
     tended: &Tended<F, J, V>,
 ) -> Result<(), RunFault>
-    ensures reported { OnOk result ((handed : List Entry) → tended.now.told ≡ counts_of handed
+    ensures reported { OnOk result ((handed : List Entry) (answers : List StepAnswer)
+        → tended.now.tally ≡ tally_of handed answers
         → Appends (W.contents writer.old) (W.contents writer.new)
-        (report_text (handed ++ tended.now.volume.journal))) }
+        (run_report (handed ++ tended.now.volume.journal) answers)) }
     ensures legal { let v = tended.now.volume in
         let shape = (F.state v.store).shape in
         Since (F.state v.since) v.since_level
         (λ from. IsLegal shape.numbers shape.segments v.journal from) }
     ensures fault { IfErr result IsLateFault }
 {
-    let text = tell_report(alloc, &tended.told, tended.volume.counts())?;
+    let text = tell_report(alloc, &tended.tally, tended.volume.counts())?;
     say(writer, text.as_slice())
 }
 
@@ -202,7 +203,7 @@ fn hear_line<
     ensures fault { IfErr result IsLateFault }
 {
     let before = tended.volume.journal().len();
-    match answer(alloc, &mut tended.volume, &tended.told, speaker, line)? {
+    match answer(alloc, &mut tended.volume, &mut tended.tally, speaker, line)? {
         Some(text) => {
             tended.move_on(teller, before);
             say(writer, text.as_slice())?;

@@ -2,15 +2,18 @@
 
 ghost use Rattle.std.specs.Prelude.{◌≡◌, ◌++◌, [], List, length, Some, IfOk, MatchOption, OnOk};
 ghost use Rattle.lfs_model.specs.Counts.{counts_of};
-ghost use Rattle.lfs_print.specs.ReportText.{report_text};
 ghost use Rattle.lfs_volume.specs.Cleanings.{cleaner_of};
 ghost use Rattle.lfs_volume.specs.Journals.{AtPresent};
-ghost use Rattle.lfs_audit.specs.Runs.{TellsLine};
+ghost use Rattle.lfs_audit.specs.Runs.{CountsLine};
+ghost use Rattle.lfs_browse.specs.Looks.{TellsLook};
+ghost use Rattle.lfs_model.specs.declared.steps.StepAnswer.{StepAnswer};
+ghost use Rattle.lfs_sinks.specs.Refusals.{AddsUp, run_report, tally_of};
 ghost use Rattle.lfs_who.specs.WhoText.{IsWhoTold};
 ghost use Rattle.lfs_why.specs.WhyText.{why_text};
 ghost use Rattle.lfs_live.specs.Hearing.{heard_of};
 ghost use Rattle.lfs_live.specs.Talkers.{talker_of};
-ghost use Rattle.lfs_live.specs.Talking.{Does, Hears, IsAnsweredBy, LooksOn, first_speaker};
+ghost use Rattle.lfs_live.specs.Steps.{HasAnswered};
+ghost use Rattle.lfs_live.specs.Talking.{Does, IsAnsweredBy, LooksOn, asker_of, first_speaker};
 ghost use Rattle.lfs_live.specs.HelpText.{help_text};
 ghost use Rattle.lfs_live.specs.Telling.{cut_text, dot_text, entries_told, fault_line};
 ghost use Rattle.lfs_live.specs.declared.hearing.Dot.TheVariants.{Quit};
@@ -21,12 +24,16 @@ use crate::hearing::{Dot, Heard, Inquiry, LINE_MAX, hear};
 use crate::help::push_help;
 use crate::journal::tell_journal;
 use lfs_audit::passing::run_step;
+use lfs_browse::asker::Asker;
+use lfs_browse::look::{Look, tell_look};
 use lfs_model::counts::Counts;
 use lfs_model::journal::Entry;
 use lfs_script::plan::{Act, Line, Step};
-use lfs_sinks::totals::{Totals, push_report};
+use lfs_sinks::refusals::Refusals;
+use lfs_sinks::totals::{Tally, Totals, push_report};
 use lfs_types::cleaned::CleanedStore;
 use lfs_types::cred::Cred;
+use lfs_types::path::Path;
 use lfs_types::request::Request;
 use lfs_types::store::FileStore;
 use lfs_view::shows::ShowsLog;
@@ -59,8 +66,8 @@ impl Speaker {
     }
 }
 
-/// Does what a line says, and gives the text that is told of it, or none for a line that quits. A line is given without
-/// its line feed; so are the totals of the entries that were handed out.
+/// Does what a line says, counts the answers to its calls, and gives the text that is told of it, or none for a line that
+/// quits. A line is given without its line feed.
 ///
 /// # Errors
 ///
@@ -68,25 +75,30 @@ impl Speaker {
 pub fn answer<F: CleanedStore + ShowsLog + Drop>(
     alloc: Global,
     volume: &mut Volume<F>,
-    told: &Totals,
+    tally: &mut Tally,
     speaker: &mut Speaker,
     line: &[u8],
 ) -> Result<Option<Vec<u8>>, AllocError>
     ensures { IfOk result (λ given. MatchOption given
-        ((heard_of line.now ≡ heard.Dot Quit) × (volume.new ≡ volume.old))
-        (λ text. (handed : List Entry) → told.now ≡ counts_of handed → Hears
+        ((heard_of line.now ≡ heard.Dot Quit) × (volume.new ≡ volume.old) × (tally.new ≡ tally.old))
+        (λ text. HasAnswered
         (talker_of (cleaner_of F.state F.is_settled F.cleaner)
         F.map_text F.segment_text F.space_text)
-        handed volume.old speaker.old (heard_of line.now) text.items volume.new speaker.new)) }
+        volume.old volume.new tally.old tally.new speaker.old speaker.new (heard_of line.now) text.items)) }
 {
     match hear(alloc, line)? {
-        Heard::Line(said) => Ok(Some(obey(alloc, volume, speaker, said)?)),
+        Heard::Line(said) => Ok(Some(obey(alloc, volume, &mut tally.refusals, speaker, said)?)),
         Heard::Asks(inquiry, request) => {
             let told = tell_inquiry(alloc, volume, inquiry, &speaker.cred, &request);
             drop(request);
             Ok(Some(told?))
         }
-        Heard::Dot(dot) => tell_dot(alloc, volume, told, dot),
+        Heard::Looks(look, path) => {
+            let told = look_at(alloc, volume, speaker, look, &path);
+            drop(path);
+            Ok(Some(told?))
+        }
+        Heard::Dot(dot) => tell_dot(alloc, volume, tally, dot),
         Heard::Fault(fault, place) => {
             let text = tell_fault(alloc, fault, &place);
             drop(place);
@@ -95,41 +107,68 @@ pub fn answer<F: CleanedStore + ShowsLog + Drop>(
     }
 }
 
-/// Does what a line of a script says, and gives the lines of the answers.
+/// Does what a line of a script says, counts the answers, and gives their lines.
 fn obey<F: CleanedStore + Drop>(
     alloc: Global,
     volume: &mut Volume<F>,
+    refusals: &mut Refusals,
     speaker: &mut Speaker,
     line: Line,
 ) -> Result<Vec<u8>, AllocError>
-    ensures { IfOk result (λ text. Does
+    ensures { IfOk result (λ text. (given : List StepAnswer) × Does
         (cleaner_of F.state F.is_settled F.cleaner)
-        volume.old speaker.old line text.items volume.new speaker.new) }
+        volume.old speaker.old line text.items volume.new speaker.new given
+        × AddsUp refusals.old refusals.new given) }
 {
+    let nothing = Vec::new(alloc);
     match line {
-        Line::Nothing => {}
-        Line::Session(session) => speaker.session = session,
-        Line::Caller(cred) => speaker.cred = cred,
-        Line::Act(act) => return make(alloc, volume, speaker, act),
+        Line::Nothing => Ok(nothing),
+        Line::Session(session) => {
+            speaker.session = session;
+            Ok(nothing)
+        }
+        Line::Caller(cred) => {
+            speaker.cred = cred;
+            Ok(nothing)
+        }
+        Line::Act(act) => make(alloc, volume, refusals, speaker, act),
     }
-    Ok(Vec::new(alloc))
 }
 
-/// Does what is asked, and gives the lines of the answers.
+/// Does what is asked, counts the answers, and gives their lines.
 fn make<F: CleanedStore + Drop>(
     alloc: Global,
     volume: &mut Volume<F>,
+    refusals: &mut Refusals,
     speaker: &Speaker,
     act: Act,
 ) -> Result<Vec<u8>, AllocError>
-    ensures { IfOk result (λ text. TellsLine
+    ensures { IfOk result (λ text. CountsLine
         (cleaner_of F.state F.is_settled F.cleaner)
-        volume.old volume.new speaker.now.session speaker.now.cred act [] text.items) }
+        volume.old volume.new refusals.old refusals.new
+        speaker.now.session speaker.now.cred act [] text.items) }
 {
     let Speaker { session, cred } = *speaker;
     let mut text = Vec::new(alloc);
-    run_step(volume, Step { session, cred, act }, &mut text)?;
+    run_step(volume, refusals, Step { session, cred, act }, &mut text)?;
     Ok(text)
+}
+
+/// Looks at a path by calls of who speaks, and gives what is told of their answers.
+fn look_at<F: CleanedStore + Drop>(
+    alloc: Global,
+    volume: &mut Volume<F>,
+    speaker: &Speaker,
+    look: Look,
+    path: &Path,
+) -> Result<Vec<u8>, AllocError>
+    ensures { IfOk result (λ text. TellsLook
+        (cleaner_of F.state F.is_settled F.cleaner)
+        volume.old volume.new (asker_of speaker.now) look path.now [] text.items) }
+{
+    let Speaker { session, cred } = *speaker;
+    let asker = Asker { session, cred };
+    tell_look(alloc, volume, &asker, look, path)
 }
 
 /// The lines of what is asked about a call, which is not made.
@@ -187,37 +226,38 @@ fn tell_why<F: FileStore + Drop>(
 fn tell_dot<F: CleanedStore + ShowsLog + Drop>(
     alloc: Global,
     volume: &Volume<F>,
-    told: &Totals,
+    tally: &Tally,
     dot: Dot,
 ) -> Result<Option<Vec<u8>>, AllocError>
     ensures { IfOk result (λ given. MatchOption given
         (dot ≡ Quit)
-        (λ text. (handed : List Entry) → told.now ≡ counts_of handed
+        (λ text. (handed : List Entry) (answers : List StepAnswer) → tally.now ≡ tally_of handed answers
         → dot_text (talker_of (cleaner_of F.state F.is_settled F.cleaner) F.map_text F.segment_text F.space_text)
-        dot handed volume.now ≡ Some text.items)) }
+        dot handed answers volume.now ≡ Some text.items)) }
 {
     match dot {
         Dot::Journal(count) => Ok(Some(tell_journal(alloc, volume.journal(), count)?)),
         Dot::Map => Ok(Some(tell_map(alloc, volume.store())?)),
         Dot::Segment(number) => Ok(Some(tell_segment(alloc, volume.store(), number)?)),
-        Dot::Space => Ok(Some(tell_space(alloc, volume, told)?)),
-        Dot::Report => Ok(Some(tell_report(alloc, told, volume.counts())?)),
+        Dot::Space => Ok(Some(tell_space(alloc, volume, &tally.totals)?)),
+        Dot::Report => Ok(Some(tell_report(alloc, tally, volume.counts())?)),
         Dot::Help => Ok(Some(tell_help(alloc)?)),
         Dot::Quit => Ok(None),
     }
 }
 
-/// The report over all entries, of which the first were handed out.
+/// The report over all entries, of which the first were handed out, and of the answers that were told.
 pub(crate) fn tell_report(
     alloc: Global,
-    told: &Totals,
+    tally: &Tally,
     counts: &Counts,
 ) -> Result<Vec<u8>, AllocError>
-    ensures { IfOk result (λ text. (handed kept : List Entry) → told.now ≡ counts_of handed
-        → counts.now ≡ counts_of kept → text.items ≡ report_text (handed ++ kept)) }
+    ensures { IfOk result (λ text. (handed kept : List Entry) (answers : List StepAnswer)
+        → tally.now ≡ tally_of handed answers
+        → counts.now ≡ counts_of kept → text.items ≡ run_report (handed ++ kept) answers) }
 {
     let mut text = Vec::new(alloc);
-    push_report(&mut text, told, counts)?;
+    push_report(&mut text, tally, counts)?;
     Ok(text)
 }
 

@@ -12,6 +12,7 @@ ghost use Rattle.lfs_live.specs.Held.{HasRoom, IsHandedOut, IsLetGo, MayEnter, M
 ghost use Rattle.lfs_live.specs.Settling.{IsSyncRefused, is_done};
 ghost use Rattle.lfs_live.specs.Steps.{HasTidied};
 ghost use Rattle.lfs_live.specs.Talking.{first_speaker, is_due};
+ghost use Rattle.lfs_sinks.specs.Refusals.{tally_of};
 ghost use Rattle.lfs_sinks.specs.Sums.{counts_sum};
 
 use crate::watch::Watch;
@@ -21,8 +22,9 @@ use lfs_io::tell::tell;
 use lfs_model::journal::Entry;
 use lfs_script::plan::{Act, Step};
 use lfs_settle::entries::CLEANER;
+use lfs_sinks::refusals::Refusals;
 use lfs_sinks::sink::{JournalSink, SinkFault};
-use lfs_sinks::totals::Totals;
+use lfs_sinks::totals::Tally;
 use lfs_types::answer::{Answer, Served};
 use lfs_types::cleaned::CleanedStore;
 use lfs_types::level::Level;
@@ -48,8 +50,8 @@ pub struct Tended<F: FileStore + Drop, J: Drop, V: Drop> {
     pub(crate) volume: Volume<F>,
     sink: J,
     pub(crate) watch: V,
-    /// How the calls of the entries that were handed out were answered.
-    pub(crate) told: Totals,
+    /// What is counted of the entries that were handed out, and of the answers that were told.
+    pub(crate) tally: Tally,
     /// Whether the sink takes more.
     is_open: bool,
     /// Whether the cleaner makes a pass unasked where few segments are clean.
@@ -69,7 +71,7 @@ impl<F: FileStore + Drop, J: Drop, V: Drop> Model for Tended<F, J, V> {
     ghost view = { λ v. record {
       volume = v.volume;
       sink = v.sink;
-      told = v.told;
+      tally = v.tally;
       is_open = v.is_open;
       cleans = v.cleans;
     } };
@@ -89,7 +91,7 @@ impl<F: FileStore + Drop, J: JournalSink + Drop, V: Drop> Tended<F, J, V> {
         ensures { result ≡ record {
           volume = volume;
           sink = witnesses.sink;
-          told = counts_of [];
+          tally = tally_of [] [];
           is_open = witnesses.is_open;
           cleans = cleans;
         } }
@@ -104,7 +106,7 @@ impl<F: FileStore + Drop, J: JournalSink + Drop, V: Drop> Tended<F, J, V> {
             volume,
             sink,
             watch,
-            told: Totals::none(),
+            tally: Tally::none(),
             is_open,
             cleans,
             spare: Vec::new(alloc),
@@ -194,19 +196,21 @@ impl<F: FileStore + Drop, J: JournalSink + Drop, V: Drop> Tended<F, J, V> {
         ensures drained { OnOk result (self.new ≡ record {
           volume = drained self.old.volume;
           sink = self.old.sink;
-          told = counts_sum self.old.told (counts_of self.old.volume.journal);
+          tally = record self.old.tally {
+            totals = counts_sum self.old.tally.totals (counts_of self.old.volume.journal);
+          };
           is_open = self.old.is_open;
           cleans = self.old.cleans;
         }) }
         ensures legal { OnOk result (IsHandedOut F.state self.old.volume self.new.volume) }
         ensures failed { OnErr result (self.new ≡ self.old) }
     {
-        let Some(told) = self.told.with(self.volume.counts()) else {
+        let Some(totals) = self.tally.totals.with(self.volume.counts()) else {
             return Err(SinkFault::Numbers);
         };
         let room = room_of(&mut self.spare, self.volume.journal_limit())?;
         self.spare = emptied(self.volume.drain(room));
-        self.told = told;
+        self.tally.totals = totals;
         Ok(())
     }
 }
@@ -231,12 +235,12 @@ impl<F: CleanedStore + Drop, J: JournalSink + Drop, V: Drop> Tended<F, J, V> {
 
     /// Whether a pass of the cleaner is due.
     fn is_due(&self) -> bool
-        ensures { result ≡ is_due F.state (course_of self.now []) }
+        ensures { result ≡ is_due F.state (course_of self.now [] []) }
     {
         self.cleans && self.volume.clean_segments() <= FEW_CLEAN
     }
 
-    /// Makes a pass of the cleaner, and moves on.
+    /// Makes a pass of the cleaner, whose answers are not told and not counted, and moves on.
     fn pass<D: Write>(&mut self, alloc: Global, teller: &mut D) -> Result<(), AllocError>
         ensures passed { OnOk result ((more : List Entry) × (passed : Seen F) × (untold : List ℕ) × TellsLine
             (cleaner_of F.state F.is_settled F.cleaner)
@@ -252,7 +256,8 @@ impl<F: CleanedStore + Drop, J: JournalSink + Drop, V: Drop> Tended<F, J, V> {
             act: Act::Pass,
         };
         let mut untold = Vec::new(alloc);
-        run_step(&mut self.volume, step, &mut untold)?;
+        let mut uncounted = Refusals::none();
+        run_step(&mut self.volume, &mut uncounted, step, &mut untold)?;
         self.move_on(teller, before);
         Ok(())
     }

@@ -12,6 +12,7 @@ use Rattle.lfs_script.specs.declared.plan.Step.{Step}
 use Rattle.lfs_server.specs.Fresh.{IsFormatFault, IsFreshLog}
 use Rattle.lfs_server.specs.Serving.{IsInRange}
 use Rattle.lfs_sinks.specs.Numbered.{numbered_text}
+use Rattle.lfs_sinks.specs.Refusals.{refusals_of}
 use Rattle.lfs_staging.specs.declared.parts.Parts.{Parts}
 use Rattle.lfs_volume.specs.Journals.{Begins}
 use Rattle.lfs_volume.specs.Seen.{Seen}
@@ -39,9 +40,19 @@ known_so : (known : Option (List ℕ)) (p q : List ℕ → Type 0) → IfSome kn
 known_so None p q is then = tt
 known_so (Some bytes) p q is then = then bytes is
 
+-- a volume whose entries go to a sink from now on
+abbrev pub made_of : {F J : Type 0} → Seen F → J → Filed F J
+made_of volume sink = record {
+  volume = volume;
+  sink = sink;
+  told = counts_of [];
+  refusals = refusals_of [];
+  is_open = true;
+}
+
 -- a fresh volume begins a run, where its journal has room
 pub begun_of : {J : Type 0} (v : Seen Parts) (sink : J) (filed : Filed Parts J) (limit : ℕ)
-    → filed ≡ record { volume = v; sink = sink; told = counts_of []; is_open = true } → v.journal ≡ []
+    → filed ≡ made_of v sink → v.journal ≡ []
     → v.limit ≡ limit → 128 ≤ limit → Begins (state_of v.since) v.since_level opening_world
     → IsBegun state_of filed
 begun_of {J} v sink filed limit is empty limited room begins =
@@ -49,6 +60,7 @@ begun_of {J} v sink filed limit is empty limited room begins =
     (record {
       opened = refl;
       untold = refl;
+      unrefused = refl;
       empty = empty;
       room = omega (arith, limited, room);
       tree = (opening_world, begins);
@@ -70,12 +82,12 @@ pub filed_alone : {F J : Type 0} (contents : F → Option (List ℕ)) (writer : 
     → steps ≡ plan.steps
     → IsFreshLog options.params.segments options.params.inodes options.params.frames v.store
     → Begins (state_of v.since) v.since_level opening_world → next sink ≡ 1
-    → old ≡ record { volume = v; sink = sink; told = counts_of []; is_open = true }
+    → old ≡ made_of v sink
     → Ran contents writer next old new steps is_whole start out
     → HasGotFiled contents options is_whole known start out
 filed_alone {F} {J} contents writer next options known start out plan steps v sink old new is_whole alone read asked
     fresh begins first is ran0 =
-    let made : Filed Parts J = record { volume = v; sink = sink; told = counts_of []; is_open = true } in
+    let made : Filed Parts J = made_of v sink in
     let ran : Ran contents writer next made new steps is_whole start out =
     subst (λ (f : Filed Parts J). Ran contents writer next f new steps is_whole start out) is ran0 in
     let p = options.params in

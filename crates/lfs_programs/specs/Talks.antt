@@ -12,7 +12,7 @@ use Rattle.lfs_audit.specs.declared.fault.RunFault.TheVariants.{Read}
 use Rattle.lfs_live.specs.Held.{Held, Sink}
 use Rattle.lfs_live.specs.Scripts.{HasHeardOver, IsKeptTalkOver, IsLogFault, IsTalkOver, Manner, log_talker}
 use Rattle.lfs_live.specs.Talking.{IsKeptTalk}
-use Rattle.lfs_programs.specs.Volumes.{IsBegun, IsSaved}
+use Rattle.lfs_programs.specs.Volumes.{HasSaved, IsBegun}
 use Rattle.lfs_staging.specs.declared.parts.Parts.{Parts}
 use Rattle.lfs_volume.specs.Seen.{Seen}
 use Rattle.lfs_programs.specs.Ends.{EndsUnasked}
@@ -29,7 +29,7 @@ manner_of options is_open = record { is_open = is_open; cleans = options.cleans 
 
 -- the volume that a talk left is kept in a file, where an image is asked for
 abbrev pub IsKept : {F : Type 0} → (F → Option (List ℕ)) → ShellOptions → Bool → Seen Parts → Type 0
-IsKept contents options is_saved left = is_saved ≡ true → IfSome options.image (λ _. IsSaved contents left)
+IsKept contents options is_saved left = is_saved ≡ true → IfSome options.image (λ _. HasSaved contents left)
 
 -- A volume was talked about, with its sink, up to the end, and kept behind that.
 pub record HasHeard {F J : Type 0} (contents : F → Option (List ℕ)) (sink : Sink J) (options : ShellOptions)

@@ -5,7 +5,7 @@ use Rattle.lfs_logstore.specs.States.{state_of}
 use Rattle.lfs_volume.specs.Journals.{AtPresent, Begins}
 use Rattle.lfs_volume.specs.Seen.{Seen}
 use Rattle.lfs_server.specs.Fresh.{IsFormatFault}
-use Rattle.lfs_checking.specs.Files.{HasImage, IsLoaded}
+use Rattle.lfs_checking.specs.Files.{IsLoaded, IsSaved}
 use Rattle.lfs_audit.specs.declared.fault.RunFault.TheVariants as run
 use Rattle.lfs_live.specs.Scripts.{IsFresh}
 use Rattle.lfs_programs.specs.declared.fault.ShellFault.{ShellFault}
@@ -37,7 +37,5 @@ IsUnbegun options fault = ⊥
 
 -- a file got the image of what a talk left of a volume: a store of which nothing waits, and a level, that show the tree
 -- that the journal led to
-pub record IsSaved {F : Type 0} (contents : F → Option (List ℕ)) (left : Seen Parts) : Type 0 where
-  pub saved : Seen Parts
-  pub shown : AtPresent state_of left (Begins (state_of saved.store) saved.level)
-  pub image : HasImage contents saved.store.log saved.level
+abbrev pub HasSaved : {F : Type 0} → (F → Option (List ℕ)) → Seen Parts → Type 0
+HasSaved contents left = IsSaved contents (λ s level. AtPresent state_of left (Begins s level))

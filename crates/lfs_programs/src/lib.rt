@@ -4,6 +4,7 @@
 pub mod fault;
 mod filed;
 mod filming;
+mod journal;
 pub mod options;
 pub mod refusing;
 mod script;

@@ -10,7 +10,7 @@ ghost use Rattle.lfs_programs.specs.Asked.{EndsRun, EndsServer, IsAloneFault, Is
 ghost use Rattle.lfs_programs.specs.Ends.{EndsUnasked};
 
 use crate::fault::ServerFault;
-use crate::filed::run_filed;
+use crate::filed::{FiledRun, run_filed};
 use crate::options::{Options, not_utf8, options_of};
 use crate::refusing::refuse;
 use crate::script::open_script;
@@ -157,8 +157,7 @@ where
         (Some script.now) (W.contents stdout.old) (W.contents stdout.new)
         result stdout.old stdout.new stderr.old stderr.new }
 {
-    let mut reader = script;
-    match run_asked(rt, files, alloc, options, &mut reader, stdout, stderr) {
+    match run_asked(rt, files, alloc, options, script, stdout, stderr) {
         Ok(()) => 0,
         Err(ServerFault::Run(fault)) => {
             tell_fault(alloc, script, fault, stderr);
@@ -172,34 +171,44 @@ where
     }
 }
 
-/// Reads a script and runs it as was asked, with a file of its entries or without one.
-fn run_asked<S, F, R, W, D>(
+/// Runs a script as was asked, with a file of its entries or without one.
+fn run_asked<S, F, W, D>(
     rt: &S,
     files: &F,
     alloc: Global,
     options: Options<'_>,
-    reader: &mut R,
+    script: &[u8],
     stdout: &mut W,
     stderr: &mut D,
 ) -> Result<(), ServerFault>
 where
     S: Threads + Wait + Sync,
     F: Files,
-    R: Read,
     W: Write,
     D: Write,
     ensures done { OnOk result (HasRun F.File.contents options.entry
-        (R.remaining reader.old) (W.contents stdout.old) (W.contents stdout.new)
+        (Some script.now) (W.contents stdout.old) (W.contents stdout.new)
         × (stderr.new ≡ stderr.old)) }
-    ensures failed { IfErr result (IsBroken F.File.contents options.entry (R.remaining reader.old)
+    ensures failed { IfErr result (IsBroken F.File.contents options.entry (Some script.now)
         (W.contents stdout.old) (W.contents stdout.new) stdout.old stdout.new) }
 {
     match options.journal_out {
-        Some(path) => run_filed(rt, files, alloc, options, path, reader, stdout, stderr),
-        None => match run(rt, alloc, options, reader, stdout) {
-            Ok(()) => Ok(()),
-            Err(fault) => Err(ServerFault::Run(fault)),
-        },
+        Some(path) => {
+            let run = FiledRun {
+                alloc,
+                options,
+                script,
+                path,
+            };
+            run_filed(rt, files, run, stdout, stderr)
+        }
+        None => {
+            let mut reader = script;
+            match run(rt, alloc, options, &mut reader, stdout) {
+                Ok(()) => Ok(()),
+                Err(fault) => Err(ServerFault::Run(fault)),
+            }
+        }
     }
 }
 

@@ -11,6 +11,7 @@ ghost use Rattle.lfs_programs.specs.Talks.{EndsShell, EndsTalk, HasTalked, HasTa
 
 use crate::fault::{OpenFault, ShellFault};
 use crate::filming::{Heard, NAME, Outset, finish, hear};
+use crate::journal::make_journal;
 use crate::options::{ShellOptions, shell_not_utf8, shell_options_of};
 use crate::refusing::refuse;
 use crate::script::open_script;
@@ -23,8 +24,7 @@ use lfs_logstore::LogStore;
 use lfs_volume::volume::Volume;
 use std::alloc::{AllocError, Global};
 use std::env::Env;
-use std::fs::OpenOptions;
-use std::io::{BufReader, ErrorKind, Read, Write};
+use std::io::{BufReader, Read, Write};
 use std::rt::Files;
 
 /// Does what the arguments of an environment ask `lfs_shell` for, and gives the status with which it ends: 0 for a talk
@@ -170,12 +170,9 @@ fn open_journal<F: Files>(files: &F, path: Option<&str>) -> Result<Option<F::Fil
     let Some(path) = path else {
         return Ok(None);
     };
-    let mut how = OpenOptions::new();
-    how.write(true).create_new(true);
-    match how.open(files, path) {
+    match make_journal(files, path) {
         Ok(file) => Ok(Some(file)),
-        Err(error) if error.kind() == ErrorKind::AlreadyExists => Err(OpenFault::Exists),
-        Err(_) => Err(OpenFault::Unmade),
+        Err(fault) => Err(fault),
     }
 }
 

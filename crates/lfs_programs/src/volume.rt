@@ -2,7 +2,7 @@
 
 ghost use Rattle.std.specs.Prelude.{◌≡◌, false, true, IfErr, IfOk, IfSome, IsSome, OnOk};
 ghost use Rattle.lfs_checking.specs.Files.{IsLoaded};
-ghost use Rattle.lfs_programs.specs.Volumes.{IsBegun, IsSaved, IsUnbegun};
+ghost use Rattle.lfs_programs.specs.Volumes.{HasSaved, IsBegun, IsUnbegun};
 
 use crate::fault::ShellFault;
 use crate::filming::NAME;
@@ -82,7 +82,7 @@ pub(crate) fn keep<F: Files, J: JournalSink + Drop, V: Drop, D: Write>(
     tended: &mut Tended<LogStore, J, V>,
     options: &ShellOptions<'_>,
 ) -> bool
-    ensures saved { result ≡ true → IfSome options.now.image (λ _. IsSaved F.File.contents tended.old.volume) }
+    ensures saved { result ≡ true → IfSome options.now.image (λ _. HasSaved F.File.contents tended.old.volume) }
     ensures silent { result ≡ true → teller.new ≡ teller.old }
     ensures asked { result ≡ false → IsSome options.now.image }
     ensures same { tended.new ≡ record tended.old { volume = tended.new.volume } }
@@ -106,7 +106,7 @@ fn save<F: Files, J: JournalSink + Drop, V: Drop>(
     tended: &mut Tended<LogStore, J, V>,
     path: &str,
 ) -> Result<(), KeepFault>
-    ensures saved { OnOk result (IsSaved F.File.contents tended.old.volume) }
+    ensures saved { OnOk result (HasSaved F.File.contents tended.old.volume) }
     ensures same { tended.new ≡ record tended.old { volume = tended.new.volume } }
 {
     if !tended.settle()? {

@@ -1,3 +1,4 @@
 pub mod NumberedLemmas
+pub mod RefusalLemmas
 mod SinkLemmas
 pub mod SumLemmas

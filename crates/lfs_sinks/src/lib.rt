@@ -1,5 +1,6 @@
-//! Where the entries of a journal go that are handed out of it, and the counts of them.
+//! Where the entries of a journal go that are handed out of it, and what a run counts beside its journal.
 #![tactic(auto)]
 
+pub mod refusals;
 pub mod sink;
 pub mod totals;

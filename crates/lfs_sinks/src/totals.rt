@@ -3,9 +3,12 @@
 ghost use Rattle.std.specs.Prelude.{◌≡◌, ◌+◌, ◌≤◌, ◌^◌, ◌++◌, All, List, [], length, true, IfSome, OnOk};
 ghost use Rattle.std.specs.List.{flat_map, zip};
 ghost use Rattle.lfs_model.specs.Counts.{counts_of};
-ghost use Rattle.lfs_print.specs.ReportText.{count_line, counts_text, denials_line, report_text};
+ghost use Rattle.lfs_model.specs.declared.steps.StepAnswer.{StepAnswer};
+ghost use Rattle.lfs_print.specs.ReportText.{count_line, counts_text, denials_line};
+ghost use Rattle.lfs_sinks.specs.Refusals.{run_report, tally_of};
 ghost use Rattle.lfs_sinks.specs.Sums.{counts_sum, sums};
 
+use crate::refusals::{Refusals, push_refusals};
 use lfs_model::counts::Counts;
 use lfs_model::journal::Entry;
 use lfs_types::rule::{RULES, Rule};
@@ -113,13 +116,36 @@ fn added(numbers: &[u64; 20], others: &[u32; 20]) -> [u64; 20]
     all
 }
 
-/// Appends the report over all entries: of those that were handed out these are the totals, of those that are kept the
-/// counts.
-pub fn push_report(out: &mut Vec<u8>, totals: &Totals, counts: &Counts) -> Result<(), AllocError>
-    ensures { OnOk result ((handed kept : List Entry) → totals.now ≡ counts_of handed → counts.now ≡ counts_of kept
-        → out.new.items ≡ out.old.items ++ report_text (handed ++ kept)) }
+/// What a run counts beside its journal.
+#[derive(Drop)]
+pub struct Tally {
+    /// How the calls of the entries that were handed out were answered.
+    pub totals: Totals,
+    /// How many calls were refused of which no entry tells.
+    pub refusals: Refusals,
+}
+
+impl Tally {
+    /// Of no entries and no answers.
+    pub fn none() -> Tally
+        ensures { result ≡ tally_of [] [] }
+    {
+        Tally {
+            totals: Totals::none(),
+            refusals: Refusals::none(),
+        }
+    }
+}
+
+/// Appends the report of a run: over all entries, of which the tally counts those that were handed out, and the counts those
+/// that are kept; and of the calls that were refused without an entry.
+pub fn push_report(out: &mut Vec<u8>, tally: &Tally, counts: &Counts) -> Result<(), AllocError>
+    ensures { OnOk result ((handed kept : List Entry) (answers : List StepAnswer)
+        → tally.now ≡ tally_of handed answers → counts.now ≡ counts_of kept
+        → out.new.items ≡ out.old.items ++ run_report (handed ++ kept) answers) }
 {
-    push_sums(out, totals, counts)
+    push_sums(out, &tally.totals, counts)?;
+    push_refusals(out, &tally.refusals)
 }
 
 /// Appends the report of totals and of counts, added.
@@ -141,7 +167,7 @@ fn push_sums(out: &mut Vec<u8>, totals: &Totals, counts: &Counts) -> Result<(), 
 
 /// Appends a line of a word and a number.
 #[tactic(auto, unfolding(lfs_print::specs::ReportText::count_line))]
-fn push_count(out: &mut Vec<u8>, word: &str, number: u64) -> Result<(), AllocError>
+pub(crate) fn push_count(out: &mut Vec<u8>, word: &str, number: u64) -> Result<(), AllocError>
     ensures { OnOk result (out.new.items ≡ out.old.items ++ count_line word.now number) }
 {
     out.extend_from_slice(word.as_bytes())?;

@@ -3,3 +3,5 @@
 
 pub mod painted;
 pub mod prompted;
+#[cfg(test)]
+mod tests;

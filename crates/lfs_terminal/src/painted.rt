@@ -58,6 +58,11 @@ impl<W: Write + Drop> Painted<W> {
 }
 
 impl<W: Write + Drop> Write for Painted<W> {
+    ghost use Rattle.std.specs.Prelude.{None, if◌then◌else◌};
+
+    // (what stands there of a text in a colour is more than the text)
+    ghost contents = { λ p. if p.is_coloured then None else W.contents p.writer };
+
     fn write(&mut self, buf: &[u8]) -> Result<usize> {
         if !self.is_coloured {
             return self.writer.write(buf);

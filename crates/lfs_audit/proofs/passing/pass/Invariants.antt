@@ -7,7 +7,7 @@ abbrev pub invariant-loop-call : goal.invariant-loop-call
 invariant-loop-call g l =
     let s = g.F.CleanedStore in
     IsPassing (cleaner_of g.F.FileStore.state g.F.FileStore.is_settled s.cleaner)
-    l.fn.volume l.volume l.session l.cred l.pass l.last l.fn.text.items l.text.items
+    l.fn.volume l.volume l.fn.refusals l.refusals l.asker.session l.asker.cred l.pass l.last l.fn.text.items l.text.items
 
 abbrev pub decreases-loop-call : goal.decreases-loop-call
 decreases-loop-call g l = calls_left l.pass

@@ -7,6 +7,6 @@ abbrev pub invariant-loop-step : goal.invariant-loop-step
 invariant-loop-step g l =
     let s = g.F.CleanedStore in
     WritesLines (cleaner_of g.F.FileStore.state g.F.FileStore.is_settled s.cleaner)
-    l.fn.volume l.volume l.yielded
+    l.fn.volume l.volume l.fn.refusals l.refusals l.yielded
     (append_known (g.W.Write.contents l.fn.writer) l.fn.text.items)
     (append_known (g.W.Write.contents l.writer) l.text.items)

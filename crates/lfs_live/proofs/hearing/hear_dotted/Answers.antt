@@ -3,7 +3,7 @@ use Rattle.lfs_script.specs.Plans.{line_said}
 use Rattle.lfs_live.specs.Hearing.{asked_heard}
 use Rattle.lfs_live.specs.declared.hearing.Heard.{Heard}
 use Rattle.lfs_live.specs.declared.hearing.Inquiry.TheVariants.{Why, Who}
-use Rattle.lfs_live.proofs.HearingLemmas.{heard_lone, heard_who, heard_why, rest_of}
+use Rattle.lfs_live.proofs.HearingLemmas.{heard_who, heard_why, heard_word, rest_of}
 use Rattle.lfs_live.proofs.hearing.hear_dotted.Goals as goal
 
 pub returns-then-starts_with : goal.returns-then-starts_with
@@ -21,6 +21,6 @@ returns-then-starts_with-2 c =
 
 pub returns : goal.returns
 returns c =
-    subst (λ (said : Heard). IfOk c.hear_dot.result (λ heard. heard ≡ said))
-    (heard_lone c.args.line.now (sym c.starts_with.ensures.value ∙ c.if-starts_with.false)
-    (sym c.starts_with-2.ensures.value ∙ c.if-starts_with-2.false)) c.hear_dot.ensures
+    subst (λ (said : Heard). IfOk c.hear_word.result (λ heard. heard ≡ said))
+    (heard_word c.args.line.now (sym c.starts_with.ensures.value ∙ c.if-starts_with.false)
+    (sym c.starts_with-2.ensures.value ∙ c.if-starts_with-2.false)) c.hear_word.ensures

@@ -66,10 +66,10 @@ loop-preserved g c =
           c.hear_next.new.speaker _ (g.R.Read.remaining c.loop.reader) _ _ (g.W.Write.contents c.loop.writer) _
           (c.loop.invariant.heard begins) next;
       opened = λ is. c.loop.invariant.opened (tended_opened r sink c.loop.tended next.heard.middle
-          c.hear_next.new.tended next.heard.tended is);
+          next.heard.tally c.hear_next.new.tended next.heard.tended is);
       silent = λ same.
           let taking = same_open c.args.tended.now.is_open c.loop.tended.is_open c.hear_next.new.tended.is_open
-          c.loop.invariant.opened (tended_opened r sink c.loop.tended next.heard.middle c.hear_next.new.tended
+          c.loop.invariant.opened (tended_opened r sink c.loop.tended next.heard.middle next.heard.tally c.hear_next.new.tended
           next.heard.tended) same in
           c.in_ok-hear_next.ensures.silent taking.1 ∙ c.loop.invariant.silent taking.0;
     }

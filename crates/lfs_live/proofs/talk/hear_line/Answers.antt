@@ -5,9 +5,8 @@ use Rattle.lfs_volume.specs.Cleanings.{cleaner_of}
 use Rattle.lfs_volume.specs.Seen.{Seen}
 use Rattle.lfs_live.specs.Hearing.{heard_of}
 use Rattle.lfs_live.specs.Held.{Held, Moves, sink_of}
-use Rattle.lfs_live.specs.Steps.{HasTidied}
+use Rattle.lfs_live.specs.Steps.{HasAnswered, HasTidied}
 use Rattle.lfs_live.specs.Talkers.{talker_of}
-use Rattle.lfs_live.specs.Talking.{Hears}
 use Rattle.lfs_live.proofs.talk.hear_line.Goals as goal
 
 pub returns-in_ok-tidy-in-Some-clause-told : goal.returns-in_ok-tidy-in-Some-clause-told
@@ -24,20 +23,21 @@ returns-in_ok-tidy-in-Some-clause-told g c = λ _.
     let tidied = c.in_ok-tidy-in-Some.ensures.tidied in
     record {
       middle = c.answer.new.volume;
+      tally = c.answer.new.tally;
       told = text;
-      heard = λ handed told. subst (λ (v : Seen g.row.F.Denot). Hears r handed v c.args.speaker.now
-          (heard_of c.args.line.now) text c.answer.new.volume c.answer.new.speaker)
-          (ap (λ h. h.volume) first) (said handed (ap (λ h. h.told) first ∙ told));
+      answered = subst (λ (h : Held g.row.F.Denot g.row.J.Denot). HasAnswered r h.volume c.answer.new.volume h.tally
+          c.answer.new.tally c.args.speaker.now c.answer.new.speaker (heard_of c.args.line.now) text) first said;
       tended = record {
         between = c.move_on.new.self;
         first = moves.0;
         then = tidied.0;
         moves = subst (λ (h : Held g.row.F.Denot g.row.J.Denot). Moves r.cleaner.state sink
-            (length h.volume.journal) (record h { volume = c.answer.new.volume }) c.move_on.new.self moves.0) first
+            (length h.volume.journal) (record h { volume = c.answer.new.volume; tally = c.answer.new.tally })
+            c.move_on.new.self moves.0) first
             (subst (λ (n : ℕ). Moves r.cleaner.state sink n (record {
               volume = c.answer.new.volume;
               sink = v.sink;
-              told = v.told;
+              tally = c.answer.new.tally;
               is_open = v.is_open;
               cleans = v.cleans;
             }) c.move_on.new.self moves.0)

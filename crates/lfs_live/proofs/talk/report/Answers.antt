@@ -9,8 +9,8 @@ returns-clause-reported g c =
     let first = c.tended.view_is in
     let journal = c.args.tended.now.volume.journal in
     on_ok_weaker c.say.result
-    (λ appends handed told. subst (λ (t : List ℕ). Appends (g.W.Write.contents c.args.writer.now)
+    (λ appends handed answers told. subst (λ (t : List ℕ). Appends (g.W.Write.contents c.args.writer.now)
     (g.W.Write.contents c.say.new.writer) t)
-    (c.as_slice.ensures.value ∙ c.in_ok-text.ensures handed journal (ap (λ h. h.told) first ∙ told)
+    (c.as_slice.ensures.value ∙ c.in_ok-text.ensures handed journal answers (ap (λ h. h.tally) first ∙ told)
     (c.counts.ensures.counted ∙ ap (λ h. counts_of h.volume.journal) first)) appends)
     c.say.ensures.written

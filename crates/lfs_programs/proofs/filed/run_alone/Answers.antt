@@ -1,4 +1,4 @@
-use Rattle.std.proofs.Common.{Bool, refl, subst}
+use Rattle.std.proofs.Common.{Some, Bool, refl, subst}
 use Rattle.std.proofs.lemmas.Result.{err_from_is_err_and}
 use Rattle.lfs_audit.proofs.FaultLemmas.{has_plan, layout_fault, reading_script_fault}
 use Rattle.lfs_programs.specs.Asked.{HasGotFiled}
@@ -15,9 +15,9 @@ run_plan-requires g c =
 pub returns-in_err-plan-clause-failed : goal.returns-in_err-plan-clause-failed
 returns-in_err-plan-clause-failed g c =
     let exit = err_from_is_err_and c.from_residual.result c.from_residual.ensures.1 in
-    let options = c.args.options in
+    let options = c.args.run.options in
     let p = options.params in
-    let known = g.R.Read.remaining c.args.reader.now in
+    let known = Some c.args.run.script.now in
     let start = g.W.Write.contents c.args.stdout.now in
     rw (exit.1, exit.2)
     (λ some. broken_alone g.F.File.Write.contents options known start start c.args.stdout.now c.args.stdout.now _
@@ -28,11 +28,11 @@ pub returns-in_err-volume-clause-failed : goal.returns-in_err-volume-clause-fail
 returns-in_err-volume-clause-failed g c =
     let residual = c.from_residual-in_err-volume in
     let exit = err_from_is_err_and residual.result residual.ensures.1 in
-    let options = c.args.options in
+    let options = c.args.run.options in
     let p = options.params in
     let w = c.with_window.ensures in
     let params = c.with_window.result in
-    let known = g.R.Read.remaining c.args.reader.now in
+    let known = Some c.args.run.script.now in
     let start = g.W.Write.contents c.args.stdout.now in
     rw (exit.1, exit.2)
     (λ some. broken_alone g.F.File.Write.contents options known start start c.args.stdout.now c.args.stdout.now _
@@ -54,21 +54,21 @@ returns-in_err-run_plan-clause-failed g c =
     let exit = err_from_is_err_and residual.result residual.ensures.1 in
     let w = c.with_window.ensures in
     let params = c.with_window.result in
-    let known = g.R.Read.remaining c.args.reader.now in
+    let known = Some c.args.run.script.now in
     rw (exit.1, exit.2)
-    (λ some. broken_late g.F.File.Write.contents c.args.options known (g.W.Write.contents c.args.stdout.now)
+    (λ some. broken_late g.F.File.Write.contents c.args.run.options known (g.W.Write.contents c.args.stdout.now)
     (g.W.Write.contents c.run_plan.new.writer) c.args.stdout.now c.run_plan.new.writer _ c.in_ok-plan.plan
     params.segments params.inodes params.frames c.requires c.in_ok-plan.ensures.plan w.segments w.inodes w.frames
     c.in_ok-volume.ensures.ranges c.in_err-run_plan.ensures.fault)
 
 pub returns-then-branch-clause-done : goal.returns-then-branch-clause-done
 returns-then-branch-clause-done g c =
-    let options = c.args.options in
+    let options = c.args.run.options in
     let p = options.params in
     let w = c.with_window.ensures in
     let params = c.with_window.result in
     let volume = c.in_ok-volume.volume in
-    let known = g.R.Read.remaining c.args.reader.now in
+    let known = Some c.args.run.script.now in
     let start = g.W.Write.contents c.args.stdout.now in
     let out = g.W.Write.contents c.run_plan.new.writer in (
       subst (λ (b : Bool). HasGotFiled g.F.File.Write.contents options b known start out) c.if-branch.true
@@ -83,12 +83,12 @@ returns-then-branch-clause-done g c =
 
 pub returns-clause-failed : goal.returns-clause-failed
 returns-clause-failed g c = λ some.
-    let options = c.args.options in
+    let options = c.args.run.options in
     let p = options.params in
     let w = c.with_window.ensures in
     let params = c.with_window.result in
     let volume = c.in_ok-volume.volume in
-    let known = g.R.Read.remaining c.args.reader.now in
+    let known = Some c.args.run.script.now in
     let start = g.W.Write.contents c.args.stdout.now in
     let out = g.W.Write.contents c.run_plan.new.writer in (
       some,

@@ -7,6 +7,6 @@ pub returns-clause-drained : goal.returns-clause-drained
 returns-clause-drained g c =
     let v = c.self.inside in
     handed_view c.args.self.now
-    (record { volume = v.volume; sink = v.sink; told = v.told; is_open = v.is_open; cleans = v.cleans })
-    c.drain.new.self c.in-Some.told c.self.view_is c.drain.ensures.drained
-    (c.in-Some.ensures ∙ ap (counts_sum v.told) c.counts.ensures.counted)
+    (record { volume = v.volume; sink = v.sink; tally = v.tally; is_open = v.is_open; cleans = v.cleans })
+    c.drain.new.self c.in-Some.totals c.self.view_is c.drain.ensures.drained
+    (c.in-Some.ensures ∙ ap (counts_sum v.tally.totals) c.counts.ensures.counted)

@@ -26,11 +26,11 @@ returns-clause-passed g c =
           (subst (λ (caller : Caller). TellsLine r c.self.inside.volume passed 255 caller Pass [] untold)
           c.first_caller.ensures
           (subst (λ (text : List ℕ). TellsLine r c.self.inside.volume passed 255 c.first_caller.result Pass text untold)
-          c.new-untold.ensures.items c.in_ok-run_step.ensures)),
+          c.new-untold.ensures.items c.in_ok-run_step.ensures.tells)),
       subst (λ (h : Held g.row.F.Denot g.row.J.Denot). Moves state sink (length h.volume.journal)
           (record h { volume = passed }) c.move_on.new.self moves.0) first
           (subst (λ (n : ℕ). Moves state sink n
-          (record { volume = passed; sink = v.sink; told = v.told; is_open = v.is_open; cleans = v.cleans })
+          (record { volume = passed; sink = v.sink; tally = v.tally; is_open = v.is_open; cleans = v.cleans })
           c.move_on.new.self moves.0)
           (ap length c.journal-before.ensures.entries) moves.1),
     )

@@ -1,0 +1,3 @@
+pub mod AskLemmas
+pub mod ContentLemmas
+pub mod ListingLemmas

@@ -1,0 +1,7 @@
+use Rattle.lfs_browse.proofs.look.push_look.Goals as goal
+
+pub returns-in-Listing : goal.returns-in-Listing
+returns-in-Listing g c = rw c.in-Listing.is c.tell_listing.ensures
+
+pub returns-in-Content : goal.returns-in-Content
+returns-in-Content g c = rw c.in-Content.is c.tell_content.ensures

@@ -1,0 +1,6 @@
+pub mod Asking
+pub mod Content
+pub mod Listing
+pub mod Looks
+pub mod Spelled
+pub mod Steps

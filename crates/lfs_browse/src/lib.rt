@@ -1,0 +1,10 @@
+//! What a directory has and what a file holds, for people: calls of one caller, each entered as any, and their answers as text.
+#![tactic(auto)]
+
+pub mod asker;
+pub mod content;
+pub mod entry;
+pub mod listing;
+pub mod look;
+pub mod rows;
+pub mod spelling;

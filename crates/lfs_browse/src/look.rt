@@ -1,0 +1,60 @@
+//! A look at a path.
+
+ghost use Rattle.std.specs.Prelude.{[], IfOk, OnOk};
+ghost use Rattle.lfs_volume.specs.Cleanings.{cleaner_of};
+ghost use Rattle.lfs_browse.specs.Looks.{TellsLook};
+
+use crate::asker::Asker;
+use crate::content::tell_content;
+use crate::listing::tell_listing;
+use lfs_types::cleaned::CleanedStore;
+use lfs_types::path::Path;
+use lfs_volume::volume::Volume;
+use std::alloc::{AllocError, Global};
+
+/// What is looked at.
+#[derive(Clone, Copy, PartialEq, Eq, Debug)]
+pub enum Look {
+    /// The names of a directory, each with what a Stat of it shows.
+    Listing,
+    /// The bytes of a file.
+    Content,
+}
+
+/// Looks at a path by calls of one caller, at most 107, each judged by the rules and entered as any, and gives what is told
+/// of their answers.
+///
+/// # Errors
+///
+/// Memory ran out; some of the calls may have been made.
+pub fn tell_look<F: CleanedStore + Drop>(
+    alloc: Global,
+    volume: &mut Volume<F>,
+    asker: &Asker,
+    look: Look,
+    path: &Path,
+) -> Result<Vec<u8>, AllocError>
+    ensures { IfOk result (λ text. TellsLook (cleaner_of F.state F.is_settled F.cleaner)
+        volume.old volume.new asker.now look path.now [] text.items) }
+{
+    let mut text = Vec::new(alloc);
+    push_look(volume, asker, look, path, &mut text)?;
+    Ok(text)
+}
+
+/// Looks at a path, and appends what is told of it.
+fn push_look<F: CleanedStore + Drop>(
+    volume: &mut Volume<F>,
+    asker: &Asker,
+    look: Look,
+    path: &Path,
+    text: &mut Vec<u8>,
+) -> Result<(), AllocError>
+    ensures { OnOk result (TellsLook (cleaner_of F.state F.is_settled F.cleaner)
+        volume.old volume.new asker.now look path.now text.old.items text.new.items) }
+{
+    match look {
+        Look::Listing => tell_listing(volume, asker, path, text),
+        Look::Content => tell_content(volume, asker, path, text),
+    }
+}
