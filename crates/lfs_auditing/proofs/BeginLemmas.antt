@@ -1,5 +1,6 @@
 -- Where an audit begins.
-use Rattle.std.proofs.Common.{◌≡◌, ℕ, ◌<◌, List, length, Option, None, Some, refl, ◌∙◌, arith, inl, inr}
+use Rattle.std.proofs.Common.{◌≡◌, ℕ, ◌<◌, List, length, Option, None, Some, Result, Ok, Err, IfOk, refl, subst, ◌∙◌}
+use Rattle.std.proofs.Common.{arith, inl, inr}
 use Rattle.std.specs.Prelude.{IsSome}
 use Rattle.std.specs.FinMap as map
 use Rattle.std.proofs.lemmas.Bool.{cases_lt}
@@ -11,7 +12,11 @@ use Rattle.lfs_calls.specs.Volumes.{IsVolume}
 use Rattle.lfs_staging.specs.declared.parts.Parts.{Parts}
 use Rattle.lfs_staging.specs.Files.{content_of}
 use Rattle.lfs_staging.proofs.FileLemmas.{file_at-none, get-content_of, record_of-past}
-use Rattle.lfs_auditing.specs.Beginnings.{BeginsBy, IsOfImage}
+use Rattle.lfs_logstore.specs.States.{state_of}
+use Rattle.lfs_trace.specs.Checking.{numbers_of}
+use Rattle.lfs_auditing.specs.Audits.{HasReadNone}
+use Rattle.lfs_auditing.specs.Beginnings.{BeginsBy, HasImageOf, IsBegun, IsBegunBy, IsReadFrom}
+use Rattle.lfs_auditing.specs.declared.audit.Audit.{Audit}
 use Rattle.lfs_auditing.specs.declared.options.Options.{Options}
 
 -- each file's number is one of the volume's
@@ -30,12 +35,54 @@ leveled s w level is = record {
   tree = is.tree;
 }
 
-pub of_fresh : {T : Type 0} (o : Option T) (options : Options) (inodes segments : ℕ) → o ≡ None
-    → inodes ≡ options.inodes → segments ≡ options.segments → BeginsBy o options opening_world inodes segments
-of_fresh None options inodes segments none i s = (refl, i, s)
-of_fresh (Some image) options inodes segments none i s = absurd (cc)
+pub of_fresh : {T F : Type 0} (o : Option T) (remaining : F → Option (List ℕ)) (options : Options)
+    (inodes segments : ℕ) → o ≡ None → inodes ≡ options.inodes → segments ≡ options.segments
+    → BeginsBy o remaining options opening_world inodes segments
+of_fresh None remaining options inodes segments none i s = (refl, i, s)
+of_fresh (Some image) remaining options inodes segments none i s = absurd (cc)
 
-pub of_image : {T : Type 0} (o : Option T) (options : Options) (w : World) (inodes segments : ℕ) → IsSome o
-    → (bytes : List ℕ) → IsOfImage bytes w inodes segments → BeginsBy o options w inodes segments
-of_image None options w inodes segments some bytes is = absurd (cc)
-of_image (Some image) options w inodes segments some bytes is = (bytes, is)
+pub of_image : {T F : Type 0} (o : Option T) (remaining : F → Option (List ℕ)) (options : Options) (w : World)
+    (inodes segments : ℕ) → IsSome o → (file : F) → HasImageOf (remaining file) w inodes segments
+    → BeginsBy o remaining options w inodes segments
+of_image None remaining options w inodes segments some file has = absurd (cc)
+of_image (Some image) remaining options w inodes segments some file has = (file, has)
+
+-- what is loaded from an image is where an audit begins that stands at each tree that it shows
+pub begun_by : (known : Option (List ℕ)) (store : Parts) (level : Level) (a : Audit) → IsReadFrom known store level
+    → ((w : World) → IsVolume (state_of store) w → w.level ≡ level → HasReadNone w a)
+    → numbers_of a.checker ≡ (state_of store).shape.numbers → a.checker.segments ≡ (state_of store).shape.segments
+    → IsBegunBy known a
+begun_by known store level a read begun numbers segments =
+    let loaded = read.loaded in
+    let w = loaded.world.0 in
+    let from = record w { level = level } in
+    let shown = leveled (state_of store) w level loaded.world.1 in
+    record {
+      from = from;
+      image = record {
+        bytes = loaded.bytes;
+        whole = read.whole;
+        image = record {
+          log = store.log;
+          level = level;
+          volume = loaded.image;
+          shown = subst (λ (p : Parts). IsVolume (state_of p) from) loaded.settled shown;
+          at_level = refl;
+          inodes_are = numbers;
+          segments_are = segments;
+        };
+      };
+      read = begun from shown refl;
+    }
+
+-- so it begins as is asked where a file is named
+pub begun_of : {F E : Type 0} (remaining : F → Option (List ℕ)) (options : Options) (r : Result Audit E)
+    → IsSome options.from → (file : F) → IfOk r (IsBegunBy (remaining file))
+    → IfOk r (λ a. a.denials ≡ options.denials) → IfOk r (IsBegun remaining options)
+begun_of remaining options (Ok a) some file begun denials = record {
+  from = begun.from;
+  begins = of_image options.from remaining options begun.from _ _ some file begun.image;
+  read = begun.read;
+  denials = denials;
+}
+begun_of remaining options (Err fault) some file begun denials = tt

@@ -6,14 +6,14 @@ use Rattle.std.specs.List.{flat_map, zip}
 use Rattle.std.proofs.lemmas.Bool.{eq-eqb, ne_eqb}
 use Rattle.std.proofs.lemmas.List.{append-nil, flat_map_more, map-append, take_all, take_more}
 use Rattle.std.proofs.lemmas.Slice.Zip.{get_or-zip, length-zip}
-use Rattle.serde_json.specs.Data.{Data, member, no_members, null, object, string}
+use Rattle.serde_json.specs.Data.{Data, member, no_members, object, string}
 use Rattle.serde_json.specs.View.{items_of, items_view, view}
 use Rattle.serde_json.specs.Written.{has_float, items_have_float}
 use Rattle.serde_json.specs.declared.value.Value.{Value}
 use Rattle.lfs_types.specs.RuleCodes.{rule_code, rules}
 use Rattle.lfs_types.specs.declared.rule.Rule.{Rule}
 use Rattle.lfs_model.specs.declared.counts.Counts.{Counts}
-use Rattle.lfs_auditing.specs.Json.{ArePlain, IsPlain, IsStopped, count, report_data, rule_data, rules_data, user_data, users_data}
+use Rattle.lfs_auditing.specs.Json.{ArePlain, IsPlain, IsStopped, count, report_data, rule_data, user_data, users_data}
 use Rattle.lfs_auditing.specs.declared.audit.Stop.{Stop}
 use Rattle.lfs_auditing.specs.declared.audit.Stop.TheVariants as stops
 use Rattle.lfs_auditing.specs.declared.json.Parts.{Parts}

@@ -1,4 +1,5 @@
 mod AuditLemmas
 mod BeginLemmas
+mod EndLemmas
 mod JsonLemmas
 mod UserLemmas

@@ -20,12 +20,14 @@ use Rattle.lfs_auditing.specs.declared.audit.Stop.TheVariants as stops
 use Rattle.lfs_auditing.specs.declared.fault.Unread.{Unread}
 use Rattle.lfs_auditing.specs.declared.fault.Unread.TheVariants.{Cut, TooLong, Gap, Line}
 
--- the world behind entries from the one where the journal begins, of the volume whose journal is audited
+-- the world behind entries from the one where the journal begins, of the volume whose journal is
+-- audited
 abbrev pub behind : World → Audit → List Entry → World
 behind from a entries = world_after (numbers_of a.checker) entries from
 
--- an audit of a journal that begins in this world has read these entries: they are legal from there, by what it
--- compares of denials, and it stands behind them, has counted them, and each user's
+-- an audit of a journal that begins in this world has read these entries: they are legal from
+-- there, by what it compares of denials, and it stands behind them, has counted them, and each
+-- user's
 pub record HasRead (from : World) (a : Audit) (entries : List Entry) : Type 0 where
   pub legal : IsLegalAs a.denials (numbers_of a.checker) a.checker.segments entries from
   pub stands : StandsAt a.checker (behind from a entries)
@@ -51,8 +53,8 @@ pub record NotesOnly (old new : Audit) : Type 0 where
 
 -- an entry isn't legal behind these
 abbrev pub IsIllegalBehind : World → Audit → List Entry → Entry → Type 0
-IsIllegalBehind from a entries entry = ¬ (IsEventAs a.denials (numbers_of a.checker) a.checker.segments
-    (behind from a entries) entry.cred entry.event)
+IsIllegalBehind from a entries entry = ¬ (IsEventAs a.denials (numbers_of a.checker)
+    a.checker.segments (behind from a entries) entry.cred entry.event)
 
 -- lines with their line feeds
 abbrev pub lines_text : List (List ℕ) → List ℕ
@@ -79,7 +81,8 @@ AreTold number (line ∷ lines) [] = ⊥
 AreTold number (line ∷ lines) (entry ∷ entries) =
     (told_as number line ≡ Ok entry) × AreTold (number + 1) lines entries
 
--- why a line stops an audit that has read these entries: it tells an entry that isn't legal behind them, or none
+-- why a line stops an audit that has read these entries: it tells an entry that isn't legal behind
+-- them, or none
 abbrev pub StopsAtLine : World → Audit → List Entry → List ℕ → Stop → Type 0
 StopsAtLine from a entries line stops.End = ⊥
 StopsAtLine from a entries line (stops.Illegal entry) =
@@ -87,23 +90,28 @@ StopsAtLine from a entries line (stops.Illegal entry) =
 StopsAtLine from a entries line (stops.Unread Cut) = ⊥
 StopsAtLine from a entries line (stops.Unread TooLong) = ⊥
 StopsAtLine from a entries line (stops.Unread Gap) = told_as (length entries + 1) line ≡ Err Gap
-StopsAtLine from a entries line (stops.Unread (Line fault)) = told_as (length entries + 1) line ≡ Err (Line fault)
+StopsAtLine from a entries line (stops.Unread (Line fault)) =
+    told_as (length entries + 1) line ≡ Err (Line fault)
 
--- what an audit that has read these entries read further, and where it stopped: at the end; behind a line that tells no
--- legal entry; at the end, behind bytes that no line feed ends; or within a line that is too long
-abbrev pub StopsBehind : Option (List ℕ) → Option (List ℕ) → World → Audit → List Entry → Stop → Type 0
+-- what an audit that has read these entries read further, and where it stopped: at the end; behind
+-- a line that tells no legal entry; at the end, behind bytes that no line feed ends; or within a
+-- line that is too long
+abbrev pub StopsBehind : Option (List ℕ) → Option (List ℕ) → World → Audit → List Entry → Stop
+    → Type 0
 StopsBehind known left from a entries stops.End = Consumes known left [] × IsAtEnd left
-StopsBehind known left from a entries (stops.Unread Cut) = (part : List ℕ) × IsPart known left part × IsAtEnd left
-    × (0 < length part)
-StopsBehind known left from a entries (stops.Unread TooLong) = (part : List ℕ) × IsPart known left part
-    × (4194304 < length part)
+StopsBehind known left from a entries (stops.Unread Cut) =
+    (part : List ℕ) × IsPart known left part × IsAtEnd left × (0 < length part)
+StopsBehind known left from a entries (stops.Unread TooLong) =
+    (part : List ℕ) × IsPart known left part × (4194304 < length part)
 StopsBehind known left from a entries stop =
-    (line : List ℕ) × HasNoLineFeed line × Consumes known left (line ++ 10 ∷ []) × StopsAtLine from a entries line stop
+    (line : List ℕ) × HasNoLineFeed line × Consumes known left (line ++ 10 ∷ [])
+    × StopsAtLine from a entries line stop
 
--- An audit that has read these entries, of a journal that begins in this world, read on, from these bytes, where they
--- are known: lines that tell more entries, all of them legal, up to where it stopped.
-pub record HasReadOn (known left : Option (List ℕ)) (from : World) (entries : List Entry) (a : Audit)
-    (stop : Stop) : Type 0 where
+-- An audit that has read these entries, of a journal that begins in this world, read on, from these
+-- bytes, where they are known: lines that tell more entries, all of them legal, up to where it
+-- stopped.
+pub record HasReadOn (known left : Option (List ℕ)) (from : World) (entries : List Entry)
+    (a : Audit) (stop : Stop) : Type 0 where
   pub lines : List (List ℕ)
   pub more : List Entry
   pub rest : Option (List ℕ)
@@ -119,15 +127,15 @@ status_of stops.End = 0
 status_of (stops.Illegal entry) = 1
 status_of (stops.Unread why) = 1
 
--- A journal of these bytes, where they are known, of a volume with these numbers was audited from this world, by this
--- much of denials, and the audit ended with this status by where it stopped.
-pub record IsAudited (known : Option (List ℕ)) (denials : Denials) (from : World) (inodes segments status : ℕ) : Type 0
-  where
-    pub audit : Audit
-    pub stop : Stop
-    pub left : Option (List ℕ)
-    pub read : HasReadOn known left from [] audit stop
-    pub numbers_are : numbers_of audit.checker ≡ inodes
-    pub segments_are : audit.checker.segments ≡ segments
-    pub denials_are : audit.denials ≡ denials
-    pub status_is : status ≡ status_of stop
+-- A journal of these bytes, where they are known, of a volume with these numbers was audited from
+-- this world, by this much of denials, and the audit ended with this status by where it stopped.
+pub record IsAudited (known : Option (List ℕ)) (denials : Denials) (from : World)
+    (inodes segments status : ℕ) : Type 0 where
+  pub audit : Audit
+  pub stop : Stop
+  pub left : Option (List ℕ)
+  pub read : HasReadOn known left from [] audit stop
+  pub numbers_are : numbers_of audit.checker ≡ inodes
+  pub segments_are : audit.checker.segments ≡ segments
+  pub denials_are : audit.denials ≡ denials
+  pub status_is : status ≡ status_of stop

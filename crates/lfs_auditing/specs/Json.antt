@@ -22,7 +22,8 @@ count n = number (unsigned n)
 abbrev pub rule_data : Rule × ℕ → List Data
 rule_data (rule, n) =
     if n == 0 then [] else
-    object (member (codes "denied") (count n) (member (codes "rule") (string (rule_code rule)) no_members)) ∷ []
+    object (member (codes "denied") (count n)
+    (member (codes "rule") (string (rule_code rule)) no_members)) ∷ []
 
 abbrev pub rules_data : List Rule → List ℕ → Data
 rules_data rules numbers = array (items_of (flat_map rule_data (zip rules numbers)))
@@ -43,18 +44,21 @@ is_legal stops.End = true
 is_legal (stops.Illegal entry) = false
 is_legal (stops.Unread why) = false
 
--- where an audit of so many legal entries stopped: nowhere; at the entry behind them, with its line and what the rules
--- say; or at a line that tells none, with its fault
+-- where an audit of so many legal entries stopped: nowhere; at the entry behind them, with its line
+-- and what the rules say; or at a line that tells none, with its fault
 abbrev pub IsStopped : ℕ → Stop → Data → Type 0
 IsStopped entries stops.End value = value ≡ null
 IsStopped entries (stops.Illegal entry) value = (line said : List ℕ)
-    × (value ≡ object (member (codes "entry") (count (entries + 1)) (member (codes "line") (string line)
+    × (value ≡ object (member (codes "entry") (count (entries + 1))
+    (member (codes "line") (string line)
     (member (codes "rules") (string said) no_members))))
 IsStopped entries (stops.Unread why) value = (fault : List ℕ)
-    × (value ≡ object (member (codes "entry") (count (entries + 1)) (member (codes "fault") (string fault) no_members)))
+    × (value ≡ object (member (codes "entry") (count (entries + 1))
+    (member (codes "fault") (string fault) no_members)))
 
--- what is reported: whether the journal is legal and how many entries are, where the audit stopped, how each user's
--- calls were answered, who changed and who read what last, and who could act by a path
+-- what is reported: whether the journal is legal and how many entries are, where the audit stopped,
+-- how each user's calls were answered, who changed and who read what last, and who could act by a
+-- path
 abbrev pub report_data : Bool → ℕ → Parts → Data
 report_data legal entries p =
     object (member (codes "changed") (view p.changed) (member (codes "entries") (count entries)

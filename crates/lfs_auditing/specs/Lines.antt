@@ -10,8 +10,8 @@ pub record IsPart (known left : Option (List ℕ)) (part : List ℕ) : Type 0 wh
   pub unended : HasNoLineFeed part
   pub taken : Consumes known left part
 
--- What was read: a line and its line feed; nothing, at the end of the input; what is behind the last line feed; or more
--- bytes without a line feed than a line may have.
+-- What was read: a line and its line feed; nothing, at the end of the input; what is behind the
+-- last line feed; or more bytes without a line feed than a line may have.
 abbrev pub IsPiece : Option (List ℕ) → Option (List ℕ) → List ℕ → Piece → Type 0
 IsPiece known left line Line = HasNoLineFeed line × Consumes known left (line ++ 10 ∷ [])
 IsPiece known left line End = (line ≡ []) × Consumes known left [] × IsAtEnd left

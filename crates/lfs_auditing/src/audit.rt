@@ -9,7 +9,7 @@ ghost use Rattle.lfs_auditing.specs.Audits.{HasRead, HasReadNone, HasReadOn, IsI
 ghost use Rattle.lfs_auditing.specs.Users.{AreCounted};
 
 use crate::fault::{AuditFault, Unread};
-use crate::last::LastOnes;
+use crate::last::{Last, LastOnes};
 use crate::lines::{Piece, read_line};
 use crate::telling::next_of;
 use crate::users::Users;
@@ -104,7 +104,8 @@ impl Audit {
         numbers: u32,
         denials: Denials,
     ) -> Result<Audit, AllocError>
-        ensures begun { IfOk result (λ audit. (w : World) → StandsAt checker w → HasReadNone w audit) }
+        ensures begun { IfOk result (λ audit. (w : World) → StandsAt checker w
+            → HasReadNone w audit) }
         ensures checker { IfOk result (λ audit. audit.checker ≡ checker) }
         ensures denials { IfOk result (λ audit. audit.denials ≡ denials) }
     {
@@ -129,8 +130,10 @@ impl Audit {
     /// `Read` where the reader fails; `Memory`.
     pub fn read_journal<R: Read>(&mut self, reader: &mut R) -> Result<Stop, AuditFault>
         requires { (from : World) × (entries : List Entry) × HasRead from self.old entries }
-        ensures read { IfOk result (λ stop. (from : World) (entries : List Entry) → HasRead from self.old entries
-            → HasReadOn (R.remaining reader.old) (R.remaining reader.new) from entries self.new stop) }
+        ensures read { IfOk result (λ stop. (from : World) (entries : List Entry)
+            → HasRead from self.old entries
+            → HasReadOn (R.remaining reader.old) (R.remaining reader.new)
+            from entries self.new stop) }
         ensures same { IsOfSame self.old self.new }
     {
         let mut line = Vec::new(self.alloc);
@@ -152,11 +155,13 @@ impl Audit {
     /// it, the audit stops there.
     fn line(&mut self, line: &[u8]) -> Result<Option<Stop>, AuditFault>
         requires { (from : World) × (entries : List Entry) × HasRead from self.old entries }
-        ensures read { IfOk result (λ stop. (from : World) (entries : List Entry) → HasRead from self.old entries
+        ensures read { IfOk result (λ stop. (from : World) (entries : List Entry)
+            → HasRead from self.old entries
             → MatchOption stop
             ((entry : Entry) × (told_as (length entries + 1) line.now ≡ Ok entry)
             × HasRead from self.new (entries ++ entry ∷ []))
-            (λ stop. StopsAtLine from self.new entries line.now stop × HasRead from self.new entries)) }
+            (λ stop. StopsAtLine from self.new entries line.now stop
+            × HasRead from self.new entries)) }
         ensures same { IsOfSame self.old self.new }
     {
         match told_as(self.alloc, line, next_of(self.entries))? {
@@ -168,7 +173,8 @@ impl Audit {
     /// Checks an entry; where it is illegal, the audit stops there.
     fn entry(&mut self, entry: Entry) -> Result<Option<Stop>, AuditFault>
         requires { (from : World) × (entries : List Entry) × HasRead from self.old entries }
-        ensures read { IfOk result (λ stop. (from : World) (entries : List Entry) → HasRead from self.old entries
+        ensures read { IfOk result (λ stop. (from : World) (entries : List Entry)
+            → HasRead from self.old entries
             → MatchOption stop
             (HasRead from self.new (entries ++ entry ∷ []))
             (λ stop. (stop ≡ Stop.Illegal entry) × IsIllegalBehind from self.new entries entry
@@ -189,7 +195,8 @@ impl Audit {
     fn note(&mut self, entry: &Entry) -> Result<(), AuditFault>
         requires { (entries : List Entry) × AreCounted self.old.users.counts entries
             × (self.old.entries ≡ length entries) }
-        ensures users { OnOk result ((entries : List Entry) → AreCounted self.old.users.counts entries
+        ensures users { OnOk result ((entries : List Entry)
+            → AreCounted self.old.users.counts entries
             → AreCounted self.new.users.counts (entries ++ entry.now ∷ [])) }
         ensures counted { OnOk result (self.new.entries ≡ self.old.entries + 1) }
         ensures checker { IsSameStanding self.old.checker self.new.checker }
@@ -245,8 +252,9 @@ impl Audit {
         if is_new {
             self.read.clear(row.number);
         }
-        self.changed
-            .put(self.alloc, row.number, path, entry, self.entries)
+        let last = Last::by(self.alloc, path, entry, self.entries)?;
+        self.changed.put(row.number, last);
+        Ok(())
     }
 
     /// Puts down who read last what a path leads to, if it isn't his.
@@ -255,8 +263,9 @@ impl Audit {
     {
         match self.checker.row(path) {
             Some(row) if is_other(&entry.cred, row.attrs.uid) => {
-                self.read
-                    .put(self.alloc, row.number, path, entry, self.entries)
+                let last = Last::by(self.alloc, path, entry, self.entries)?;
+                self.read.put(row.number, last);
+                Ok(())
             }
             _ => Ok(()),
         }

@@ -1,20 +1,21 @@
 //! Where the journal begins that is audited.
 
-ghost use Rattle.std.specs.Prelude.{◌≡◌, IfOk, IsSome, None};
-ghost use Rattle.lfs_types.specs.Ranges.{least_frames};
-ghost use Rattle.lfs_checking.specs.Files.{IsLoaded};
-ghost use Rattle.lfs_auditing.specs.Beginnings.{IsBegun};
+ghost use Rattle.std.specs.Prelude.{◌≡◌, IfOk};
+ghost use Rattle.lfs_auditing.specs.Beginnings.{IsBegun, IsBegunBy, IsReadFrom};
 
 use crate::audit::Audit;
 use crate::fault::AuditFault;
 use crate::options::Options;
 use lfs_checking::fault::{CheckFault, KeepFault};
-use lfs_checking::keeping::load_file;
+use lfs_checking::reading::read_image;
+use lfs_checking::volume::load_volume;
 use lfs_logstore::LogStore;
-use lfs_types::fault::FormatFault;
+use lfs_trace::errors::Denials;
 use lfs_types::level::Level;
 use lfs_types::limits::LEAST_FRAMES;
 use std::alloc::Global;
+use std::fs::File;
+use std::io::Read;
 use std::rt::Files;
 
 /// An audit that has read nothing: from the tree of the volume whose image a file has, where one is named, else from that of
@@ -28,47 +29,33 @@ pub(crate) fn begin<F: Files>(
     alloc: Global,
     options: &Options<'_>,
 ) -> Result<Audit, AuditFault>
-    ensures { IfOk result (IsBegun options.now) }
+    ensures { IfOk result (IsBegun F.File.remaining options.now) }
 {
     let Some(path) = options.from else {
-        return fresh(alloc, options);
+        let audit = Audit::new(alloc, options.inodes, options.segments, options.denials)?;
+        return Ok(audit);
     };
-    match load_file(files, alloc, path, LEAST_FRAMES) {
-        Ok(Some((store, level))) => over(alloc, store, level, options),
-        Ok(None) => Err(AuditFault::Image(KeepFault::Read(CheckFault::Open))),
-        Err(KeepFault::Memory) => Err(AuditFault::Memory),
-        Err(fault) => Err(AuditFault::Image(fault)),
+    match File::open(files, path) {
+        Ok(mut file) => from_image(alloc, &mut file, options.denials),
+        Err(_) => Err(AuditFault::Image(KeepFault::Read(CheckFault::Open))),
     }
 }
 
-/// An audit from the tree of a fresh volume, with the numbers that are asked for.
-fn fresh(alloc: Global, options: &Options<'_>) -> Result<Audit, AuditFault>
-    requires { options.now.from ≡ None }
-    ensures { IfOk result (IsBegun options.now) }
+/// An audit from the tree of the volume whose image a reader has, which compares so much of denials.
+fn from_image<R: Read>(alloc: Global, reader: &mut R, denials: Denials) -> Result<Audit, AuditFault>
+    ensures begun { IfOk result (IsBegunBy (R.remaining reader.old)) }
+    ensures denials { IfOk result (λ audit. audit.denials ≡ denials) }
 {
-    match Audit::new(alloc, options.inodes, options.segments, options.denials) {
-        Ok(audit) => Ok(audit),
-        Err(FormatFault::TooFew | FormatFault::TooMany | FormatFault::Memory) => {
-            Err(AuditFault::Memory)
-        }
-    }
+    let (mut store, level) = load(alloc, reader)?;
+    let audit = Audit::over(alloc, &mut store, level, denials)?;
+    Ok(audit)
 }
 
-/// An audit from the tree of the volume of an image, which has this store and this securelevel.
-fn over(
-    alloc: Global,
-    mut store: LogStore,
-    level: Level,
-    options: &Options<'_>,
-) -> Result<Audit, AuditFault>
-    requires image { IsSome options.now.from }
-    requires loaded { IsLoaded least_frames store level }
-    ensures { IfOk result (IsBegun options.now) }
+/// The store and the securelevel of the volume whose image a reader has.
+fn load<R: Read>(alloc: Global, reader: &mut R) -> Result<(LogStore, Level), KeepFault>
+    ensures { IfOk result (λ both. IsReadFrom (R.remaining reader.old) both.0 both.1) }
 {
-    match Audit::over(alloc, &mut store, level, options.denials) {
-        Ok(audit) => Ok(audit),
-        Err(FormatFault::TooFew | FormatFault::TooMany | FormatFault::Memory) => {
-            Err(AuditFault::Memory)
-        }
-    }
+    let bytes = read_image(alloc, reader)?;
+    let both = load_volume(alloc, bytes.as_slice(), LEAST_FRAMES)?;
+    Ok(both)
 }

@@ -3,9 +3,10 @@
 ghost use Rattle.std.specs.Prelude.{◌≡◌};
 ghost use Rattle.lfs_auditing.specs.declared.fault.AuditFault.TheVariants.{Memory, Write};
 
-use lfs_checking::fault::KeepFault;
+use lfs_checking::fault::{CheckFault, KeepFault, VolumeFault};
 use lfs_io::output::WriteFault;
 use lfs_journal_lines::fault::LineFault;
+use lfs_types::fault::FormatFault;
 use std::alloc::{AllocError, AllocFailed};
 use thiserror::Error;
 
@@ -45,6 +46,28 @@ impl<T: Drop> From<AllocFailed<T>> for AuditFault {
 
     fn from(_error: AllocFailed<T>) -> AuditFault {
         AuditFault::Memory
+    }
+}
+
+impl From<FormatFault> for AuditFault {
+    fn from(fault: FormatFault) -> AuditFault {
+        match fault {
+            // No numbers are asked for that a volume can't have, and no image has such.
+            FormatFault::TooFew | FormatFault::TooMany | FormatFault::Memory => AuditFault::Memory,
+        }
+    }
+}
+
+impl From<KeepFault> for AuditFault {
+    fn from(fault: KeepFault) -> AuditFault {
+        match fault {
+            KeepFault::Memory
+            | KeepFault::Read(CheckFault::Memory)
+            | KeepFault::Image(VolumeFault::Memory) => AuditFault::Memory,
+            KeepFault::Read(_) | KeepFault::Image(_) | KeepFault::Save | KeepFault::Frames => {
+                AuditFault::Image(fault)
+            }
+        }
     }
 }
 

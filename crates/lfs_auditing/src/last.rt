@@ -31,26 +31,9 @@ impl LastOnes {
         Ok(LastOnes { ones })
     }
 
-    /// Puts down that an entry, counted from 1, did it to the file of a number by this path.
-    pub fn put(
-        &mut self,
-        alloc: Global,
-        number: u32,
-        path: &Path,
-        entry: &Entry,
-        count: u32,
-    ) -> Result<(), AllocError> {
-        let path = path.try_clone(alloc)?;
-        self.set(
-            number,
-            Some(Last {
-                path,
-                uid: entry.cred.uid(),
-                session: entry.session,
-                entry: count,
-            }),
-        );
-        Ok(())
+    /// Puts down who did it last to the file of a number.
+    pub fn put(&mut self, number: u32, last: Last) {
+        self.set(number, Some(last));
     }
 
     /// Puts down that nobody did it to the file of a number.
@@ -74,6 +57,17 @@ impl LastOnes {
 }
 
 impl Last {
+    /// The user of an entry, counted from 1, in its session, by this path.
+    pub fn by(alloc: Global, path: &Path, entry: &Entry, count: u32) -> Result<Last, AllocError> {
+        let path = path.try_clone(alloc)?;
+        Ok(Last {
+            path,
+            uid: entry.cred.uid(),
+            session: entry.session,
+            entry: count,
+        })
+    }
+
     /// Appends the line: the path, the user, the session and the entry.
     pub fn push(&self, out: &mut Vec<u8>) -> Result<(), AllocError> {
         spell_path(out, &self.path)?;

@@ -30,7 +30,8 @@ pub enum Piece {
 ///
 /// `Read` where the reader fails; `Memory`.
 pub fn read_line<R: Read>(reader: &mut R, line: &mut Vec<u8>) -> Result<Piece, AuditFault>
-    ensures { IfOk result (IsPiece (R.remaining reader.old) (R.remaining reader.new) line.new.items) }
+    ensures { IfOk result (IsPiece (R.remaining reader.old) (R.remaining reader.new)
+        line.new.items) }
 {
     line.clear();
     while line.len() <= LINE_MAX {

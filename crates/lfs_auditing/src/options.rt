@@ -1,32 +1,16 @@
 //! What the arguments of `lfs_audit_trail` ask for.
 
 ghost use Rattle.std.specs.Prelude.{IfOk};
-ghost use Rattle.lfs_auditing.specs.Ranges.{IsBetween, IsInRange};
+ghost use Rattle.lfs_command.specs.Ranges.{IsBetween};
+ghost use Rattle.lfs_auditing.specs.Ranges.{IsInRange};
 
-use clap::builder::ValueParser;
-use clap::error::ErrorKind;
 use clap::{Arg, ArgAction, ArgMatches, Command, Error};
+use lfs_command::numbers::NumberOption;
+use lfs_command::refusing::{self, wrong_value};
 use lfs_trace::errors::Denials;
 use lfs_types::path::{BadPath, Path};
 use std::alloc::{AllocError, Global};
 use std::convert::AsStr;
-
-/// An option that takes a number.
-#[derive(Clone, Copy)]
-struct NumberOption {
-    /// Its name.
-    name: &'static str,
-    /// The least number that it takes.
-    least: u32,
-    /// The greatest number that it takes.
-    most: u32,
-    /// The number where it is not given.
-    default: u32,
-    /// What `--help` tells of it.
-    help: &'static str,
-    /// What is told of a number that begins with a sign.
-    refusal: &'static str,
-}
 
 const SEGMENTS: NumberOption = NumberOption {
     name: "segments",
@@ -145,24 +129,9 @@ fn denials_in(matches: &ArgMatches<'_>) -> Denials {
     }
 }
 
-/// The fault of arguments that are no text.
-///
-/// # Errors
-///
-/// It is itself one, with exit code 2; or want of memory.
+/// The error of arguments that are no text, with exit code 2; or want of memory.
 pub fn not_utf8(alloc: Global) -> Error {
-    match command(alloc) {
-        Ok(mut command) => wrong_value(&mut command, "the arguments must be UTF-8"),
-        Err(error) => Error::from(error),
-    }
-}
-
-/// The error of a value that is refused, or want of memory.
-fn wrong_value(command: &mut Command<'_>, message: &str) -> Error {
-    match command.error(ErrorKind::ValueValidation, message) {
-        Ok(error) => error,
-        Err(error) => Error::from(error),
-    }
+    refusing::not_utf8(command(alloc))
 }
 
 /// The inode numbers and the segments that the matches ask for, or what is told of the first that is refused.
@@ -173,38 +142,14 @@ fn numbers_in(matches: &ArgMatches<'_>) -> Result<(u32, u32), &'static str>
     if matches.contains_id(FROM) && has_numbers(matches) {
         return Err(FROM_REFUSAL);
     }
-    let inodes = number(matches, &INODES)?;
-    let segments = number(matches, &SEGMENTS)?;
+    let inodes = INODES.number(matches)?;
+    let segments = SEGMENTS.number(matches)?;
     Ok((inodes, segments))
-}
-
-/// The number that the matches ask for by an option, its default where it is not given, or what is told where it is refused:
-/// it begins with a sign. The parser has read it as a number in its range, which no clause of its says.
-fn number(matches: &ArgMatches<'_>, option: &NumberOption) -> Result<u32, &'static str>
-    requires { IsBetween option.now.least option.now.most option.now.default }
-    ensures { IfOk result (IsBetween option.now.least option.now.most) }
-{
-    if has_sign(matches, option.name) {
-        return Err(option.refusal);
-    }
-    match matches.get_one::<u32>(option.name) {
-        None => Ok(option.default),
-        Some(number) if option.least <= number && number <= option.most => Ok(number),
-        Some(_) => Err(option.refusal),
-    }
 }
 
 /// Whether the matches have one of the numbers.
 fn has_numbers(matches: &ArgMatches<'_>) -> bool {
     matches.contains_id(INODES.name) || matches.contains_id(SEGMENTS.name)
-}
-
-/// Whether the value of an argument begins with a sign.
-fn has_sign(matches: &ArgMatches<'_>, name: &str) -> bool {
-    match matches.get_str(name) {
-        Some(text) => text.starts_with('+'),
-        None => false,
-    }
 }
 
 /// The command line.
@@ -267,15 +212,4 @@ fn journal<'a>(alloc: Global) -> Arg<'a> {
         .value_name("JOURNAL")
         .action(ArgAction::Set)
         .help("The file of the journal; without it, the journal is read from standard input")
-}
-
-impl NumberOption {
-    /// The option for the command line.
-    fn arg<'a>(self, alloc: Global) -> Arg<'a> {
-        Arg::new(alloc, self.name)
-            .long(self.name)
-            .value_name("N")
-            .value_parser(ValueParser::Unsigned(u64::from(self.least), u64::from(self.most)))
-            .help(self.help)
-    }
 }

@@ -1,10 +1,11 @@
 //! `lfs_audit_trail`: a journal is read, from standard input or from a file, and what is found is told.
 
-ghost use Rattle.std.specs.Prelude.{◌≡◌, ℕ, List, [], IfErr, IfOk, None, Option};
-ghost use Rattle.clap.specs.Values.{kind_of};
-ghost use Rattle.lfs_auditing.specs.Audits.{status_of};
-ghost use Rattle.lfs_auditing.specs.Beginnings.{IsAuditedBy, IsBegun};
-ghost use Rattle.lfs_auditing.specs.Ends.{EndsAudit, EndsUnasked, IsTrailEnd};
+ghost use Rattle.std.specs.Prelude.{◌≡◌, IfOk, MatchResult};
+ghost use Rattle.lfs_types.specs.Tree.{World};
+ghost use Rattle.lfs_trace.specs.Checking.{numbers_of};
+ghost use Rattle.lfs_auditing.specs.Audits.{HasReadNone, IsAudited, status_of};
+ghost use Rattle.lfs_auditing.specs.Beginnings.{IsAuditedAsAsked, IsAuditedBy};
+ghost use Rattle.lfs_auditing.specs.Ends.{IsTrailEnd};
 ghost use Rattle.lfs_auditing.specs.Ranges.{IsInRange};
 
 use crate::audit::{Audit, Stop};
@@ -12,13 +13,14 @@ use crate::beginning::begin;
 use crate::fault::AuditFault;
 use crate::options::{Options, not_utf8, options_of};
 use clap::Error;
-use clap::error::ErrorKind;
+use lfs_command::refusing::refuse;
+use lfs_command::words::{NoWords, words};
 use lfs_io::output::{flush, write_text};
 use lfs_io::tell::tell;
 use std::alloc::{AllocError, Global};
-use std::env::{self, Env};
+use std::env::Env;
 use std::fs::File;
-use std::io::{self, BufReader, Read, Write};
+use std::io::{BufReader, Read, Write};
 use std::rt::Files;
 
 /// The program's name.
@@ -40,72 +42,28 @@ where
     R: Read,
     W: Write,
     D: Write,
-    ensures { IsTrailEnd (R.remaining stdin.old)
+    ensures { IsTrailEnd F.File.remaining (R.remaining stdin.old)
         result stdin.old stdin.new stdout.old stdout.new stderr.old stderr.new }
 {
     let alloc = env.alloc();
     let words = words(env);
-    let asked = asked(alloc, &words);
-    settle(files, alloc, asked, stdin, stdout, stderr)
-}
-
-/// Does what was asked for, or tells why that is nothing.
-fn settle<F, R, W, D>(
-    files: &F,
-    alloc: Global,
-    asked: Result<Options<'_>, Error>,
-    stdin: &mut R,
-    stdout: &mut W,
-    stderr: &mut D,
-) -> u8
-where
-    F: Files,
-    R: Read,
-    W: Write,
-    D: Write,
-    ensures audit { IfOk asked.entry (λ options. EndsAudit options
-        (R.remaining stdin.old) result stderr.old stderr.new) }
-    ensures not_run { IfErr asked.entry (λ error. (stdin.new ≡ stdin.old)
-        × EndsUnasked (kind_of error) result stdout.old stdout.new stderr.old stderr.new) }
-{
-    match asked {
-        Ok(options) => match run(files, alloc, &options, stdin, stdout) {
-            Ok(status) => status,
-            Err(fault) => end(stderr, fault),
-        },
-        Err(error) => refuse(stdout, stderr, &error),
+    match asked(alloc, &words) {
+        Ok(options) => end(stderr, run(files, alloc, &options, stdin, stdout)),
+        Err(error) => refuse(stdout, stderr, NAME, &error),
     }
 }
 
-/// The status behind a fault, which is told.
-fn end<D: Write>(stderr: &mut D, fault: AuditFault) -> u8
-    ensures { result ≡ 1 }
+/// The status that an audit gave, or that of its fault, which is told.
+fn end<D: Write>(stderr: &mut D, outcome: Result<u8, AuditFault>) -> u8
+    ensures { MatchResult outcome (λ status. (result ≡ status) × (stderr.new ≡ stderr.old))
+        (λ _. result ≡ 1) }
 {
-    let _ = tell(stderr, NAME, &fault);
-    1
-}
-
-/// Why there are no words.
-#[derive(Clone, Copy, Debug)]
-enum NoWords {
-    /// One is no text.
-    NotUtf8,
-    /// A growth was refused.
-    Memory,
-}
-
-impl From<AllocError> for NoWords {
-    fn from(_error: AllocError) -> NoWords {
-        NoWords::Memory
-    }
-}
-
-/// The words of a command line; the first is the program's name.
-fn words<E: Env + AllocGlobal>(env: &E) -> Result<Vec<String>, NoWords> {
-    match env::args(env) {
-        Ok(words) => Ok(words.collect::<Vec<_>>(env.alloc())?),
-        Err(error) if error.kind() == io::ErrorKind::OutOfMemory => Err(NoWords::Memory),
-        Err(_) => Err(NoWords::NotUtf8),
+    match outcome {
+        Ok(status) => status,
+        Err(fault) => {
+            let _ = tell(stderr, NAME, &fault);
+            1
+        }
     }
 }
 
@@ -120,24 +78,6 @@ fn asked<'a>(alloc: Global, words: &'a Result<Vec<String>, NoWords>) -> Result<O
     }
 }
 
-/// Tells what was asked for in place of an audit: the help, on standard output, and of words that were refused why, on standard
-/// error. Gives the status with which the program ends.
-fn refuse<W: Write, D: Write>(stdout: &mut W, stderr: &mut D, error: &Error) -> u8
-    ensures { EndsUnasked (kind_of error.now) result stdout.old stdout.new stderr.old stderr.new }
-{
-    match error.kind() {
-        ErrorKind::OutOfMemory => end(stderr, AuditFault::Memory),
-        ErrorKind::DisplayHelp => match write!(stdout, "{error}") {
-            Ok(()) => 0,
-            Err(_) => end(stderr, AuditFault::Write),
-        },
-        _ => {
-            let _ = write!(stderr, "{error}");
-            2
-        }
-    }
-}
-
 /// Audits the journal of the file that is named, or that of standard input. Gives the status with which the program ends.
 fn run<F: Files, R: Read, W: Write>(
     files: &F,
@@ -146,9 +86,7 @@ fn run<F: Files, R: Read, W: Write>(
     stdin: &mut R,
     stdout: &mut W,
 ) -> Result<u8, AuditFault>
-    ensures audited { IfOk result (λ status. (bytes : Option (List ℕ)) × IsAuditedBy options.now bytes status) }
-    ensures read { IfOk result (λ status. options.now.journal ≡ None
-        → IsAuditedBy options.now (R.remaining stdin.old) status) }
+    ensures { IfOk result (IsAuditedAsAsked F.File.remaining options.now (R.remaining stdin.old)) }
 {
     match options.journal {
         Some(path) => match File::open(files, path) {
@@ -167,13 +105,26 @@ pub fn audit<F: Files, R: Read, W: Write>(
     reader: &mut R,
     writer: &mut W,
 ) -> Result<u8, AuditFault>
-    ensures { IfOk result (IsAuditedBy options.now (R.remaining reader.old)) }
+    ensures { IfOk result (IsAuditedBy F.File.remaining options.now (R.remaining reader.old)) }
 {
-    let mut audit = begin(files, alloc, options)?;
     match BufReader::new(alloc, reader) {
-        Ok(mut reader) => audit_lines(&mut audit, options, &mut reader, writer),
+        Ok(mut reader) => audit_buffered(files, alloc, options, &mut reader, writer),
         Err(_) => Err(AuditFault::Memory),
     }
+}
+
+/// The same of a reader that takes no longer for a byte than for many.
+fn audit_buffered<F: Files, R: Read, W: Write>(
+    files: &F,
+    alloc: Global,
+    options: &Options<'_>,
+    reader: &mut R,
+    writer: &mut W,
+) -> Result<u8, AuditFault>
+    ensures { IfOk result (IsAuditedBy F.File.remaining options.now (R.remaining reader.old)) }
+{
+    let mut audit = begin(files, alloc, options)?;
+    audit_lines(&mut audit, options, reader, writer)
 }
 
 /// Audits the lines of a reader by an audit that has read nothing, and writes what is found.
@@ -183,8 +134,10 @@ fn audit_lines<R: Read, W: Write>(
     reader: &mut R,
     writer: &mut W,
 ) -> Result<u8, AuditFault>
-    requires { IsBegun options.now audit.old }
-    ensures { IfOk result (IsAuditedBy options.now (R.remaining reader.old)) }
+    requires { (from : World) × HasReadNone from audit.old }
+    ensures { IfOk result (λ status. (from : World) → HasReadNone from audit.old
+        → IsAudited (R.remaining reader.old) audit.old.denials from
+        (numbers_of audit.old.checker) audit.old.checker.segments status) }
 {
     let stop = audit.read_journal(reader)?;
     let status = status_of(&stop);

@@ -1,4 +1,4 @@
-use Rattle.std.proofs.Common.{subst, ◌∙◌}
+use Rattle.std.proofs.Common.{subst}
 use Rattle.lfs_trace.specs.Errors.{IsCheckedAs}
 use Rattle.lfs_auditing.proofs.AuditLemmas.{read_more}
 use Rattle.lfs_auditing.proofs.audit.Audit.entry.Goals as goal

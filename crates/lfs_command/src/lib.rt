@@ -1,0 +1,6 @@
+//! The words of a command line: read, their numbers judged, and what is told of words that ask for no run.
+#![tactic(auto)]
+
+pub mod numbers;
+pub mod refusing;
+pub mod words;
