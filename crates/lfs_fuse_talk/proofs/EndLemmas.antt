@@ -1,22 +1,118 @@
 -- How `lfs_fuse` ends, by how its talk did.
-use Rattle.std.proofs.Common.{◌≡◌, ℕ, Bool, true, List, Option, Result, Ok, Err, IfOk, arith}
-use Rattle.std.specs.Prelude.{MatchResult}
-use Rattle.lfs_fuse_talk.specs.Ends.{EndsMount, HasMounted}
+use Rattle.std.proofs.Common.{◌≡◌, ℕ, ◌≤◌, ◌⊎◌, inl, inr, Bool, true, false, List, Option, Result, Ok, Err, IfOk, IfErr}
+use Rattle.std.proofs.Common.{IsSome, arith, refl, sym, subst, ◌∙◌}
+use Rattle.std.specs.Prelude.{MatchResult, OnOk}
+use Rattle.lfs_staging.specs.declared.parts.Parts.{Parts as Log}
+use Rattle.lfs_fuse_wire.specs.declared.framing.Frame.{Frame}
+use Rattle.lfs_fuse_wire.specs.declared.framing.Frame.TheVariants.{Partial, Bad}
+use Rattle.lfs_fuse_talk.specs.Ends.{EndsServing, IsBroken, IsUnserved, status_of}
+use Rattle.lfs_fuse_talk.specs.Serving.{HasServed, Server}
+use Rattle.lfs_fuse_talk.specs.Steps.{IsTalkFault}
 use Rattle.lfs_fuse_talk.specs.declared.fault.TalkFault.{TalkFault}
+use Rattle.lfs_fuse_talk.specs.declared.fault.TalkFault.TheVariants.{Format, Read, Image, Open, Journal, Save, Message}
+use Rattle.lfs_fuse_talk.specs.declared.fault.TalkFault.TheVariants.{Reply, Memory}
 use Rattle.lfs_fuse_talk.specs.declared.options.Options.{Options}
 use Rattle.lfs_fuse_talk.specs.declared.talk.Talked.{Talked}
 
-pub ends_mount : {F D : Type 0} (S Dir : Type 0) (contents : F → Option (List ℕ)) (options : Options)
-    (known left start out : Option (List ℕ)) (status : ℕ) (err_before err_after : D) (outcome : Result Talked TalkFault)
-    → IfOk outcome (λ talked. HasMounted S Dir contents options talked.is_whole known left start out)
-    → MatchResult outcome (λ talked. (status ≡ 0) × (talked.is_whole ≡ true → err_after ≡ err_before))
-    (λ _. status ≡ 1)
-    → EndsMount S Dir contents options known left start out status err_before err_after
-ends_mount S Dir contents options known left start out status err_before err_after (Ok talked) served told = record {
-  either = let is = told.0 in omega (arith, is);
-  done = λ _. (talked.is_whole, served, told.1);
-}
-ends_mount S Dir contents options known left start out status err_before err_after (Err fault) served told = record {
-  either = omega (arith, told);
-  done = λ none. absurd (omega (arith, told, none));
-}
+status_between : (fault : TalkFault) → (1 ≤ status_of fault) × (status_of fault ≤ 2)
+status_between (Format fault) = (omega arith, omega arith)
+status_between (Read fault) = (omega arith, omega arith)
+status_between (Image fault) = (omega arith, omega arith)
+status_between (Open fault) = (omega arith, omega arith)
+status_between Journal = (omega arith, omega arith)
+status_between Save = (omega arith, omega arith)
+status_between Message = (omega arith, omega arith)
+status_between Reply = (omega arith, omega arith)
+status_between Memory = (omega arith, omega arith)
+
+-- a fault of a talk is one also where nothing may have been read
+broken_read : (options : Options) (IsUnread : Type 0) (Serves : Frame → Bool → Bool → Bool → Type 0) (fault : TalkFault)
+    → IsBroken options ⊥ Serves fault → IsBroken options IsUnread Serves fault
+broken_read options IsUnread Serves (Format fault) broken = absurd broken.1
+broken_read options IsUnread Serves (Read fault) broken = absurd broken.1
+broken_read options IsUnread Serves (Image fault) broken = absurd broken.1
+broken_read options IsUnread Serves (Open fault) broken = absurd broken.1
+broken_read options IsUnread Serves Journal broken = broken
+broken_read options IsUnread Serves Save broken = broken
+broken_read options IsUnread Serves Message broken = broken
+broken_read options IsUnread Serves Reply broken = broken
+broken_read options IsUnread Serves Memory broken = tt
+
+broken_unread : (options : Options) (IsUnread : Type 0) (Serves : Frame → Bool → Bool → Bool → Type 0)
+    (fault : TalkFault) → IsUnserved options fault → IsUnread → IsBroken options IsUnread Serves fault
+broken_unread options IsUnread Serves (Format fault) unserved unread = (unserved, unread)
+broken_unread options IsUnread Serves (Read fault) unserved unread = (unserved, unread)
+broken_unread options IsUnread Serves (Image fault) unserved unread = (unserved, unread)
+broken_unread options IsUnread Serves (Open fault) unserved unread = (unserved, unread)
+broken_unread options IsUnread Serves Journal unserved unread = absurd unserved
+broken_unread options IsUnread Serves Save unserved unread = absurd unserved
+broken_unread options IsUnread Serves Message unserved unread = absurd unserved
+broken_unread options IsUnread Serves Reply unserved unread = absurd unserved
+broken_unread options IsUnread Serves Memory unserved unread = tt
+
+-- the fault of a talk itself
+pub broken_talk : (options : Options) (Serves : Frame → Bool → Bool → Bool → Type 0) (fault : TalkFault)
+    (is_kept : Bool) → IsTalkFault fault → (fault ≡ Message → Serves Bad false is_kept false)
+    → IsBroken options ⊥ Serves fault
+broken_talk options Serves fault is_kept (inl is) serves =
+    subst (λ (f : TalkFault). IsBroken options ⊥ Serves f) (sym is) (is_kept, serves is)
+broken_talk options Serves fault is_kept (inr is) serves =
+    subst (λ (f : TalkFault). IsBroken options ⊥ Serves f) (sym is) tt
+
+-- a volume that is not kept
+pub broken_save : (options : Options) (Serves : Frame → Bool → Bool → Bool → Type 0) (fault : TalkFault)
+    (is_whole is_kept : Bool) → (fault ≡ Memory) ⊎ ((fault ≡ Save) × IsSome options.image)
+    → Serves Partial is_whole is_kept false → IsBroken options ⊥ Serves fault
+broken_save options Serves fault is_whole is_kept (inl is) serves =
+    subst (λ (f : TalkFault). IsBroken options ⊥ Serves f) (sym is) tt
+broken_save options Serves fault is_whole is_kept (inr is) serves =
+    subst (λ (f : TalkFault). IsBroken options ⊥ Serves f) (sym is.0) (is.1, is_whole, is_kept, serves)
+
+-- a mount that began
+pub ends_served : {F P R W D : Type 0} (contents : F → Option (List ℕ)) (options : Options) (r : Server Log P)
+    (known left start out : Option (List ℕ)) (status : ℕ) (in_before in_after : R) (out_before out_after : W)
+    (err_before err_between err_after : D) (outcome : Result Talked TalkFault)
+    → IfOk outcome (λ talked. HasServed contents options r known left start out Partial talked.is_whole true true)
+    → OnOk outcome (err_between ≡ err_before)
+    → IfErr outcome (IsBroken options ⊥ (HasServed contents options r known left start out))
+    → MatchResult outcome (λ talked. (status ≡ 0) × (talked.is_whole ≡ true → err_after ≡ err_between))
+    (λ fault. status ≡ status_of fault)
+    → EndsServing contents options r known left start out status in_before in_after out_before out_after err_before
+    err_after
+ends_served contents options r known left start out status in_before in_after out_before out_after err_before
+    err_between err_after (Ok talked) served silent broken told = record {
+      either = let is = told.0 in omega (arith, is);
+      done = λ _. (talked.is_whole, served, λ whole. told.1 whole ∙ silent);
+      failed = λ some. absurd (some told.0);
+    }
+ends_served contents options r known left start out status in_before in_after out_before out_after err_before
+    err_between err_after (Err fault) served silent broken told =
+    let between = status_between fault in
+    record {
+      either = omega (arith, told, between.1);
+      done = λ none. absurd (omega (arith, told, none, between.0));
+      failed = λ _. (
+        fault,
+        told,
+        broken_read options ((in_after ≡ in_before) × (out_after ≡ out_before))
+            (HasServed contents options r known left start out) fault broken,
+      );
+    }
+
+-- a mount that did not begin
+pub ends_unserved : {F P R W D : Type 0} (contents : F → Option (List ℕ)) (options : Options) (r : Server Log P)
+    (known left start out : Option (List ℕ)) (status : ℕ) (here : R) (there : W) (err_before err_after : D)
+    (fault : TalkFault) → IsUnserved options fault → status ≡ status_of fault
+    → EndsServing contents options r known left start out status here here there there err_before err_after
+ends_unserved contents options r known left start out status here there err_before err_after fault unserved told =
+    let between = status_between fault in
+    record {
+      either = omega (arith, told, between.1);
+      done = λ none. absurd (omega (arith, told, none, between.0));
+      failed = λ _. (
+        fault,
+        told,
+        broken_unread options ((here ≡ here) × (there ≡ there))
+            (HasServed contents options r known left start out) fault unserved (refl, refl),
+      );
+    }

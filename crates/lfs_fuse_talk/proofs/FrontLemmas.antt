@@ -1,13 +1,12 @@
 -- A message that is cut from bytes.
-use Rattle.std.proofs.Common.{◌≡◌, ℕ, zero, suc, ◌+◌, ◌*◌, ◌<◌, ◌≤◌}
-use Rattle.std.proofs.Common.{◌++◌, ◌-◌, nat_lt, Bool, true, false, List, length}
-use Rattle.std.proofs.Common.{take, drop, slice_index, refl, sym, ap, ◌∙◌, if◌then◌else◌, arith}
+use Rattle.std.proofs.Common.{◌≡◌, ℕ, zero, suc, ◌+◌, ◌≤◌}
+use Rattle.std.proofs.Common.{◌++◌, nat_lt, List, length}
+use Rattle.std.proofs.Common.{take, drop, slice_index, refl, ap, ◌∙◌, if◌then◌else◌, arith}
 use Rattle.std.proofs.lemmas.List.{get_or-take, length-drop, length-take-le, take-append-drop}
 use Rattle.byteorder.specs.Endian.{little_from}
 use Rattle.lfs_fuse_wire.specs.Numbers.{number_at}
 use Rattle.lfs_fuse_wire.specs.Framing.{frame_in, frame_of}
-use Rattle.lfs_fuse_wire.specs.declared.framing.Frame.{Frame}
-use Rattle.lfs_fuse_wire.specs.declared.framing.Frame.TheVariants.{Whole, Partial, Bad}
+use Rattle.lfs_fuse_wire.specs.declared.framing.Frame.TheVariants.{Whole, Partial}
 use Rattle.lfs_fuse_talk.specs.Fronts.{IsFirstOf}
 use Rattle.lfs_fuse_talk.specs.declared.inbox.TheConstants.{READ_BYTES}
 

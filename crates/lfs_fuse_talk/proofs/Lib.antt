@@ -1,3 +1,4 @@
+pub mod CourseLemmas
 pub mod EndLemmas
 pub mod FrontLemmas
 pub mod TalkLemmas

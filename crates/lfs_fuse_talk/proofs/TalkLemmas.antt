@@ -1,7 +1,7 @@
 -- Messages are answered one after another.
-use Rattle.std.proofs.Common.{◌≡◌, ℕ, ◌≤◌, Bool, true, false, ◌&&◌, List, [], ◌∷◌, ◌++◌, length, take, drop, Option}
+use Rattle.std.proofs.Common.{◌≡◌, ℕ, Bool, true, false, ◌&&◌, List, [], ◌∷◌, ◌++◌, take, drop, Option}
 use Rattle.std.proofs.Common.{None, Some}
-use Rattle.std.proofs.Common.{refl, sym, ap, subst, ◌∙◌, append_assoc, append-nil, arith}
+use Rattle.std.proofs.Common.{refl, sym, ap, subst, ◌∙◌, append_assoc, append-nil}
 use Rattle.std.specs.List.{concat}
 use Rattle.std.specs.Io.KnownBytes.{Appends, Consumes, Keeps}
 use Rattle.std.proofs.KnownBytes.{Appends-kept, Appends-nil, Appends-trans, Consumes-kept, Consumes-nil, Consumes-trans}
@@ -9,7 +9,7 @@ use Rattle.std.proofs.lemmas.List.{take-append-drop}
 use Rattle.std.proofs.lemmas.List.Folds.{concat-append}
 use Rattle.lfs_fuse_wire.specs.declared.framing.Frame.{Frame}
 use Rattle.lfs_fuse_wire.specs.declared.framing.Frame.TheVariants.{Partial}
-use Rattle.lfs_fuse_talk.specs.Fronts.{IsFirstOf, IsMessage, frame_of}
+use Rattle.lfs_fuse_talk.specs.Fronts.{IsFirstOf, frame_of}
 use Rattle.lfs_fuse_talk.specs.Steps.{IsAnswered, IsSent}
 use Rattle.lfs_fuse_talk.specs.Talking.{Answering, AreAnswered, AreFronts, AreSent, HasAnswered, HasTalked}
 

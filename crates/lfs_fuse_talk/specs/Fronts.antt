@@ -31,6 +31,7 @@ IsFront bytes Bad = frame_of bytes ≡ frame.Bad
 
 -- what a read gave stands behind what was there; it gave nothing at the end, and where it failed
 abbrev pub HasRead : List ℕ → List ℕ → Option (List ℕ) → Option (List ℕ) → Reading → Type 0
-HasRead before after known left reading.Bytes = (chunk : List ℕ) × (after ≡ before ++ chunk) × Consumes known left chunk
+HasRead before after known left reading.Bytes =
+    (chunk : List ℕ) × (after ≡ before ++ chunk) × Consumes known left chunk
 HasRead before after known left reading.End = (after ≡ before) × Keeps known left × IsAtEnd left
 HasRead before after known left reading.Failed = (after ≡ before) × Keeps known left

@@ -1,6 +1,8 @@
 pub mod Ends
+pub mod Filing
 pub mod Fronts
 pub mod Images
+pub mod Ranges
 pub mod Serving
 pub mod Steps
 pub mod Talking

@@ -11,7 +11,8 @@ pub record Answering (M : Type 0) : Type 1 where
   pub answers : M → List ℕ → List ℕ → M → Type 0
   pub rests : M → M → Type 0
 
-abbrev pub answering_of : {M : Type 0} → (M → List ℕ → List ℕ → M → Type 0) → (M → M → Type 0) → Answering M
+abbrev pub answering_of : {M : Type 0} → (M → List ℕ → List ℕ → M → Type 0) → (M → M → Type 0)
+    → Answering M
 answering_of answers rests = record { answers = answers; rests = rests }
 
 -- messages were answered one after another, each by one reply
@@ -20,7 +21,8 @@ AreAnswered r old [] [] new = new ≡ old
 AreAnswered r old [] (reply ∷ replies) new = ⊥
 AreAnswered r old (message ∷ messages) [] new = ⊥
 AreAnswered {M} r old (message ∷ messages) (reply ∷ replies) new =
-    (middle : M) × (after : M) × IsMessage message × r.answers old message reply middle × r.rests middle after
+    (middle : M) × (after : M) × IsMessage message × r.answers old message reply middle
+    × r.rests middle after
     × AreAnswered r after messages replies new
 
 -- of each reply a part from its front, or all of it
@@ -28,11 +30,13 @@ abbrev pub AreFronts : List (List ℕ) → List (List ℕ) → Type 0
 AreFronts [] [] = ⊤
 AreFronts [] (reply ∷ replies) = ⊥
 AreFronts (part ∷ parts) [] = ⊥
-AreFronts (part ∷ parts) (reply ∷ replies) = ((rest : List ℕ) × (part ++ rest ≡ reply)) × AreFronts parts replies
+AreFronts (part ∷ parts) (reply ∷ replies) =
+    ((rest : List ℕ) × (part ++ rest ≡ reply)) × AreFronts parts replies
 
 -- Replies were written in order, each whole where no write failed; where one did, a part of its reply may be written,
 -- and those behind it are written as the others.
-pub record AreSent (replies : List (List ℕ)) (is_whole : Bool) (start out : Option (List ℕ)) : Type 0 where
+pub record AreSent (replies : List (List ℕ)) (is_whole : Bool)
+    (start out : Option (List ℕ)) : Type 0 where
   pub parts : List (List ℕ)
   pub fronts : AreFronts parts replies
   pub whole : is_whole ≡ true → parts ≡ replies
@@ -40,7 +44,8 @@ pub record AreSent (replies : List (List ℕ)) (is_whole : Bool) (start out : Op
 
 -- The messages that stand one behind another at the front of bytes were answered, each once and in order, and their
 -- replies written; behind them are these bytes, at whose front no whole message stands.
-pub record HasAnswered {M : Type 0} (r : Answering M) (left_over : Frame) (old new : M) (bytes behind : List ℕ)
+pub record HasAnswered {M : Type 0} (r : Answering M) (left_over : Frame) (old new : M)
+    (bytes behind : List ℕ)
     (is_whole : Bool) (start out : Option (List ℕ)) : Type 0 where
   pub messages : List (List ℕ)
   pub replies : List (List ℕ)
@@ -50,7 +55,8 @@ pub record HasAnswered {M : Type 0} (r : Answering M) (left_over : Frame) (old n
   pub over : frame_of behind ≡ left_over
 
 -- the same of what was read
-pub record HasTalked {M : Type 0} (r : Answering M) (left_over : Frame) (old new : M) (is_whole : Bool)
+pub record HasTalked {M : Type 0} (r : Answering M) (left_over : Frame) (old new : M)
+    (is_whole : Bool)
     (known left start out : Option (List ℕ)) : Type 0 where
   pub bytes : List ℕ
   pub behind : List ℕ

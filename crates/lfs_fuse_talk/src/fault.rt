@@ -1,11 +1,11 @@
-//! Why a talk ends before its end.
+//! Why a talk ends before its end, or is none.
 
 use lfs_checking::fault::{CheckFault, VolumeFault};
 use lfs_types::fault::FormatFault;
 use std::alloc::AllocError;
 use thiserror::Error;
 
-/// Why a talk ends before its end.
+/// Why a talk ends before its end, or is none.
 #[derive(Clone, Copy, PartialEq, Eq, Debug, Error)]
 pub enum TalkFault {
     /// The volume can't be laid out so.
@@ -17,6 +17,12 @@ pub enum TalkFault {
     /// What the file of the image has is the image of no volume.
     #[error("image: {0}")]
     Image(VolumeFault),
+    /// The file of the journal was not made.
+    #[error("{0}")]
+    Open(OpenFault),
+    /// The file of the journal took no more, which was told by then.
+    #[error("journal not written")]
+    Journal,
     /// The image is not saved.
     #[error("image not saved")]
     Save,
@@ -31,14 +37,46 @@ pub enum TalkFault {
     Memory,
 }
 
+/// Why the file of the journal was not made.
+#[derive(Clone, Copy, PartialEq, Eq, Debug, Error)]
+pub enum OpenFault {
+    /// There is a file of this path, which is left as it is.
+    #[error("journal file exists")]
+    Exists,
+    /// No file of this path could be made.
+    #[error("journal file not made")]
+    Unmade,
+}
+
 impl From<AllocError> for TalkFault {
+    ghost use Rattle.std.specs.Prelude.{◌≡◌};
+    ghost use Rattle.lfs_fuse_talk.specs.declared.fault.TalkFault.TheVariants.{Memory};
+
+    ghost from_gives = { λ _ fault. fault ≡ Memory };
+
     fn from(_: AllocError) -> TalkFault {
         TalkFault::Memory
     }
 }
 
 impl From<FormatFault> for TalkFault {
+    ghost use Rattle.std.specs.Prelude.{◌≡◌};
+    ghost use Rattle.lfs_fuse_talk.specs.declared.fault.TalkFault.TheVariants.{Format};
+
+    ghost from_gives = { λ fault talk. talk ≡ Format fault };
+
     fn from(fault: FormatFault) -> TalkFault {
         TalkFault::Format(fault)
+    }
+}
+
+impl From<OpenFault> for TalkFault {
+    ghost use Rattle.std.specs.Prelude.{◌≡◌};
+    ghost use Rattle.lfs_fuse_talk.specs.declared.fault.TalkFault.TheVariants.{Open};
+
+    ghost from_gives = { λ fault talk. talk ≡ Open fault };
+
+    fn from(fault: OpenFault) -> TalkFault {
+        TalkFault::Open(fault)
     }
 }

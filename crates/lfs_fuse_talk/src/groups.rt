@@ -5,13 +5,16 @@ ghost use Rattle.std.specs.List.{list_any};
 ghost use Rattle.lfs_fuse_talk.specs.Serving.{are_wanted, calling};
 
 use lfs_fuse_wire::header::Header;
-use lfs_io::read::read_script;
 use std::alloc::{AllocError, Global};
 use std::fs::File;
+use std::io::Read;
 use std::rt::Files;
 
 /// The most groups beside the first.
 const MOST: usize = 15;
+
+/// As many bytes of a process's file are read. Where the line of its groups doesn't end in them, they are more than 15.
+const STATUS_BYTES: usize = 4_096;
 
 /// The messages that make calls, by their numbers in the protocol: LOOKUP, GETATTR, SETATTR, MKNOD to RENAME, OPEN to WRITE,
 /// FSYNC, OPENDIR, FSYNCDIR to CREATE, IOCTL, RENAME2.
@@ -33,11 +36,19 @@ pub(crate) fn are_wanted(header: &Header) -> bool
     header.uid != 0 && makes_calls(header.opcode)
 }
 
+/// The lines that end in some bytes.
+fn whole_lines(bytes: &[u8]) -> &[u8] {
+    match bytes.iter().rposition(|byte| *byte == b'\n') {
+        Some(end) => &bytes[..end],
+        None => &[],
+    }
+}
+
 /// What stands behind a word at the front of a line.
-fn field<'a>(text: &'a str, name: &str) -> Option<&'a str> {
-    for line in text.lines() {
+fn field<'a>(text: &'a [u8], name: &[u8]) -> Option<&'a str> {
+    for line in text.split(|byte| *byte == b'\n') {
         if let Some(rest) = line.strip_prefix(name) {
-            return Some(rest);
+            return str::from_utf8(rest).ok();
         }
     }
     None
@@ -55,25 +66,20 @@ fn numbers(alloc: Global, field: &str) -> Result<Option<Vec<u32>>, AllocError> {
     Ok(Some(numbers))
 }
 
-/// Whether the fourth number of a field, by which files are judged, is this one.
-fn is_judged_as(alloc: Global, text: &str, name: &str, number: u32) -> Result<bool, AllocError> {
-    let Some(field) = field(text, name) else {
-        return Ok(false);
-    };
-    match numbers(alloc, field)? {
-        Some(numbers) => Ok(numbers.as_slice().get(3) == Some(&number)),
-        None => Ok(false),
-    }
+/// The fourth number of a field, by which files are judged.
+fn judged_as(text: &[u8], name: &[u8]) -> Option<u32> {
+    let word = field(text, name)?.split_whitespace().nth(3)?;
+    word.parse::<u32>().ok()
 }
 
 /// The groups of a process but the first, by what its file says; none where it is another user's by now, or they are too many.
-fn others_in(alloc: Global, text: &str, header: &Header) -> Result<Option<Vec<u32>>, AllocError> {
-    if !is_judged_as(alloc, text, "Uid:", header.uid)?
-        || !is_judged_as(alloc, text, "Gid:", header.gid)?
+fn others_in(alloc: Global, text: &[u8], header: &Header) -> Result<Option<Vec<u32>>, AllocError> {
+    if judged_as(text, b"Uid:") != Some(header.uid)
+        || judged_as(text, b"Gid:") != Some(header.gid)
     {
         return Ok(None);
     }
-    let Some(field) = field(text, "Groups:") else {
+    let Some(field) = field(text, b"Groups:") else {
         return Ok(None);
     };
     let Some(mut groups) = numbers(alloc, field)? else {
@@ -88,7 +94,7 @@ fn others_in(alloc: Global, text: &str, header: &Header) -> Result<Option<Vec<u3
 }
 
 /// The groups of the process of a message but that of its header, at most 15, in its file beneath `/proc`; `None` where they
-/// can't be known.
+/// can't be known. The file is read once: the system gives all of it at once, or as many bytes as are asked for.
 pub(crate) fn others<S: Files>(
     alloc: Global,
     files: &S,
@@ -99,11 +105,9 @@ pub(crate) fn others<S: Files>(
     let Ok(mut file) = File::open(files, path.as_str()) else {
         return Ok(None);
     };
-    let Ok(bytes) = read_script(alloc, &mut file) else {
+    let mut buffer = [0; STATUS_BYTES];
+    let Ok(count) = file.read(&mut buffer) else {
         return Ok(None);
     };
-    match str::from_utf8(bytes.as_slice()) {
-        Ok(text) => others_in(alloc, text, header),
-        Err(_) => Ok(None),
-    }
+    others_in(alloc, whole_lines(&buffer[..count]), header)
 }

@@ -2,6 +2,7 @@
 #![tactic(auto)]
 
 pub mod fault;
+pub mod filing;
 mod groups;
 mod inbox;
 pub mod options;

@@ -1,14 +1,14 @@
 //! What the arguments of `lfs_fuse` ask for.
 
+ghost use Rattle.std.specs.Prelude.{IfOk};
+ghost use Rattle.lfs_fuse_talk.specs.Ranges.{IsBetween, IsInRange};
+
 use clap::builder::ValueParser;
 use clap::error::ErrorKind;
 use clap::{Arg, ArgAction, ArgMatches, Command, Error};
 use lfs_types::store::Params;
 use std::alloc::{AllocError, Global};
 use std::convert::AsStr;
-
-/// How many entries the journal has before they are let go.
-const JOURNAL: u32 = 4_096;
 
 /// An option that takes a number.
 #[derive(Clone, Copy)]
@@ -23,6 +23,8 @@ struct NumberOption {
     default: u32,
     /// What `--help` tells of it.
     help: &'static str,
+    /// What is told of a number that is not in its range.
+    refusal: &'static str,
 }
 
 const SEGMENTS: NumberOption = NumberOption {
@@ -31,6 +33,7 @@ const SEGMENTS: NumberOption = NumberOption {
     most: 1024,
     default: 1024,
     help: "How many segments of 32,768 bytes the log has, 6 to 1024; by default 1024",
+    refusal: "--segments takes a number from 6 to 1024",
 };
 
 const INODES: NumberOption = NumberOption {
@@ -39,6 +42,7 @@ const INODES: NumberOption = NumberOption {
     most: 4096,
     default: 4096,
     help: "How many inode numbers the volume has, 16 to 4096; by default 4096",
+    refusal: "--inodes takes a number from 16 to 4096",
 };
 
 const FRAMES: NumberOption = NumberOption {
@@ -47,10 +51,23 @@ const FRAMES: NumberOption = NumberOption {
     most: 1024,
     default: 1024,
     help: "How many blocks of 512 bytes the cache holds, 32 to 1024; by default 1024",
+    refusal: "--frames takes a number from 32 to 1024",
+};
+
+const JOURNAL: NumberOption = NumberOption {
+    name: "journal",
+    least: 512,
+    most: 100_000,
+    default: 4096,
+    help: "How many entries the journal may have in memory, 512 to 100000; by default 4096",
+    refusal: "--journal takes a number from 512 to 100000",
 };
 
 /// The name of the option for an image.
 const IMAGE: &str = "image";
+
+/// The name of the option for the file of the journal.
+const JOURNAL_OUT: &str = "journal-out";
 
 /// The name of the option for a recording.
 const RECORDED: &str = "recorded";
@@ -66,6 +83,8 @@ pub struct Options<'a> {
     pub params: Params,
     /// The file from which the volume is loaded, where there is one, and in which it is saved at the end.
     pub image: Option<&'a str>,
+    /// The file that is made for the journal's entries, where one is asked for.
+    pub journal_out: Option<&'a str>,
     /// Whether the messages are a recording, whose processes are gone.
     pub recorded: bool,
 }
@@ -75,20 +94,22 @@ pub struct Options<'a> {
 /// # Errors
 ///
 /// What the parser tells: for a word that is no option, a number out of its range, and help; or want of memory.
-pub fn options_of<'a, S: AsStr>(alloc: Global, words: &'a [S]) -> Result<Options<'a>, Error> {
+pub fn options_of<'a, S: AsStr>(alloc: Global, words: &'a [S]) -> Result<Options<'a>, Error>
+    ensures { IfOk result (λ options. IsInRange options.params) }
+{
     let mut command = command(alloc)?;
     let matches = command.try_get_matches_from_mut(words)?;
-    let params = Params {
-        segments: number(&matches, &SEGMENTS),
-        inodes: number(&matches, &INODES),
-        frames: number(&matches, &FRAMES),
-        journal: JOURNAL,
+    let params = match params_in(&matches) {
+        Ok(params) => params,
+        Err(refusal) => return Err(refused(alloc, refusal)),
     };
     let image = matches.get_str(IMAGE);
+    let journal_out = matches.get_str(JOURNAL_OUT);
     let recorded = matches.get_flag(RECORDED);
     Ok(Options {
         params,
         image,
+        journal_out,
         recorded,
     })
 }
@@ -99,22 +120,46 @@ pub fn options_of<'a, S: AsStr>(alloc: Global, words: &'a [S]) -> Result<Options
 ///
 /// It is itself one; or want of memory.
 pub fn not_utf8(alloc: Global) -> Error {
+    refused(alloc, "the arguments must be UTF-8")
+}
+
+/// The fault of arguments of which this is told; or want of memory.
+fn refused(alloc: Global, message: &str) -> Error {
     match command(alloc) {
-        Ok(mut command) => {
-            match command.error(ErrorKind::ValueValidation, "the arguments must be UTF-8") {
-                Ok(error) => error,
-                Err(error) => Error::from(error),
-            }
-        }
+        Ok(mut command) => match command.error(ErrorKind::ValueValidation, message) {
+            Ok(error) => error,
+            Err(error) => Error::from(error),
+        },
         Err(error) => Error::from(error),
     }
 }
 
-/// The number that the matches ask for by an option, and its default where it is not given.
-fn number(matches: &ArgMatches<'_>, option: &NumberOption) -> u32 {
+/// The parameters that the matches ask for, or what is told of the first that is refused.
+fn params_in(matches: &ArgMatches<'_>) -> Result<Params, &'static str>
+    ensures { IfOk result IsInRange }
+{
+    let segments = number(matches, &SEGMENTS)?;
+    let inodes = number(matches, &INODES)?;
+    let frames = number(matches, &FRAMES)?;
+    let journal = number(matches, &JOURNAL)?;
+    Ok(Params {
+        segments,
+        inodes,
+        frames,
+        journal,
+    })
+}
+
+/// The number that the matches ask for by an option, its default where it is not given, or what is told where it is refused.
+/// The parser has read it as a number in its range, which no clause of its says.
+fn number(matches: &ArgMatches<'_>, option: &NumberOption) -> Result<u32, &'static str>
+    requires { IsBetween option.now.least option.now.most option.now.default }
+    ensures { IfOk result (IsBetween option.now.least option.now.most) }
+{
     match matches.get_one::<u32>(option.name) {
-        Some(number) => number,
-        None => option.default,
+        None => Ok(option.default),
+        Some(number) if option.least <= number && number <= option.most => Ok(number),
+        Some(_) => Err(option.refusal),
     }
 }
 
@@ -126,6 +171,8 @@ fn command<'a>(alloc: Global) -> Result<Command<'a>, AllocError> {
         .arg(SEGMENTS.arg(alloc))?
         .arg(INODES.arg(alloc))?
         .arg(FRAMES.arg(alloc))?
+        .arg(JOURNAL.arg(alloc))?
+        .arg(journal_out(alloc))?
         .arg(image(alloc))?
         .arg(recorded(alloc))
 }
@@ -139,6 +186,15 @@ fn image<'a>(alloc: Global) -> Arg<'a> {
         .help(
             "Loads the volume from FILE where there is one, with its segments and numbers, and saves it there at the end",
         )
+}
+
+/// The option for the file of the journal.
+fn journal_out<'a>(alloc: Global) -> Arg<'a> {
+    Arg::new(alloc, JOURNAL_OUT)
+        .long(JOURNAL_OUT)
+        .value_name("FILE")
+        .action(ArgAction::Set)
+        .help("Writes each entry of the journal to FILE, which may not exist, before its reply")
 }
 
 /// The option for a recording.

@@ -2,8 +2,10 @@
 
 ghost use Rattle.std.specs.Prelude.{◌≡◌, IfOk};
 ghost use Rattle.std.specs.Option.{option_map};
-ghost use Rattle.lfs_fuse_talk.specs.Serving.{AreGroups, HasRested, IsServed, IsServedTo, are_wanted, held, server_of};
+ghost use Rattle.lfs_fuse_talk.specs.Filing.{is_open};
+ghost use Rattle.lfs_fuse_talk.specs.Serving.{Advances, AreGroups, HasRested, IsServed, IsServedTo, are_wanted, held, server_of};
 
+use crate::filing::{Ledger, told_or_lost};
 use crate::groups::are_wanted;
 use crate::outside::Outside;
 use crate::talk::Answerer;
@@ -14,27 +16,38 @@ use lfs_mount::mount::Mount;
 use lfs_types::cleaned::CleanedStore;
 use lfs_types::store::FileStore;
 use std::alloc::{AllocError, Global};
+use std::io::Write;
 
-/// A mount, and the world outside it.
+/// A mount, the world outside it, and where the entries of its journal go.
 #[derive(Drop)]
-pub struct Served<F: FileStore + Drop, P: Drop> {
+pub struct Served<F: FileStore + Drop, P: Drop, W: Write + Drop> {
     mount: Mount<F>,
     outside: P,
+    ledger: Ledger<W>,
     /// How many segments were clean before the last message.
     clean: u32,
 }
 
-impl<F: FileStore + Drop, P: Drop> Served<F, P> {
-    /// A mount, in this world.
-    pub fn new(mount: Mount<F>, outside: P) -> Served<F, P>
+impl<F: FileStore + Drop, P: Drop, W: Write + Drop> Served<F, P, W> {
+    /// A mount, in this world, whose entries go there.
+    pub fn new(mount: Mount<F>, outside: P, ledger: Ledger<W>) -> Served<F, P, W>
         ensures mount { result.mount ≡ mount }
         ensures outside { result.outside ≡ outside }
+        ensures ledger { result.ledger ≡ ledger }
     {
         Served {
             mount,
             outside,
+            ledger,
             clean: 0,
         }
+    }
+
+    /// Whether calls may be served: a file of the journal that is asked for takes more.
+    pub fn is_open(&self) -> bool
+        ensures { result ≡ is_open self.now.ledger.keeping }
+    {
+        self.ledger.is_open()
     }
 
     /// The mount.
@@ -51,8 +64,8 @@ fn groups_of<P: Outside>(
     alloc: Global,
     header: &Header,
 ) -> Result<Option<Vec<u32>>, AllocError>
-    ensures { IfOk result (λ found. AreGroups P.groups (are_wanted header.now) outside.old header.now
-        (option_map (λ others. others.items) found) outside.new) }
+    ensures { IfOk result (λ found. AreGroups P.groups (are_wanted header.now)
+        outside.old header.now (option_map (λ others. others.items) found) outside.new) }
 {
     if are_wanted(header) {
         outside.others(alloc, header)
@@ -61,7 +74,7 @@ fn groups_of<P: Outside>(
     }
 }
 
-impl<F: CleanedStore + Drop, P: Outside + Drop> Served<F, P> {
+impl<F: CleanedStore + Drop, P: Outside + Drop, W: Write + Drop> Served<F, P, W> {
     /// The reply to a message of this header.
     fn reply(
         &mut self,
@@ -69,8 +82,10 @@ impl<F: CleanedStore + Drop, P: Outside + Drop> Served<F, P> {
         header: &Header,
         message: &[u8],
     ) -> Result<Vec<u8>, AllocError>
-        ensures { IfOk result (λ reply. IsServedTo (server_of F.state F.is_settled P.time P.groups)
+        ensures served { IfOk result (λ reply. IsServedTo
+            (server_of F.state F.is_settled P.time P.groups)
             header.now (held self.old) message.now reply.items (held self.new)) }
+        ensures ledger { self.new.ledger ≡ self.old.ledger }
     {
         let mut out = Vec::new(alloc);
         let now = self.outside.now();
@@ -85,23 +100,33 @@ impl<F: CleanedStore + Drop, P: Outside + Drop> Served<F, P> {
     }
 }
 
-impl<F: CleanedStore + Drop, P: Outside + Drop> Answerer for Served<F, P> {
-    ghost answers = { λ old message reply new. IsServed (server_of F.state F.is_settled P.time P.groups)
-        (held old) message reply (held new) };
+impl<F: CleanedStore + Drop, P: Outside + Drop, W: Write + Drop> Answerer for Served<F, P, W> {
+    ghost answers = { λ old message reply new. Advances W.contents
+        (λ first from to. IsServed W.contents first
+        (server_of F.state F.is_settled P.time P.groups) from message reply to) old new };
 
-    ghost rests = { λ old new. HasRested F.state (held old) (held new) };
+    ghost rests = { λ old new. Advances W.contents
+        (λ first from to. HasRested W.contents first F.state from to) old new };
 
-    fn answer(&mut self, alloc: Global, message: &[u8]) -> Result<Vec<u8>, AllocError> {
+    ghost is_well = { λ served. is_open served.ledger.keeping };
+
+    fn answer<D: Write>(
+        &mut self,
+        alloc: Global,
+        message: &[u8],
+        teller: &mut D,
+    ) -> Result<Vec<u8>, AllocError> {
         let Some(header) = Header::decode(message) else {
             return Ok(Vec::new(alloc));
         };
         self.clean = self.mount.clean_segments();
-        self.reply(alloc, &header, message)
+        let reply = self.reply(alloc, &header, message)?;
+        let is_kept = self.ledger.give(alloc, &mut self.mount, teller);
+        told_or_lost(alloc, is_kept, header.unique, reply)
     }
 
-    fn rest(&mut self, alloc: Global) -> Result<(), AllocError> {
+    fn rest<D: Write>(&mut self, alloc: Global, teller: &mut D) -> Result<(), AllocError> {
         self.mount.tend(self.clean);
-        self.mount.make_room(alloc)?;
-        Ok(())
+        self.ledger.go_on(alloc, &mut self.mount, teller)
     }
 }

@@ -1,12 +1,12 @@
 //! Messages in, replies out: each is answered before the next is read.
 
-ghost use Rattle.std.specs.Prelude.{◌≡◌, ◌≤◌, ℕ, List, length, take, true, false, IfErr, IfOk, MatchOption, OnOk};
+ghost use Rattle.std.specs.Prelude.{◌≡◌, ◌≤◌, ◌⊎◌, ℕ, Bool, List, length, take, true, false, IfErr, IfOk, MatchOption, OnOk};
 ghost use Rattle.std.specs.Io.KnownBytes.{Appends, IsAtEnd, Keeps};
 ghost use Rattle.lfs_fuse_wire.specs.declared.framing.Frame.TheVariants.{Partial, Bad};
 ghost use Rattle.lfs_fuse_talk.specs.Talking.{AreSent, HasAnswered, HasTalked, answering_of};
 ghost use Rattle.lfs_fuse_talk.specs.Fronts.{IsMessage};
-ghost use Rattle.lfs_fuse_talk.specs.Steps.{IsAnswered, IsSent};
-ghost use Rattle.lfs_fuse_talk.specs.declared.fault.TalkFault.TheVariants.{Message};
+ghost use Rattle.lfs_fuse_talk.specs.Steps.{IsAnswered, IsSent, IsTalkFault};
+ghost use Rattle.lfs_fuse_talk.specs.declared.fault.TalkFault.TheVariants.{Memory, Message};
 
 use crate::fault::TalkFault;
 use crate::inbox::{First, Inbox, Reading, front};
@@ -19,14 +19,25 @@ pub trait Answerer {
     ghost answers: { Self → List ℕ → List ℕ → Self → Type 0 };
     /// What is done behind a message.
     ghost rests: { Self → Self → Type 0 };
+    /// Whether there was no fault by now that the talk outlives.
+    ghost is_well: { Self → Bool };
 
-    /// The reply to a message, without bytes where it has none.
-    fn answer(&mut self, alloc: Global, message: &[u8]) -> Result<Vec<u8>, AllocError>
-        ensures { IfOk result (λ reply. answers self.old message.now reply.items self.new) };
+    /// The reply to a message, without bytes where it has none. A fault that the talk outlives is told.
+    fn answer<D: Write>(
+        &mut self,
+        alloc: Global,
+        message: &[u8],
+        teller: &mut D,
+    ) -> Result<Vec<u8>, AllocError>
+        ensures answered { IfOk result (λ reply. answers self.old message.now reply.items self.new) }
+        ensures silent { OnOk result (is_well self.new ≡ true
+            → (is_well self.old ≡ true) × (teller.new ≡ teller.old)) };
 
-    /// Does what is to be done behind a message, whose reply is written.
-    fn rest(&mut self, alloc: Global) -> Result<(), AllocError>
-        ensures { OnOk result (rests self.old self.new) };
+    /// Does what is to be done behind a message, whose reply is written. A fault that the talk outlives is told.
+    fn rest<D: Write>(&mut self, alloc: Global, teller: &mut D) -> Result<(), AllocError>
+        ensures rested { OnOk result (rests self.old self.new) }
+        ensures silent { OnOk result (is_well self.new ≡ true
+            → (is_well self.old ≡ true) × (teller.new ≡ teller.old)) };
 }
 
 /// How a talk ended.
@@ -88,46 +99,55 @@ fn send<W: Write>(writer: &mut W, reply: &[u8]) -> bool
 }
 
 /// Answers one message. Whether its reply was written whole.
-fn answer<M: Answerer, W: Write>(
+fn answer<M: Answerer, W: Write, D: Write>(
     alloc: Global,
     answerer: &mut M,
     message: &[u8],
     writer: &mut W,
+    teller: &mut D,
 ) -> Result<bool, TalkFault>
     ensures answered { IfOk result (λ is_whole. IsAnswered (answering_of M.answers M.rests)
-        answerer.old answerer.new message.now is_whole (W.contents writer.old) (W.contents writer.new)) }
-    ensures fault { IfErr result (λ fault. fault ≡ Message → ⊥) }
+        answerer.old answerer.new message.now is_whole
+        (W.contents writer.old) (W.contents writer.new)) }
+    ensures silent { OnOk result (M.is_well answerer.new ≡ true
+        → (M.is_well answerer.old ≡ true) × (teller.new ≡ teller.old)) }
+    ensures fault { IfErr result (λ fault. fault ≡ Memory) }
 {
-    let Ok(reply) = answerer.answer(alloc, message) else {
+    let Ok(reply) = answerer.answer(alloc, message, teller) else {
         return Err(TalkFault::Memory);
     };
     let is_whole = send(writer, reply.as_slice());
-    match answerer.rest(alloc) {
+    match answerer.rest(alloc, teller) {
         Ok(()) => Ok(is_whole),
         Err(AllocError) => Err(TalkFault::Memory),
     }
 }
 
 /// Answers each whole message, and gives what is left behind them.
-fn answer_all<M: Answerer, W: Write>(
+fn answer_all<M: Answerer, W: Write, D: Write>(
     alloc: Global,
     answerer: &mut M,
     pending: &[u8],
     writer: &mut W,
+    teller: &mut D,
 ) -> Result<Answered, TalkFault>
     ensures answered { IfOk result (λ answered. HasAnswered (answering_of M.answers M.rests) Partial
         answerer.old answerer.new pending.now answered.behind.items answered.is_whole
         (W.contents writer.old) (W.contents writer.new)) }
+    ensures silent { OnOk result (M.is_well answerer.new ≡ true
+        → (M.is_well answerer.old ≡ true) × (teller.new ≡ teller.old)) }
     ensures bad { IfErr result (λ fault. fault ≡ Message → (behind : List ℕ)
         × HasAnswered (answering_of M.answers M.rests) Bad
-        answerer.old answerer.new pending.now behind false (W.contents writer.old) (W.contents writer.new)) }
+        answerer.old answerer.new pending.now behind false
+        (W.contents writer.old) (W.contents writer.new)) }
+    ensures fault { IfErr result IsTalkFault }
 {
     let mut rest = pending;
     let mut is_whole = true;
     loop {
         match front(rest) {
             First::Message(message, behind) => {
-                let is_sent = answer(alloc, answerer, message, writer)?;
+                let is_sent = answer(alloc, answerer, message, writer, teller)?;
                 rest = behind;
                 is_whole = is_whole & is_sent;
             }
@@ -147,19 +167,25 @@ fn answer_all<M: Answerer, W: Write>(
 /// # Errors
 ///
 /// `Message` where what is read is no message; `Memory` where a growth is refused.
-pub fn talk<M: Answerer, R: Read, W: Write>(
+pub fn talk<M: Answerer, R: Read, W: Write, D: Write>(
     alloc: Global,
     answerer: &mut M,
     reader: &mut R,
     writer: &mut W,
+    teller: &mut D,
 ) -> Result<Talked, TalkFault>
     ensures talked { IfOk result (λ talked. HasTalked (answering_of M.answers M.rests) Partial
-        answerer.old answerer.new talked.is_whole
-        (R.remaining reader.old) (R.remaining reader.new) (W.contents writer.old) (W.contents writer.new)) }
-    ensures end { IfOk result (λ talked. talked.is_at_end ≡ true → IsAtEnd (R.remaining reader.new)) }
-    ensures bad { IfErr result (λ fault. fault ≡ Message → HasTalked (answering_of M.answers M.rests) Bad
-        answerer.old answerer.new false
-        (R.remaining reader.old) (R.remaining reader.new) (W.contents writer.old) (W.contents writer.new)) }
+        answerer.old answerer.new talked.is_whole (R.remaining reader.old) (R.remaining reader.new)
+        (W.contents writer.old) (W.contents writer.new)) }
+    ensures silent { OnOk result (M.is_well answerer.new ≡ true
+        → (M.is_well answerer.old ≡ true) × (teller.new ≡ teller.old)) }
+    ensures end { IfOk result (λ talked. talked.is_at_end ≡ true
+        → IsAtEnd (R.remaining reader.new)) }
+    ensures bad { IfErr result (λ fault. fault ≡ Message
+        → HasTalked (answering_of M.answers M.rests) Bad
+        answerer.old answerer.new false (R.remaining reader.old) (R.remaining reader.new)
+        (W.contents writer.old) (W.contents writer.new)) }
+    ensures fault { IfErr result IsTalkFault }
 {
     let Ok(mut inbox) = Inbox::new(alloc) else {
         return Err(TalkFault::Memory);
@@ -171,7 +197,8 @@ pub fn talk<M: Answerer, R: Read, W: Write>(
         };
         match reading {
             Reading::Bytes => {
-                let answered = answer_all(alloc, answerer, inbox.pending.as_slice(), writer)?;
+                let pending = inbox.pending.as_slice();
+                let answered = answer_all(alloc, answerer, pending, writer, teller)?;
                 inbox.pending = answered.behind;
                 is_whole = is_whole & answered.is_whole;
             }

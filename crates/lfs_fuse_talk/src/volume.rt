@@ -1,12 +1,15 @@
 //! The volume of a mount: fresh, or that of an image's file, in which it is kept at the end.
 
-ghost use Rattle.std.specs.Prelude.{IfOk, IfSome, IsSome, OnOk};
+ghost use Rattle.std.specs.Prelude.{◌≡◌, ◌⊎◌, IfErr, IfOk, IfSome, IsSome, OnOk};
 ghost use Rattle.lfs_checking.specs.Files.{IsLoaded};
+ghost use Rattle.lfs_fuse_talk.specs.Ends.{IsUnbegun};
 ghost use Rattle.lfs_fuse_talk.specs.Images.{HasBegun, IsKept};
+ghost use Rattle.lfs_fuse_talk.specs.declared.options.Options.{Options};
+ghost use Rattle.lfs_fuse_talk.specs.declared.fault.TalkFault.TheVariants.{Memory, Save};
 
 use crate::fault::TalkFault;
 use crate::options::Options;
-use lfs_checking::fault::KeepFault;
+use lfs_checking::fault::{CheckFault, KeepFault};
 use lfs_checking::keeping::{load_file, save_file};
 use lfs_fuse_wire::attributes::Time;
 use lfs_logstore::LogStore;
@@ -31,7 +34,8 @@ pub(crate) fn mounted<S: Files>(
     options: &Options<'_>,
     now: Time,
 ) -> Result<Mount<LogStore>, TalkFault>
-    ensures { IfOk result (λ mount. HasBegun options.now mount.tree.volume) }
+    ensures begun { IfOk result (λ mount. HasBegun options.now mount.tree.volume) }
+    ensures fault { IfErr result (IsUnbegun options.now) }
 {
     let Some(path) = options.image else {
         return fresh(alloc, options, now);
@@ -39,13 +43,14 @@ pub(crate) fn mounted<S: Files>(
     match load_file(files, alloc, path, options.params.frames) {
         Ok(Some((store, level))) => over(alloc, store, level, options, now),
         Ok(None) => fresh(alloc, options, now),
-        Err(fault) => Err(fault_of(fault, options.params.frames)),
+        Err(fault) => Err(unloaded(fault, options.params.frames)),
     }
 }
 
 /// A mount of a fresh volume, whose root is made now.
 fn fresh(alloc: Global, options: &Options<'_>, now: Time) -> Result<Mount<LogStore>, TalkFault>
-    ensures { IfOk result (λ mount. HasBegun options.now mount.tree.volume) }
+    ensures begun { IfOk result (λ mount. HasBegun options.now mount.tree.volume) }
+    ensures fault { IfErr result (IsUnbegun options.now) }
 {
     let params = options.params;
     let store = LogStore::format(alloc, params)?;
@@ -67,7 +72,8 @@ fn over(
 ) -> Result<Mount<LogStore>, TalkFault>
     requires image { IsSome options.now.image }
     requires loaded { IsLoaded options.now.params.frames store level }
-    ensures { IfOk result (λ mount. HasBegun options.now mount.tree.volume) }
+    ensures begun { IfOk result (λ mount. HasBegun options.now mount.tree.volume) }
+    ensures fault { IfErr result (IsUnbegun options.now) }
 {
     let log = &store.parts().log;
     let sizes = Sizes {
@@ -78,15 +84,18 @@ fn over(
     Ok(Mount::new(alloc, volume, sizes, now)?)
 }
 
-/// Why a volume is not loaded with so many frames, or not kept.
-fn fault_of(fault: KeepFault, frames: u32) -> TalkFault {
+/// Why a volume is not loaded with so many frames.
+fn unloaded(fault: KeepFault, frames: u32) -> TalkFault
+    ensures { (options : Options) → IsSome options.image → IsUnbegun options result }
+{
     match fault {
         KeepFault::Read(fault) => TalkFault::Read(fault),
         KeepFault::Image(fault) => TalkFault::Image(fault),
-        KeepFault::Save => TalkFault::Save,
         KeepFault::Frames if frames < LEAST_FRAMES => TalkFault::Format(FormatFault::TooFew),
         KeepFault::Frames => TalkFault::Format(FormatFault::TooMany),
         KeepFault::Memory => TalkFault::Memory,
+        // No file is saved where one is loaded.
+        KeepFault::Save => TalkFault::Read(CheckFault::Open),
     }
 }
 
@@ -101,14 +110,18 @@ pub(crate) fn keep<S: Files>(
     mount: &mut Mount<LogStore>,
     options: &Options<'_>,
 ) -> Result<(), TalkFault>
-    ensures { OnOk result (IfSome options.now.image (λ _. IsKept S.File.contents mount.old.tree.volume)) }
+    ensures kept { OnOk result (IfSome options.now.image
+        (λ _. IsKept S.File.contents mount.old.tree.volume)) }
+    ensures fault { IfErr result (λ fault. (fault ≡ Memory)
+        ⊎ ((fault ≡ Save) × IsSome options.now.image)) }
 {
     let Some(path) = options.image else {
         return Ok(());
     };
     match save(files, alloc, mount, path) {
         Ok(()) => Ok(()),
-        Err(fault) => Err(fault_of(fault, options.params.frames)),
+        Err(KeepFault::Memory) => Err(TalkFault::Memory),
+        Err(_) => Err(TalkFault::Save),
     }
 }
 

@@ -1,6 +1,8 @@
 //! Messages and replies by hand, messages that are cut, and bytes of a generator.
 
+mod disk;
 mod framing;
+mod journal;
 mod messages;
 mod replies;
 

@@ -5,4 +5,5 @@ pub mod RoomLemmas
 pub mod SettleLemmas
 pub mod ShownLemmas
 pub mod StayLemmas
+pub mod TendingLemmas
 pub mod TreeLemmas

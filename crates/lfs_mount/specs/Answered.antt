@@ -39,24 +39,29 @@ live_in parts node = live_of (hang_in (known parts node)) (rows_in parts node)
 -- What comes of a message that comes now: its calls; the files that it changed, as what is told of it says, have the
 -- present time, all others keep theirs, and attributes are told with their times; and what is put down of files that
 -- are made with more than their mode.
-pub record IsToldDated {F : Type 0} (state : F → StoreState) (is_settled : F → Type 0) (sizes : Sizes) (now : Time)
+pub record IsToldDated {F : Type 0} (state : F → StoreState) (is_settled : F → Type 0)
+    (sizes : Sizes) (now : Time)
     (caller : Caller) (nodes : Parts) (node : ℕ) (message : Said) (reply : Told) (old new : Seen F)
     (before after : Beside) : Type 0 where
   pub told : Told
-  pub is : IsTold state is_settled sizes (due message before.loans.modes.items (live_in nodes node)) caller
+  pub is : IsTold state is_settled sizes (due message before.loans.modes.items (live_in nodes node))
+      caller
       (hangs_in nodes) node message told old new
-  pub times : after.times.stamps.items ≡ stamped now (rows_in nodes node) (rows_in nodes (other_node message))
+  pub times : after.times.stamps.items ≡ stamped now (rows_in nodes node)
+      (rows_in nodes (other_node message))
       (change_of message told) before.times.stamps.items
   pub loans : after.loans.modes.items ≡ noted message told before.loans.modes.items
   pub shown : reply ≡ dated after.times.stamps.items (with_handle message told)
 
 -- what comes of a message, or of bytes that are none: those are EINVAL, and no call is made; and whether a reply is
 -- wanted
-abbrev pub IsHeard : {F : Type 0} → (F → StoreState) → (F → Type 0) → Sizes → Time → Caller → Parts → ℕ → Option Said
+abbrev pub IsHeard : {F : Type 0} → (F → StoreState) → (F → Type 0) → Sizes → Time → Caller → Parts
+    → ℕ → Option Said
     → Told → Bool → Seen F → Seen F → Beside → Beside → Type 0
 IsHeard state is_settled sizes now caller nodes node None reply wanted old new before after =
     (reply ≡ Error EINVAL) × (wanted ≡ true) × (new ≡ old) × (after ≡ before)
-IsHeard state is_settled sizes now caller nodes node (Some message) reply wanted old new before after =
+IsHeard state is_settled sizes now caller nodes node
+    (Some message) reply wanted old new before after =
     IsToldDated state is_settled sizes now caller nodes node message reply old new before after
     × (wanted ≡ has_reply message)
 
@@ -67,8 +72,10 @@ replied false unique reply out = out
 
 -- One reply to the message of a header, with its own number, or none where none is wanted; its calls were made as the
 -- header's caller, with the other groups of the process.
-pub record IsReplied {F : Type 0} (state : F → StoreState) (is_settled : F → Type 0) (sizes : Sizes) (now : Time)
-    (nodes : Parts) (others : List ℕ) (header : Header) (message : Option Said) (out_before out_after : List ℕ)
+pub record IsReplied {F : Type 0} (state : F → StoreState) (is_settled : F → Type 0) (sizes : Sizes)
+    (now : Time)
+    (nodes : Parts) (others : List ℕ) (header : Header) (message : Option Said)
+    (out_before out_after : List ℕ)
     (old new : Seen F) (before after : Beside) : Type 0 where
   pub reply : Told
   pub wanted : Bool
@@ -77,14 +84,19 @@ pub record IsReplied {F : Type 0} (state : F → StoreState) (is_settled : F →
   pub written : out_after ≡ replied wanted header.unique reply out_before
 
 -- What comes of bytes: of those without a header nothing, else one reply or none.
-abbrev pub IsAnsweredOf : {F : Type 0} → (F → StoreState) → (F → Type 0) → Sizes → Time → Parts → List ℕ → Option Header
+abbrev pub IsAnsweredOf : {F : Type 0} → (F → StoreState) → (F → Type 0) → Sizes → Time → Parts
+    → List ℕ → Option Header
     → Option Said → List ℕ → List ℕ → Seen F → Seen F → Beside → Beside → Type 0
-IsAnsweredOf state is_settled sizes now nodes others None message out_before out_after old new before after =
+IsAnsweredOf state is_settled sizes now nodes others None message out_before out_after old new
+    before after =
     (out_after ≡ out_before) × (new ≡ old) × (after ≡ before)
-IsAnsweredOf state is_settled sizes now nodes others (Some header) message out_before out_after old new before after =
-    IsReplied state is_settled sizes now nodes others header message out_before out_after old new before after
+IsAnsweredOf state is_settled sizes now nodes others
+    (Some header) message out_before out_after old new before after =
+    IsReplied state is_settled sizes now nodes others header message out_before out_after old new
+    before after
 
-abbrev pub IsAnswered : {F : Type 0} → (F → StoreState) → (F → Type 0) → Sizes → Time → Parts → List ℕ → List ℕ → List ℕ
+abbrev pub IsAnswered : {F : Type 0} → (F → StoreState) → (F → Type 0) → Sizes → Time → Parts
+    → List ℕ → List ℕ → List ℕ
     → List ℕ → Seen F → Seen F → Beside → Beside → Type 0
 IsAnswered state is_settled sizes now nodes others bytes out_before out_after old new before after =
     IsAnsweredOf state is_settled sizes now nodes others (header_in bytes)

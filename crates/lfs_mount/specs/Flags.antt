@@ -22,7 +22,8 @@ flags_shown flags immutable append nodump =
 
 -- the user's flags that FS_IOC_SETFLAGS asks for
 abbrev pub user_flags : ℕ → ℕ
-user_flags bits = number_if (has bits 0x40) 1 + number_if (has bits 0x10) 2 + number_if (has bits 0x20) 4
+user_flags bits =
+    number_if (has bits 0x40) 1 + number_if (has bits 0x10) 2 + number_if (has bits 0x20) 4
 
 -- with those in place of the user's flags that there are
 abbrev pub flags_wanted : ℕ → ℕ → ℕ

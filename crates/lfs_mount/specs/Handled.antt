@@ -55,16 +55,20 @@ IsError (told.Error error) = ⊤
 IsError reply = ⊥
 
 -- The calls that a message asks for were made, of a path that leads to its node, or to the name that it tells there.
-pub record AreAskedAndMade {F : Type 0} (state : F → StoreState) (is_settled : F → Type 0) (caller : Caller) (hangs : ℕ
-    → Option Hang) (node : ℕ) (message : Said) (answers : List Answer) (old new : Seen F) : Type 0 where
+pub record AreAskedAndMade {F : Type 0} (state : F → StoreState) (is_settled : F → Type 0)
+    (caller : Caller)
+    (hangs : ℕ → Option Hang) (node : ℕ) (message : Said) (answers : List Answer)
+    (old new : Seen F) : Type 0 where
   pub path : List (List ℕ)
   pub leads : IsPathOf hangs node (named_in message) path
   pub made : AreMade state is_settled caller (asked message path) answers old new
 
 -- A message was handled: the calls that it asks for were made as this caller, and the reply says what their answers
 -- say.
-pub record IsCalled {F : Type 0} (state : F → StoreState) (is_settled : F → Type 0) (caller : Caller) (hangs : ℕ
-    → Option Hang) (node : ℕ) (message : Said) (reply : Told) (old new : Seen F) : Type 0 where
+pub record IsCalled {F : Type 0} (state : F → StoreState) (is_settled : F → Type 0)
+    (caller : Caller)
+    (hangs : ℕ → Option Hang) (node : ℕ) (message : Said) (reply : Told)
+    (old new : Seen F) : Type 0 where
   pub answers : List Answer
   pub made : AreAskedAndMade state is_settled caller hangs node message answers old new
   pub says : Says caller message answers reply
@@ -74,7 +78,8 @@ pub record IsRefused {F : Type 0} (reply : Told) (old new : Seen F) : Type 0 whe
   pub error : IsError reply
   pub none : new ≡ old
 
-abbrev pub IsHandled : {F : Type 0} → (F → StoreState) → (F → Type 0) → Caller → (ℕ → Option Hang) → ℕ → Said → Told
+abbrev pub IsHandled : {F : Type 0} → (F → StoreState) → (F → Type 0) → Caller → (ℕ → Option Hang)
+    → ℕ → Said → Told
     → Seen F → Seen F → Type 0
 IsHandled state is_settled caller hangs node message reply old new =
     IsCalled state is_settled caller hangs node message reply old new ⊎ IsRefused reply old new
@@ -84,24 +89,28 @@ abbrev pub SaysDone : Told → List Answer → Type 0
 SaysDone reply given = SaysOr (refusal_in given) (reply ≡ told.Done) reply
 
 -- One call was made as this caller, and the reply says what its answer says.
-pub record IsCalledOnce {F : Type 0} (state : F → StoreState) (is_settled : F → Type 0) (caller : Caller)
+pub record IsCalledOnce {F : Type 0} (state : F → StoreState) (is_settled : F → Type 0)
+    (caller : Caller)
     (request : Request) (Tells : List Answer → Type 0) (old new : Seen F) : Type 0 where
   pub answers : List Answer
   pub made : AreMade state is_settled caller (request ∷ []) answers old new
   pub says : Tells answers
 
 -- one call that shows nothing was made, or none
-abbrev pub IsDone : {F : Type 0} → (F → StoreState) → (F → Type 0) → Caller → Request → Told → Seen F → Seen F → Type 0
+abbrev pub IsDone : {F : Type 0} → (F → StoreState) → (F → Type 0) → Caller → Request → Told
+    → Seen F → Seen F → Type 0
 IsDone state is_settled caller request reply old new =
     IsCalledOnce state is_settled caller request (SaysDone reply) old new ⊎ IsRefused reply old new
 
 -- what waits was written, or no call was made
-abbrev pub IsSynced : {F : Type 0} → (F → StoreState) → (F → Type 0) → Caller → Told → Seen F → Seen F → Type 0
+abbrev pub IsSynced : {F : Type 0} → (F → StoreState) → (F → Type 0) → Caller → Told → Seen F
+    → Seen F → Type 0
 IsSynced state is_settled caller reply old new = IsDone state is_settled caller Sync reply old new
 
 -- A Rename was made, between paths that lead to a name in a node and to a name in another.
-pub record IsMoved {F : Type 0} (state : F → StoreState) (is_settled : F → Type 0) (caller : Caller) (hangs : ℕ
-    → Option Hang) (node : ℕ) (name : List ℕ) (directory : ℕ) (new_name : List ℕ) (reply : Told)
+pub record IsMoved {F : Type 0} (state : F → StoreState) (is_settled : F → Type 0) (caller : Caller)
+    (hangs : ℕ → Option Hang) (node : ℕ) (name : List ℕ) (directory : ℕ) (new_name : List ℕ)
+    (reply : Told)
     (old new : Seen F) : Type 0 where
   pub from : List (List ℕ)
   pub to : List (List ℕ)
@@ -110,14 +119,17 @@ pub record IsMoved {F : Type 0} (state : F → StoreState) (is_settled : F → T
   pub made : IsDone state is_settled caller (Rename from to) reply old new
 
 -- the same, or no call was made
-abbrev pub IsRenamed : {F : Type 0} → (F → StoreState) → (F → Type 0) → Caller → (ℕ → Option Hang) → ℕ → List ℕ → ℕ
+abbrev pub IsRenamed : {F : Type 0} → (F → StoreState) → (F → Type 0) → Caller → (ℕ → Option Hang)
+    → ℕ → List ℕ → ℕ
     → List ℕ → Told → Seen F → Seen F → Type 0
 IsRenamed state is_settled caller hangs node name directory new_name reply old new =
-    IsMoved state is_settled caller hangs node name directory new_name reply old new ⊎ IsRefused reply old new
+    IsMoved state is_settled caller hangs node name directory new_name reply old new
+    ⊎ IsRefused reply old new
 
 -- attributes were set that were these before, and are shown
-pub record AreSet {F : Type 0} (state : F → StoreState) (is_settled : F → Type 0) (caller : Caller) (hangs : ℕ
-    → Option Hang) (node : ℕ) (fields : SetAttr) (present : Attrs) (reply : Told) (old new : Seen F) : Type 0 where
+pub record AreSet {F : Type 0} (state : F → StoreState) (is_settled : F → Type 0) (caller : Caller)
+    (hangs : ℕ → Option Hang) (node : ℕ) (fields : SetAttr) (present : Attrs) (reply : Told)
+    (old new : Seen F) : Type 0 where
   pub path : List (List ℕ)
   pub leads : IsPathOf hangs node None path
   pub answers : List Answer
@@ -125,7 +137,8 @@ pub record AreSet {F : Type 0} (state : F → StoreState) (is_settled : F → Ty
   pub says : SaysOr (refusal_in answers) (reply ≡ attr_told (seen_in answers)) reply
 
 -- the same, or no further call was made
-abbrev pub IsSet : {F : Type 0} → (F → StoreState) → (F → Type 0) → Caller → (ℕ → Option Hang) → ℕ → SetAttr → Told
+abbrev pub IsSet : {F : Type 0} → (F → StoreState) → (F → Type 0) → Caller → (ℕ → Option Hang) → ℕ
+    → SetAttr → Told
     → Seen F → Seen F → Attrs → Type 0
 IsSet state is_settled caller hangs node fields reply old new present =
     AreSet state is_settled caller hangs node fields present reply old new ⊎ IsRefused reply old new
@@ -136,7 +149,8 @@ Unless (Some error) reply Stays Goes = (reply ≡ told.Error error) × Stays
 Unless None reply Stays Goes = Goes
 
 -- attributes that were these before were set where the caller may set the times that are set with them, and else none
-abbrev pub IsSetJudged : {F : Type 0} → (F → StoreState) → (F → Type 0) → Caller → (ℕ → Option Hang) → ℕ → SetAttr
+abbrev pub IsSetJudged : {F : Type 0} → (F → StoreState) → (F → Type 0) → Caller → (ℕ → Option Hang)
+    → ℕ → SetAttr
     → Told → Seen F → Seen F → Attrs → Type 0
 IsSetJudged state is_settled caller hangs node fields reply old new present =
     Unless (dating_refusal caller fields present) reply (new ≡ old)
@@ -149,8 +163,10 @@ Behind None None reply Stays Goes = (reply ≡ told.Error errno.EIO) × Stays
 Behind None (Some seen) reply Stays Goes = Goes seen.attrs
 
 -- A node was looked at first, as this caller, and then what is asked for was done.
-pub record IsLookedAt {F : Type 0} (state : F → StoreState) (is_settled : F → Type 0) (caller : Caller) (hangs : ℕ
-    → Option Hang) (node : ℕ) (message : Said) (reply : Told) (old new : Seen F) (Goes : Seen F → Attrs
+pub record IsLookedAt {F : Type 0} (state : F → StoreState) (is_settled : F → Type 0)
+    (caller : Caller)
+    (hangs : ℕ → Option Hang) (node : ℕ) (message : Said) (reply : Told) (old new : Seen F)
+    (Goes : Seen F → Attrs
     → Type 0) : Type 0 where
   pub answers : List Answer
   pub between : Seen F
@@ -158,11 +174,13 @@ pub record IsLookedAt {F : Type 0} (state : F → StoreState) (is_settled : F �
   pub behind : Behind (refusal_in answers) (seen_in answers) reply (new ≡ between) (Goes between)
 
 -- attributes were set, or no call was made
-abbrev pub IsSetAttr : {F : Type 0} → (F → StoreState) → (F → Type 0) → Caller → (ℕ → Option Hang) → ℕ → SetAttr → Told
+abbrev pub IsSetAttr : {F : Type 0} → (F → StoreState) → (F → Type 0) → Caller → (ℕ → Option Hang)
+    → ℕ → SetAttr → Told
     → Seen F → Seen F → Type 0
 IsSetAttr state is_settled caller hangs node fields reply old new =
     IsLookedAt state is_settled caller hangs node (setattr fields) reply old new
-    (λ between present. IsSetJudged state is_settled caller hangs node fields reply between new present)
+    (λ between present. IsSetJudged state is_settled caller hangs node fields reply between new
+    present)
     ⊎ IsRefused reply old new
 
 -- ---- a Rename to a name that must be free
@@ -182,8 +200,10 @@ BehindFree None reply Stays Goes = (reply ≡ told.Error errno.EEXIST) × Stays
 BehindFree (Some error) reply Stays Goes = BehindMissing (is_missing error) error reply Stays Goes
 
 -- The new name was looked for, as this caller, and the Rename made where it is missing.
-pub record IsSought {F : Type 0} (state : F → StoreState) (is_settled : F → Type 0) (caller : Caller) (hangs : ℕ
-    → Option Hang) (node : ℕ) (name : List ℕ) (directory : ℕ) (new_name : List ℕ) (reply : Told)
+pub record IsSought {F : Type 0} (state : F → StoreState) (is_settled : F → Type 0)
+    (caller : Caller)
+    (hangs : ℕ → Option Hang) (node : ℕ) (name : List ℕ) (directory : ℕ) (new_name : List ℕ)
+    (reply : Told)
     (old new : Seen F) : Type 0 where
   pub to : List (List ℕ)
   pub leads_to : IsPathOf hangs directory (Some new_name) to
@@ -193,10 +213,12 @@ pub record IsSought {F : Type 0} (state : F → StoreState) (is_settled : F → 
   pub behind : BehindFree (refusal_in answers) reply (new ≡ between)
       (IsRenamed state is_settled caller hangs node name directory new_name reply between new)
 
-abbrev pub IsRenamedToFree : {F : Type 0} → (F → StoreState) → (F → Type 0) → Caller → (ℕ → Option Hang) → ℕ → List ℕ
+abbrev pub IsRenamedToFree : {F : Type 0} → (F → StoreState) → (F → Type 0) → Caller
+    → (ℕ → Option Hang) → ℕ → List ℕ
     → ℕ → List ℕ → Told → Seen F → Seen F → Type 0
 IsRenamedToFree state is_settled caller hangs node name directory new_name reply old new =
-    IsSought state is_settled caller hangs node name directory new_name reply old new ⊎ IsRefused reply old new
+    IsSought state is_settled caller hangs node name directory new_name reply old new
+    ⊎ IsRefused reply old new
 
 -- ---- control calls
 
@@ -204,19 +226,25 @@ abbrev pub SaysFlagged : Told → List Answer → Type 0
 SaysFlagged reply given = SaysOr (refusal_in given) (reply ≡ told.Ioctl) reply
 
 -- the flags of a node were set, of which it had these at present
-pub record AreFlagsSet {F : Type 0} (state : F → StoreState) (is_settled : F → Type 0) (caller : Caller) (hangs : ℕ
-    → Option Hang) (node bits : ℕ) (present : ℕ) (reply : Told) (old new : Seen F) : Type 0 where
+pub record AreFlagsSet {F : Type 0} (state : F → StoreState) (is_settled : F → Type 0)
+    (caller : Caller)
+    (hangs : ℕ → Option Hang) (node bits : ℕ) (present : ℕ) (reply : Told)
+    (old new : Seen F) : Type 0 where
   pub path : List (List ℕ)
   pub leads : IsPathOf hangs node None path
-  pub made : IsCalledOnce state is_settled caller (Chflags path (flags_wanted present bits)) (SaysFlagged reply) old new
+  pub made : IsCalledOnce state is_settled caller (Chflags path (flags_wanted present bits))
+      (SaysFlagged reply) old new
 
-abbrev pub IsFlagsSet : {F : Type 0} → (F → StoreState) → (F → Type 0) → Caller → (ℕ → Option Hang) → ℕ → ℕ → Told
+abbrev pub IsFlagsSet : {F : Type 0} → (F → StoreState) → (F → Type 0) → Caller → (ℕ → Option Hang)
+    → ℕ → ℕ → Told
     → Seen F → Seen F → ℕ → Type 0
 IsFlagsSet state is_settled caller hangs node bits reply old new present =
-    AreFlagsSet state is_settled caller hangs node bits present reply old new ⊎ IsRefused reply old new
+    AreFlagsSet state is_settled caller hangs node bits present reply old new
+    ⊎ IsRefused reply old new
 
 -- what a control call does, of a node that has these flags
-abbrev pub GoesOnFlags : {F : Type 0} → (F → StoreState) → (F → Type 0) → Caller → (ℕ → Option Hang) → ℕ → Command
+abbrev pub GoesOnFlags : {F : Type 0} → (F → StoreState) → (F → Type 0) → Caller → (ℕ → Option Hang)
+    → ℕ → Command
     → Told → Seen F → Seen F → ℕ → Type 0
 GoesOnFlags state is_settled caller hangs node command.GetFlags reply old new present =
     (reply ≡ told.Flags (flags_shown present 0x10 0x20 0x40)) × (new ≡ old)
@@ -227,31 +255,36 @@ GoesOnFlags state is_settled caller hangs node (command.SetFlags bits) reply old
 GoesOnFlags state is_settled caller hangs node (command.Other number) reply old new present =
     (reply ≡ told.Error errno.ENOTTY) × (new ≡ old)
 
-abbrev pub IsFlagged : {F : Type 0} → (F → StoreState) → (F → Type 0) → Caller → (ℕ → Option Hang) → ℕ → Ioctl → Told
+abbrev pub IsFlagged : {F : Type 0} → (F → StoreState) → (F → Type 0) → Caller → (ℕ → Option Hang)
+    → ℕ → Ioctl → Told
     → Seen F → Seen F → Type 0
 IsFlagged state is_settled caller hangs node fields reply old new =
     IsLookedAt state is_settled caller hangs node (ioctl fields) reply old new
-    (λ between present. GoesOnFlags state is_settled caller hangs node fields.command reply between new present.flags)
+    (λ between present. GoesOnFlags state is_settled caller hangs node fields.command reply between
+    new present.flags)
     ⊎ IsRefused reply old new
 
 -- ---- a file that is closed
 
 -- A mode was given to a node's file, as this caller.
-pub record IsGiven {F : Type 0} (state : F → StoreState) (is_settled : F → Type 0) (caller : Caller) (hangs : ℕ
-    → Option Hang) (node mode : ℕ) (old new : Seen F) : Type 0 where
+pub record IsGiven {F : Type 0} (state : F → StoreState) (is_settled : F → Type 0) (caller : Caller)
+    (hangs : ℕ → Option Hang) (node mode : ℕ) (old new : Seen F) : Type 0 where
   pub path : List (List ℕ)
   pub leads : IsPathOf hangs node None path
   pub answers : List Answer
   pub made : AreMade state is_settled caller (Chmod path mode ∷ []) answers old new
 
 -- the same, or no call was made
-abbrev pub IsGivenOrNot : {F : Type 0} → (F → StoreState) → (F → Type 0) → Caller → (ℕ → Option Hang) → ℕ → ℕ → Seen F
+abbrev pub IsGivenOrNot : {F : Type 0} → (F → StoreState) → (F → Type 0) → Caller
+    → (ℕ → Option Hang) → ℕ → ℕ → Seen F
     → Seen F → Type 0
-IsGivenOrNot state is_settled caller hangs node mode old new = IsGiven state is_settled caller hangs node mode old new
+IsGivenOrNot state is_settled caller hangs node mode old new =
+    IsGiven state is_settled caller hangs node mode old new
     ⊎ (new ≡ old)
 
 -- the mode that is due was given, if there is one
-abbrev pub IsReleased : {F : Type 0} → (F → StoreState) → (F → Type 0) → Caller → (ℕ → Option Hang) → ℕ → Option ℕ
+abbrev pub IsReleased : {F : Type 0} → (F → StoreState) → (F → Type 0) → Caller → (ℕ → Option Hang)
+    → ℕ → Option ℕ
     → Told → Seen F → Seen F → Type 0
 IsReleased state is_settled caller hangs node None reply old new = (reply ≡ told.Done) × (new ≡ old)
 IsReleased state is_settled caller hangs node (Some mode) reply old new =
@@ -260,7 +293,8 @@ IsReleased state is_settled caller hangs node (Some mode) reply old new =
 -- ---- any message
 
 -- no call is made
-pub record IsIdle {F : Type 0} (Tells : Told → Type 0) (reply : Told) (old new : Seen F) : Type 0 where
+pub record IsIdle {F : Type 0} (Tells : Told → Type 0) (reply : Told)
+    (old new : Seen F) : Type 0 where
   pub tells : Tells reply
   pub none : new ≡ old
 
@@ -294,7 +328,8 @@ IsRename mode.Other Replaces Seeks reply old new = IsIdle (IsFault errno.EINVAL)
 
 -- What comes of a message to a node: which calls it makes, as this caller and no other, and what their answers have it
 -- told.
-abbrev pub IsTold : {F : Type 0} → (F → StoreState) → (F → Type 0) → Sizes → Option ℕ → Caller → (ℕ → Option Hang) → ℕ
+abbrev pub IsTold : {F : Type 0} → (F → StoreState) → (F → Type 0) → Sizes → Option ℕ → Caller
+    → (ℕ → Option Hang) → ℕ
     → Said → Told → Seen F → Seen F → Type 0
 IsTold state is_settled sizes due caller hangs node (lookup name) reply old new =
     IsHandled state is_settled caller hangs node (lookup name) reply old new
@@ -303,7 +338,8 @@ IsTold state is_settled sizes due caller hangs node (getattr fields) reply old n
 IsTold state is_settled sizes due caller hangs node (access wanted) reply old new =
     IsHandled state is_settled caller hangs node (access wanted) reply old new
 IsTold state is_settled sizes due caller hangs node (mknod fields name) reply old new =
-    IsMade fields.kind (IsHandled state is_settled caller hangs node (mknod fields name) reply old new) reply old new
+    IsMade fields.kind (IsHandled state is_settled caller hangs node
+    (mknod fields name) reply old new) reply old new
 IsTold state is_settled sizes due caller hangs node (mkdir fields name) reply old new =
     IsHandled state is_settled caller hangs node (mkdir fields name) reply old new
 IsTold state is_settled sizes due caller hangs node (create fields name) reply old new =
@@ -325,16 +361,20 @@ IsTold state is_settled sizes due caller hangs node (setattr fields) reply old n
 IsTold state is_settled sizes due caller hangs node (ioctl fields) reply old new =
     IsFlagged state is_settled caller hangs node fields reply old new
 IsTold state is_settled sizes due caller hangs node (rename fields name new_name) reply old new =
-    IsRename fields.mode (IsRenamed state is_settled caller hangs node name fields.directory new_name reply old new)
-    (IsRenamedToFree state is_settled caller hangs node name fields.directory new_name reply old new) reply old new
+    IsRename fields.mode (IsRenamed state is_settled caller hangs node name fields.directory
+    new_name reply old new)
+    (IsRenamedToFree state is_settled caller hangs node name fields.directory new_name reply old
+    new) reply old new
 IsTold state is_settled sizes due caller hangs node (fsync fields) reply old new =
     IsSynced state is_settled caller reply old new
 IsTold state is_settled sizes due caller hangs node (fsyncdir fields) reply old new =
     IsSynced state is_settled caller reply old new
-IsTold state is_settled sizes due caller hangs node (init fields) reply old new = IsIdle IsOpening reply old new
+IsTold state is_settled sizes due caller hangs node (init fields) reply old new =
+    IsIdle IsOpening reply old new
 IsTold state is_settled sizes due caller hangs node statfs reply old new =
     IsIdle (IsRoom sizes (state old.store)) reply old new
-IsTold state is_settled sizes due caller hangs node (readdir fields) reply old new = IsIdle (λ _. ⊤) reply old new
+IsTold state is_settled sizes due caller hangs node (readdir fields) reply old new =
+    IsIdle (λ _. ⊤) reply old new
 IsTold state is_settled sizes due caller hangs node (readdirplus fields) reply old new =
     IsIdle (IsFault errno.ENOSYS) reply old new
 IsTold state is_settled sizes due caller hangs node (unserved kind) reply old new =
@@ -343,4 +383,5 @@ IsTold state is_settled sizes due caller hangs node (unknown number) reply old n
     IsIdle (IsFault errno.ENOSYS) reply old new
 IsTold state is_settled sizes due caller hangs node (release fields) reply old new =
     IsReleased state is_settled caller hangs node due reply old new
-IsTold state is_settled sizes due caller hangs node message reply old new = IsIdle (λ it. it ≡ told.Done) reply old new
+IsTold state is_settled sizes due caller hangs node message reply old new =
+    IsIdle (λ it. it ≡ told.Done) reply old new

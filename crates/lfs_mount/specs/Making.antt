@@ -45,8 +45,10 @@ pub record AreMade {F : Type 0} (state : F → StoreState) (is_settled : F → T
   pub each : Since (state old.since) old.since_level
       (λ from. AreAnswers state is_settled old.limit from old.journal old.store
       (calls_as caller (take (length answers) requests)) answers new.store)
-  pub entered : new.journal ≡ old.journal ++ kept (calls_as caller (take (length answers) requests)) answers
-  pub within : OnAny answers (Since (state old.since) old.since_level (λ from. length new.journal ≤ new.limit))
+  pub entered : new.journal ≡ old.journal ++ kept (calls_as caller (take (length answers) requests))
+      answers
+  pub within : OnAny answers (Since (state old.since) old.since_level
+      (λ from. length new.journal ≤ new.limit))
   pub up_to : GoUpTo requests answers
   pub since : new.since ≡ old.since
   pub since_level : new.since_level ≡ old.since_level

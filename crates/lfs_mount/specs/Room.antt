@@ -39,7 +39,8 @@ used_below content (suc n) = plus (used_below content n) (one_used (shown_attrs 
 -- last two segments. Of the numbers the root has one, and files those from 4 up.
 abbrev pub room_of : Sizes → StoreState → Statfs
 room_of sizes state =
-    let free = max (state.clean * 64) (sizes.segments * 64 - taken_below state.content sizes.inodes) in
+    let taken = taken_below state.content sizes.inodes in
+    let free = max (state.clean * 64) (sizes.segments * 64 - taken) in
     record {
       blocks = sizes.segments * 64;
       free_blocks = free;

@@ -30,12 +30,15 @@ StayTrue state old before new after = AreTrue state old before → AreTrue state
 -- The journal of a volume is a legal run to the tree that store and level show: what `Volume::journal` says.
 abbrev pub IsRun : {F : Type 0} → (F → StoreState) → Seen F → Type 0
 IsRun state v =
-    Since (state v.since) v.since_level (λ from. IsJournal from (state v.store) v.level v.journal v.limit)
+    Since (state v.since) v.since_level (λ from. IsJournal from
+    (state v.store) v.level v.journal v.limit)
 
 -- The calls that a message asks for were made, of a path that leads to its node's row, or to the name that it tells
 -- there, in each tree that nodes are true of.
-pub record AreLedAndMade {F : Type 0} (state : F → StoreState) (is_settled : F → Type 0) (caller : Caller)
-    (nodes : Parts) (node : ℕ) (message : Said) (answers : List Answer) (old new : Seen F) : Type 0 where
+pub record AreLedAndMade {F : Type 0} (state : F → StoreState) (is_settled : F → Type 0)
+    (caller : Caller)
+    (nodes : Parts) (node : ℕ) (message : Said) (answers : List Answer)
+    (old new : Seen F) : Type 0 where
   pub path : List (List ℕ)
   pub leads : LeadsToRow (known nodes) node (named_in message) path
   pub made : AreMade state is_settled caller (asked message path) answers old new
@@ -45,29 +48,38 @@ pub record AreLedAndMade {F : Type 0} (state : F → StoreState) (is_settled : F
 -- nodes stay true of each tree in which a name, if one is told, leads from the row of a directory to what was seen
 abbrev pub FindsRow : Option (List ℕ) → Option Stat → ℕ → Parts → Parts → Type 0
 FindsRow name seen directory before after =
-    (rows : Rows) (p : ℕ) → IsTree rows → AreNodes rows (known before) → live_row (known before directory) ≡ Some p
-    → IfSome name (λ name. IfSome seen (λ seen. IsChild rows p name seen.number)) → AreNodes rows (known after)
+    (rows : Rows) (p : ℕ) → IsTree rows → AreNodes rows (known before)
+    → live_row (known before directory) ≡ Some p
+    → IfSome name (λ name. IfSome seen (λ seen. IsChild rows p name seen.number))
+    → AreNodes rows (known after)
 
 -- nodes are true of each tree, in which they were, without the row of a name in a directory
 abbrev pub LosesRow : Option (List ℕ) → ℕ → Parts → Parts → Type 0
 LosesRow name directory before after =
-    (rows : Rows) (p n : ℕ) → IsTree rows → AreNodes rows (known before) → live_row (known before directory) ≡ Some p
-    → IsSomeAnd name (λ name. IsChild rows p name n) → children rows n ≡ [] → AreNodes (map.remove rows n) (known after)
+    (rows : Rows) (p n : ℕ) → IsTree rows → AreNodes rows (known before)
+    → live_row (known before directory) ≡ Some p
+    → IsSomeAnd name (λ name. IsChild rows p name n) → children rows n ≡ []
+    → AreNodes (map.remove rows n) (known after)
 
 -- nodes are true of each tree, in which they were, with the row of a name in a directory at another place
 abbrev pub MovesRow : ℕ → List ℕ → ℕ → List ℕ → Parts → Parts → Type 0
 MovesRow from name to new_name before after =
-    (w : World) (p t n : ℕ) → IsTree w.rows → AreNodes w.rows (known before) → live_row (known before from) ≡ Some p
+    (w : World) (p t n : ℕ) → IsTree w.rows → AreNodes w.rows (known before)
+    → live_row (known before from) ≡ Some p
     → live_row (known before to) ≡ Some t → IsChild w.rows p name n
     → ((m : ℕ) → child w.rows t new_name ≡ Some m → m ≢ n → children w.rows m ≡ [])
     → AreNodes (after_rename w n (child w.rows t new_name) t new_name).rows (known after)
 
 -- what becomes of nodes behind the calls of a message, which were served
 abbrev pub LeavesNodes : Said → ℕ → Option Stat → Parts → Parts → Type 0
-LeavesNodes (lookup name) directory seen before after = FindsRow (Some name) seen directory before after
-LeavesNodes (mknod fields name) directory seen before after = FindsRow (Some name) seen directory before after
-LeavesNodes (mkdir fields name) directory seen before after = FindsRow (Some name) seen directory before after
-LeavesNodes (create fields name) directory seen before after = FindsRow (Some name) seen directory before after
+LeavesNodes (lookup name) directory seen before after =
+    FindsRow (Some name) seen directory before after
+LeavesNodes (mknod fields name) directory seen before after =
+    FindsRow (Some name) seen directory before after
+LeavesNodes (mkdir fields name) directory seen before after =
+    FindsRow (Some name) seen directory before after
+LeavesNodes (create fields name) directory seen before after =
+    FindsRow (Some name) seen directory before after
 LeavesNodes (unlink name) directory seen before after = LosesRow (Some name) directory before after
 LeavesNodes (rmdir name) directory seen before after = LosesRow (Some name) directory before after
 LeavesNodes message directory seen before after = after ≡ before

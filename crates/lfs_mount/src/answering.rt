@@ -42,7 +42,8 @@ impl<F: FileStore + Drop> Mount<F> {
         message: &Message<'_>,
         cred: &Cred,
     ) -> Told
-        ensures told { IsToldDated F.state F.is_settled self.old.sizes now cred.now self.old.tree.nodes node
+        ensures told { IsToldDated F.state F.is_settled self.old.sizes now cred.now
+            self.old.tree.nodes node
             (view message.now) result self.old.tree.volume self.new.tree.volume
             self.old.beside self.new.beside }
         ensures stay { StayTrue F.state self.old.tree.volume self.old.tree.nodes
@@ -81,7 +82,8 @@ impl<F: FileStore + Drop> Mount<F> {
         cred: &Cred,
     ) -> (Told, bool)
         ensures heard { IsHeard F.state F.is_settled self.old.sizes now cred.now self.old.tree.nodes
-            header.now.node (said bytes.now) result.0 result.1 self.old.tree.volume self.new.tree.volume
+            header.now.node (said bytes.now) result.0 result.1 self.old.tree.volume
+            self.new.tree.volume
             self.old.beside self.new.beside }
         ensures stay { StayTrue F.state self.old.tree.volume self.old.tree.nodes
             self.new.tree.volume self.new.tree.nodes }
@@ -111,8 +113,10 @@ impl<F: FileStore + Drop> Mount<F> {
         others: &[u32],
         out: &mut Vec<u8>,
     ) -> Result<(), AllocError>
-        ensures answered { OnOk result (IsAnswered F.state F.is_settled self.old.sizes now self.old.tree.nodes
-            others.now bytes.now out.old.items out.new.items self.old.tree.volume self.new.tree.volume
+        ensures answered { OnOk result (IsAnswered F.state F.is_settled self.old.sizes now
+            self.old.tree.nodes
+            others.now bytes.now out.old.items out.new.items self.old.tree.volume
+            self.new.tree.volume
             self.old.beside self.new.beside) }
         ensures stay { StayTrue F.state self.old.tree.volume self.old.tree.nodes
             self.new.tree.volume self.new.tree.nodes }

@@ -31,9 +31,11 @@ impl<F: FileStore + Drop> Tree<F> {
         message: &Message<'_>,
         cred: &Cred,
     ) -> Result<Vec<Answer>, Errno>
-        ensures made { IfOk result (λ answers. AreAskedAndMade F.state F.is_settled cred.now (hangs_in self.old.nodes)
+        ensures made { IfOk result (λ answers. AreAskedAndMade F.state F.is_settled cred.now
+            (hangs_in self.old.nodes)
             node (view message.now) answers.items self.old.volume self.new.volume) }
-        ensures led { IfOk result (λ answers. AreLedAndMade F.state F.is_settled cred.now self.old.nodes node
+        ensures led { IfOk result (λ answers. AreLedAndMade F.state F.is_settled cred.now
+            self.old.nodes node
             (view message.now) answers.items self.old.volume self.new.volume) }
         ensures none { IfErr result (λ _. self.new.volume ≡ self.old.volume) }
         ensures nodes { self.new.nodes ≡ self.old.nodes }
@@ -93,9 +95,11 @@ impl<F: FileStore + Drop> Tree<F> {
         message: &Message<'_>,
         cred: &Cred,
     ) -> Told
-        ensures told { IsHandled F.state F.is_settled cred.now (hangs_in self.old.nodes) node (view message.now)
+        ensures told { IsHandled F.state F.is_settled cred.now (hangs_in self.old.nodes) node
+            (view message.now)
             result self.old.volume self.new.volume }
-        ensures stay { StayTrue F.state self.old.volume self.old.nodes self.new.volume self.new.nodes }
+        ensures stay { StayTrue F.state self.old.volume self.old.nodes self.new.volume
+            self.new.nodes }
     {
         let name = match named_in(message) {
             Some(bytes) => match name_of(alloc, bytes) {

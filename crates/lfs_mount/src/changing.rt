@@ -98,7 +98,8 @@ impl<F: FileStore + Drop> Tree<F> {
         cred: &Cred,
         request: Request,
     ) -> Result<Vec<Answer>, Errno>
-        ensures made { IfOk result (λ answers. AreMade F.state F.is_settled cred.now (request ∷ []) answers.items
+        ensures made { IfOk result (λ answers. AreMade F.state F.is_settled cred.now
+            (request ∷ []) answers.items
             self.old.volume self.new.volume) }
         ensures none { IfErr result (λ _. self.new.volume ≡ self.old.volume) }
         ensures nodes { self.new.nodes ≡ self.old.nodes }
@@ -115,7 +116,8 @@ impl<F: FileStore + Drop> Tree<F> {
 
     /// Writes what waits to be written.
     pub(crate) fn synced(&mut self, alloc: Global, cred: &Cred) -> Told
-        ensures told { IsSynced F.state F.is_settled cred.now result self.old.volume self.new.volume }
+        ensures told { IsSynced F.state F.is_settled cred.now result self.old.volume
+            self.new.volume }
         ensures nodes { self.new.nodes ≡ self.old.nodes }
     {
         match self.one(alloc, cred, Request::Sync) {
@@ -159,7 +161,8 @@ impl<F: FileStore + Drop> Tree<F> {
         present: &Attrs,
         cred: &Cred,
     ) -> Told
-        ensures told { IsSetJudged F.state F.is_settled cred.now (hangs_in self.old.nodes) node fields.now
+        ensures told { IsSetJudged F.state F.is_settled cred.now
+            (hangs_in self.old.nodes) node fields.now
             result self.old.volume self.new.volume present.now }
         ensures nodes { self.new.nodes ≡ self.old.nodes }
     {
@@ -177,7 +180,8 @@ impl<F: FileStore + Drop> Tree<F> {
         fields: &SetAttr,
         cred: &Cred,
     ) -> Told
-        ensures told { IsSetAttr F.state F.is_settled cred.now (hangs_in self.old.nodes) node fields.now
+        ensures told { IsSetAttr F.state F.is_settled cred.now
+            (hangs_in self.old.nodes) node fields.now
             result self.old.volume self.new.volume }
         ensures nodes { self.new.nodes ≡ self.old.nodes }
     {
@@ -197,7 +201,8 @@ impl<F: FileStore + Drop> Tree<F> {
 
     /// Gives a node's file a mode, where it has a path and there is memory for that.
     fn give(&mut self, alloc: Global, node: u64, mode: Mode, cred: &Cred)
-        ensures given { IsGivenOrNot F.state F.is_settled cred.now (hangs_in self.old.nodes) node mode
+        ensures given { IsGivenOrNot F.state F.is_settled cred.now
+            (hangs_in self.old.nodes) node mode
             self.old.volume self.new.volume }
         ensures nodes { self.new.nodes ≡ self.old.nodes }
     {
@@ -280,9 +285,11 @@ impl<F: FileStore + Drop> Tree<F> {
         to: &Spot<'_>,
         cred: &Cred,
     ) -> Told
-        ensures told { IsRenamed F.state F.is_settled cred.now (hangs_in self.old.nodes) from.now.node from.now.name.now
+        ensures told { IsRenamed F.state F.is_settled cred.now
+            (hangs_in self.old.nodes) from.now.node from.now.name.now
             to.now.node to.now.name.now result self.old.volume self.new.volume }
-        ensures stay { StayTrue F.state self.old.volume self.old.nodes self.new.volume self.new.nodes }
+        ensures stay { StayTrue F.state self.old.volume self.old.nodes self.new.volume
+            self.new.nodes }
     {
         let names = match names_of(alloc, from, to) {
             Ok(names) => names,
@@ -307,9 +314,11 @@ impl<F: FileStore + Drop> Tree<F> {
         to: &Spot<'_>,
         cred: &Cred,
     ) -> Told
-        ensures told { IsRenamedToFree F.state F.is_settled cred.now (hangs_in self.old.nodes) from.now.node from.now.name.now
+        ensures told { IsRenamedToFree F.state F.is_settled cred.now
+            (hangs_in self.old.nodes) from.now.node from.now.name.now
             to.now.node to.now.name.now result self.old.volume self.new.volume }
-        ensures stay { StayTrue F.state self.old.volume self.old.nodes self.new.volume self.new.nodes }
+        ensures stay { StayTrue F.state self.old.volume self.old.nodes self.new.volume
+            self.new.nodes }
     {
         let path = match path_of(alloc, &self.nodes, to.node, Some(to.name)) {
             Ok(path) => path,

@@ -114,7 +114,8 @@ impl<F: FileStore + Drop> Tree<F> {
         present: FileFlags,
         cred: &Cred,
     ) -> Told
-        ensures told { GoesOnFlags F.state F.is_settled cred.now (hangs_in self.old.nodes) node command
+        ensures told { GoesOnFlags F.state F.is_settled cred.now
+            (hangs_in self.old.nodes) node command
             result self.old.volume self.new.volume present }
         ensures nodes { self.new.nodes ≡ self.old.nodes }
     {
@@ -128,7 +129,8 @@ impl<F: FileStore + Drop> Tree<F> {
 
     /// Answers a control call, behind a look at the flags that there are.
     pub(crate) fn flagged(&mut self, alloc: Global, node: u64, fields: &Ioctl, cred: &Cred) -> Told
-        ensures told { IsFlagged F.state F.is_settled cred.now (hangs_in self.old.nodes) node fields.now
+        ensures told { IsFlagged F.state F.is_settled cred.now
+            (hangs_in self.old.nodes) node fields.now
             result self.old.volume self.new.volume }
         ensures nodes { self.new.nodes ≡ self.old.nodes }
     {

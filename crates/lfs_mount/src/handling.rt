@@ -59,12 +59,15 @@ impl<F: FileStore + Drop> Tree<F> {
         cred: &Cred,
     ) -> Told
         ensures told { IsRename mode
-            (IsRenamed F.state F.is_settled cred.now (hangs_in self.old.nodes) from.now.node from.now.name.now
+            (IsRenamed F.state F.is_settled cred.now
+            (hangs_in self.old.nodes) from.now.node from.now.name.now
             to.now.node to.now.name.now result self.old.volume self.new.volume)
-            (IsRenamedToFree F.state F.is_settled cred.now (hangs_in self.old.nodes) from.now.node from.now.name.now
+            (IsRenamedToFree F.state F.is_settled cred.now
+            (hangs_in self.old.nodes) from.now.node from.now.name.now
             to.now.node to.now.name.now result self.old.volume self.new.volume)
             result self.old.volume self.new.volume }
-        ensures stay { StayTrue F.state self.old.volume self.old.nodes self.new.volume self.new.nodes }
+        ensures stay { StayTrue F.state self.old.volume self.old.nodes self.new.volume
+            self.new.nodes }
     {
         match mode {
             RenameMode::Replace => self.renamed(alloc, from, to, cred),
@@ -82,9 +85,11 @@ impl<F: FileStore + Drop> Tree<F> {
         message: &Message<'_>,
         cred: &Cred,
     ) -> Told
-        ensures told { IsMade kind (IsHandled F.state F.is_settled cred.now (hangs_in self.old.nodes) node (view message.now)
+        ensures told { IsMade kind (IsHandled F.state F.is_settled cred.now
+            (hangs_in self.old.nodes) node (view message.now)
             result self.old.volume self.new.volume) result self.old.volume self.new.volume }
-        ensures stay { StayTrue F.state self.old.volume self.old.nodes self.new.volume self.new.nodes }
+        ensures stay { StayTrue F.state self.old.volume self.old.nodes self.new.volume
+            self.new.nodes }
     {
         match kind {
             Some(FileKind::Regular) => self.once(alloc, node, message, cred),
@@ -102,9 +107,11 @@ impl<F: FileStore + Drop> Tree<F> {
         message: &Message<'_>,
         cred: &Cred,
     ) -> Told
-        ensures told { IsTold F.state F.is_settled sizes due cred.now (hangs_in self.old.nodes) node (view message.now)
+        ensures told { IsTold F.state F.is_settled sizes due cred.now (hangs_in self.old.nodes) node
+            (view message.now)
             result self.old.volume self.new.volume }
-        ensures stay { StayTrue F.state self.old.volume self.old.nodes self.new.volume self.new.nodes }
+        ensures stay { StayTrue F.state self.old.volume self.old.nodes self.new.volume
+            self.new.nodes }
     {
         match message {
             Message::Lookup(_)

@@ -20,7 +20,8 @@ impl<F: FileStore + Drop> Mount<F> {
     ///
     /// Memory ran out for the room of a journal, which is asked for only where the journal is full. Nothing changed.
     pub fn settle(&mut self, alloc: Global) -> Result<bool, AllocError>
-        ensures settled { IfOk result (λ done. IsTrue done → F.is_settled self.new.tree.volume.store) }
+        ensures settled { IfOk result (λ done. IsTrue done
+            → F.is_settled self.new.tree.volume.store) }
         ensures shown { AtPresent F.state self.old.tree.volume
             (Begins (F.state self.new.tree.volume.store) self.new.tree.volume.level) }
         ensures nodes { self.new.tree.nodes ≡ self.old.tree.nodes }

@@ -17,7 +17,10 @@ pub fn stay_true<F: FileStore + Drop>(_mount: &Mount<F>)
         → (F.state new.store).content ≡ (F.state old.store).content → GoesOn old new
         → StayTrue F.state old nodes new nodes }
     ensures let_go { (old : Seen F) (nodes : Parts) → IsRun F.state old
-        → HasBegun (F.state old.since) old.since_level → StayTrue F.state old nodes (let_go old) nodes }
-    ensures shown { (old new : Seen F) (nodes : Parts) → AtPresent F.state old (Begins (F.state new.store) new.level)
-        → IsRun F.state new → HasBegun (F.state old.since) old.since_level → StayTrue F.state old nodes new nodes }
+        → HasBegun (F.state old.since) old.since_level
+        → StayTrue F.state old nodes (let_go old) nodes }
+    ensures shown { (old new : Seen F) (nodes : Parts)
+        → AtPresent F.state old (Begins (F.state new.store) new.level)
+        → IsRun F.state new → HasBegun (F.state old.since) old.since_level
+        → StayTrue F.state old nodes new nodes }
 {}

@@ -15,5 +15,6 @@ mod making;
 pub mod mount;
 mod naming;
 mod room;
+mod sweeping;
 mod tending;
 mod tree;

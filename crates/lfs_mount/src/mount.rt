@@ -50,7 +50,8 @@ impl<F: FileStore + Drop> Mount<F> {
         ensures volume { IfOk result (λ mount. mount.tree.volume ≡ volume) }
         ensures nodes { IfOk result (λ mount. AreTrue F.state mount.tree.volume mount.tree.nodes) }
         ensures sizes { IfOk result (λ mount. mount.sizes ≡ sizes) }
-        ensures times { IfOk result (λ mount. mount.beside.times.stamps.items ≡ replicate sizes.inodes (born now)) }
+        ensures times { IfOk result (λ mount. mount.beside.times.stamps.items
+            ≡ replicate sizes.inodes (born now)) }
     {
         let beside = Beside {
             times: Times::new(alloc, sizes.inodes, now)?,

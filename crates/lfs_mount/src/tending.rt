@@ -1,10 +1,12 @@
 //! What is done between messages: room for entries is made, and the cleaner passes.
 
-ghost use Rattle.std.specs.Prelude.{◌≡◌, if◌then◌else◌, IfOk, OnErr};
+ghost use Rattle.std.specs.Prelude.{◌≡◌, ◌≤◌, [], if◌then◌else◌, IfOk, OnErr};
+ghost use Rattle.std.specs.Vec.{vec_capacity};
 ghost use Rattle.lfs_volume.specs.Journals.{AtPresent, Begins};
-ghost use Rattle.lfs_mount.specs.Tending.{GoesOn, let_go};
+ghost use Rattle.lfs_mount.specs.Tending.{GoesOn, closed, let_go};
 
 use crate::mount::Mount;
+use crate::sweeping::few_of;
 use lfs_cleaner::pass::Pass;
 use lfs_cleaner::wanting::superuser;
 use lfs_model::journal::Entry;
@@ -12,8 +14,11 @@ use lfs_types::cleaned::CleanedStore;
 use lfs_types::store::FileStore;
 use std::alloc::{AllocError, Global};
 
-/// A message and a pass of the cleaner make fewer calls than this.
-const ROOM: usize = 256;
+/// A message and what is done behind it make fewer calls than this.
+const ROOM: usize = 512;
+
+/// The session of the cleaner, which is none of a user.
+pub(crate) const CLEANER: u8 = 255;
 
 /// So few clean segments call for the cleaner.
 const FEW_CLEAN: u32 = 3;
@@ -33,7 +38,40 @@ impl<F: FileStore + Drop> Mount<F> {
         self.tree.volume.journal()
     }
 
-    /// Lets the entries of the journal go, where there is room for fewer than 256 more. Whether it did.
+    /// How many entries the journal may have.
+    pub fn journal_limit(&self) -> u32
+        ensures { result ≡ self.now.tree.volume.limit }
+    {
+        self.tree.volume.journal_limit()
+    }
+
+    /// Takes no more entries: each call is refused `JournalFull` from here on, and changes nothing.
+    pub fn close_journal(&mut self)
+        ensures closed { self.new.tree.volume ≡ closed self.old.tree.volume }
+        ensures nodes { self.new.tree.nodes ≡ self.old.tree.nodes }
+        ensures beside { self.new.beside ≡ self.old.beside }
+        ensures sizes { self.new.sizes ≡ self.old.sizes }
+    {
+        self.tree.volume.close_journal();
+    }
+
+    /// Hands the entries of the journal out, which goes on without them from the present tree, with the room that is handed
+    /// in. Store and level show the tree that the journal led to.
+    pub fn hand_out(&mut self, room: Vec<Entry>) -> Vec<Entry>
+        requires empty { room.items ≡ [] }
+        requires room { self.old.tree.volume.limit ≤ vec_capacity room }
+        ensures handed { result.items ≡ self.old.tree.volume.journal }
+        ensures let_go { self.new.tree.volume ≡ let_go self.old.tree.volume }
+        ensures shown { AtPresent F.state self.old.tree.volume
+            (Begins (F.state self.old.tree.volume.store) self.old.tree.volume.level) }
+        ensures nodes { self.new.tree.nodes ≡ self.old.tree.nodes }
+        ensures beside { self.new.beside ≡ self.old.beside }
+        ensures sizes { self.new.sizes ≡ self.old.sizes }
+    {
+        self.tree.volume.drain(room)
+    }
+
+    /// Lets the entries of the journal go, where there is room for fewer than 512 more. Whether it did.
     ///
     /// # Errors
     ///
@@ -66,15 +104,16 @@ impl<F: FileStore + Drop> Mount<F> {
             return Ok(false);
         }
         let room = Vec::with_capacity(alloc, limit)?;
-        let _ = self.tree.volume.drain(room);
+        let _ = self.hand_out(room);
         Ok(true)
     }
 }
 
 impl<F: CleanedStore + Drop> Mount<F> {
     /// Makes a pass of the cleaner. No file changes.
-    fn pass(&mut self)
-        ensures content { (F.state self.new.tree.volume.store).content ≡ (F.state self.old.tree.volume.store).content }
+    pub(crate) fn pass(&mut self)
+        ensures content { (F.state self.new.tree.volume.store).content
+            ≡ (F.state self.old.tree.volume.store).content }
         ensures level { self.new.tree.volume.level ≡ self.old.tree.volume.level }
         ensures journal { GoesOn self.old.tree.volume self.new.tree.volume }
         ensures nodes { self.new.tree.nodes ≡ self.old.tree.nodes }
@@ -85,14 +124,15 @@ impl<F: CleanedStore + Drop> Mount<F> {
         let mut pass = Pass::new();
         let mut last = None;
         while let Some(call) = pass.next(last.as_ref()) {
-            last = Some(self.tree.volume.clean(0, &cleaner, call));
+            last = Some(self.tree.volume.clean(CLEANER, &cleaner, call));
         }
     }
 
-    /// Makes a pass of the cleaner where there are fewer than three clean segments, so that room that was given back is found, or
-    /// three and more than that before. No file changes.
+    /// Has the cleaner look for room where fewer than three segments are clean, so that room that was given back is
+    /// found, or few and more than that before. No file changes.
     pub fn tend(&mut self, before: u32)
-        ensures content { (F.state self.new.tree.volume.store).content ≡ (F.state self.old.tree.volume.store).content }
+        ensures content { (F.state self.new.tree.volume.store).content
+            ≡ (F.state self.old.tree.volume.store).content }
         ensures level { self.new.tree.volume.level ≡ self.old.tree.volume.level }
         ensures journal { GoesOn self.old.tree.volume self.new.tree.volume }
         ensures nodes { self.new.tree.nodes ≡ self.old.tree.nodes }
@@ -100,8 +140,8 @@ impl<F: CleanedStore + Drop> Mount<F> {
         ensures sizes { self.new.sizes ≡ self.old.sizes }
     {
         let after = self.tree.volume.clean_segments();
-        if after < FEW_CLEAN || (after == FEW_CLEAN && after < before) {
-            self.pass();
+        if after < FEW_CLEAN || (after <= few_of(self.sizes.segments) && after < before) {
+            self.find_room();
         }
     }
 }

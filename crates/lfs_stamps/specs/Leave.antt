@@ -1,5 +1,5 @@
 -- Who may set times (utimensat(2)).
-use Rattle.std.specs.Prelude.{ℕ, ◌==◌, ◌||◌, not, Bool, true, false, Option, None, Some, if◌then◌else◌}
+use Rattle.std.specs.Prelude.{ℕ, ◌==◌, ◌&&◌, ◌||◌, not, Bool, true, false, Option, None, Some, if◌then◌else◌}
 use Rattle.std.specs.Int.RustNames.{bit_and}
 use Rattle.lfs_types.specs.Caller.{Caller}
 use Rattle.lfs_types.specs.declared.attrs.Attrs.{Attrs}
@@ -28,6 +28,11 @@ sets_time fields = is_there fields.accessed || is_there fields.modified || is_th
 abbrev pub sets_given : SetAttr → Bool
 sets_given fields = is_given fields.accessed || is_given fields.modified || is_there fields.changed
 
+-- both times are set to the present one, or one of them beside a length, and no other time
+abbrev pub is_touch : SetAttr → Bool
+is_touch fields =
+    not (sets_given fields) && (is_there fields.size || (is_there fields.accessed && is_there fields.modified))
+
 -- immutable, or append-only, by the user's or the system's flag
 abbrev pub is_held : ℕ → Bool
 is_held flags = not (bit_and flags 0x6_0006 == 0)
@@ -45,5 +50,5 @@ dating_refusal caller fields attrs =
     if not (sets_time fields) then None else
     (if is_held attrs.flags then Some EPERM else
     (if is_own caller attrs then None else
-    (if sets_given fields then Some EPERM else
+    (if not (is_touch fields) then Some EPERM else
     refusal_if (not (grants_of caller attrs bit.Write)) EACCES)))

@@ -1,7 +1,7 @@
 //! Who may set times, as utimensat(2) says it.
 
 ghost use Rattle.std.specs.Prelude.{◌≡◌};
-ghost use Rattle.lfs_stamps.specs.Leave.{dating_refusal, is_given, is_held, is_own, refusal_if, sets_given, sets_time};
+ghost use Rattle.lfs_stamps.specs.Leave.{dating_refusal, is_given, is_held, is_own, is_touch, refusal_if, sets_given, sets_time};
 
 use lfs_fuse_reply::errno::Errno;
 use lfs_fuse_wire::attributes::{NewTime, SetAttr};
@@ -34,6 +34,14 @@ fn sets_given(fields: &SetAttr) -> bool
     is_given(fields.accessed) || is_given(fields.modified) || fields.changed.is_some()
 }
 
+/// Whether a message sets both times to the present one, or one of them beside a length, and no other time.
+fn is_touch(fields: &SetAttr) -> bool
+    ensures { result ≡ is_touch fields.now }
+{
+    let sets_both = fields.accessed.is_some() && fields.modified.is_some();
+    !sets_given(fields) && (fields.size.is_some() || sets_both)
+}
+
 /// Whether a caller is the owner of a file, or the superuser.
 fn is_own(cred: &Cred, attrs: &Attrs) -> bool
     ensures { result ≡ is_own cred.now attrs.now }
@@ -49,7 +57,7 @@ fn refusal_if(holds: bool, errno: Errno) -> Option<Errno>
 }
 
 /// Why a caller may not set the times that a message sets, of a file of these attributes: the owner and the superuser
-/// may set any; who may write the file, the present time; and nobody, of a file that is immutable or only grows.
+/// may set any; who may write the file, both to the present time; and nobody, of a file that is immutable or only grows.
 pub fn dating_refusal(cred: &Cred, fields: &SetAttr, attrs: &Attrs) -> Option<Errno>
     ensures { result ≡ dating_refusal cred.now fields.now attrs.now }
 {
@@ -62,7 +70,7 @@ pub fn dating_refusal(cred: &Cred, fields: &SetAttr, attrs: &Attrs) -> Option<Er
     if is_own(cred, attrs) {
         return None;
     }
-    if sets_given(fields) {
+    if !is_touch(fields) {
         return Some(Errno::EPERM);
     }
     refusal_if(!grants(attrs, cred, Bit::Write), Errno::EACCES)

@@ -1,4 +1,4 @@
-use Rattle.std.proofs.Common.{subst, ◌∙◌}
+use Rattle.std.proofs.Common.{refl, subst, ◌∙◌}
 use Rattle.std.proofs.lemmas.Result.{err_from_is_err_and}
 use Rattle.lfs_fuse_wire.specs.declared.framing.Frame.TheVariants.{Bad}
 use Rattle.lfs_fuse_talk.specs.Fronts.{HasRead}
@@ -12,6 +12,7 @@ loop-init g c = record {
   talked = talked_none (answering_of g.M.Answerer.answers g.M.Answerer.rests) c.args.answerer.now
       c.in-Ok.inbox.pending.items (g.R.Read.remaining c.args.reader.now) (g.W.Write.contents c.args.writer.now)
       c.in-Ok.ensures.empty;
+  silent = λ well. (well, refl);
   room = c.in-Ok.ensures.room;
 }
 
@@ -24,11 +25,11 @@ returns-in_err-answered-in-Bytes-clause-bad g c =
     rw (exit.1, exit.2)
     (λ is. let bad = c.in_err-answered-in-Bytes.ensures.bad is in
     talked_bad (answering_of g.M.Answerer.answers g.M.Answerer.rests) Bad c.args.answerer.now c.loop.answerer
-    c.answer_all.new.answerer c.loop.inbox.pending.items c.as_slice.result.now read.0 bad.0 c.loop.is_whole
+    c.answer_all.new.answerer c.loop.inbox.pending.items c.as_slice-pending.result.now read.0 bad.0 c.loop.is_whole
     (g.R.Read.remaining c.args.reader.now) (g.R.Read.remaining c.loop.reader) (g.R.Read.remaining c.read.new.reader)
     (g.W.Write.contents c.args.writer.now) (g.W.Write.contents c.loop.writer)
     (g.W.Write.contents c.answer_all.new.writer)
-    c.loop.invariant.talked (c.as_slice.ensures.value ∙ read.1) read.2 bad.1)
+    c.loop.invariant.talked (c.as_slice-pending.ensures.value ∙ read.1) read.2 bad.1)
 
 pub loop-preserved : goal.loop-preserved
 loop-preserved g c =
@@ -37,13 +38,17 @@ loop-preserved g c =
     c.in-Ok-read.ensures.read in
     record {
       talked = talked_next (answering_of g.M.Answerer.answers g.M.Answerer.rests) c.args.answerer.now c.loop.answerer
-          c.answer_all.new.answerer c.loop.inbox.pending.items c.as_slice.result.now read.0
+          c.answer_all.new.answerer c.loop.inbox.pending.items c.as_slice-pending.result.now read.0
           c.in_ok-answered-in-Bytes.answered.behind.items c.loop.is_whole c.in_ok-answered-in-Bytes.answered.is_whole
           (g.R.Read.remaining c.args.reader.now) (g.R.Read.remaining c.loop.reader)
           (g.R.Read.remaining c.read.new.reader)
           (g.W.Write.contents c.args.writer.now) (g.W.Write.contents c.loop.writer)
           (g.W.Write.contents c.answer_all.new.writer)
-          c.loop.invariant.talked (c.as_slice.ensures.value ∙ read.1) read.2
+          c.loop.invariant.talked (c.as_slice-pending.ensures.value ∙ read.1) read.2
           c.in_ok-answered-in-Bytes.ensures.answered;
+      silent = λ well.
+          let step = c.in_ok-answered-in-Bytes.ensures.silent well in
+          let before = c.loop.invariant.silent step.0 in
+          (before.0, step.1 ∙ before.1);
       room = c.in-Ok-read.ensures.room;
     }

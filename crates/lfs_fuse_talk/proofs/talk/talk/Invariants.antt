@@ -1,4 +1,4 @@
-use Rattle.std.proofs.Common.{◌≡◌, length}
+use Rattle.std.proofs.Common.{◌≡◌, true, length}
 use Rattle.lfs_fuse_talk.specs.Talking.{answering_of}
 use Rattle.lfs_fuse_talk.proofs.TalkLemmas.{TalkedSoFar}
 use Rattle.lfs_fuse_talk.proofs.talk.talk.Given as goal
@@ -8,5 +8,7 @@ invariant-loop g l = record {
   talked : TalkedSoFar (answering_of g.M.Answerer.answers g.M.Answerer.rests) l.fn.answerer l.answerer
       l.inbox.pending.items l.is_whole (g.R.Read.remaining l.fn.reader) (g.R.Read.remaining l.reader)
       (g.W.Write.contents l.fn.writer) (g.W.Write.contents l.writer);
+  silent : g.M.Answerer.is_well l.answerer ≡ true
+      → (g.M.Answerer.is_well l.fn.answerer ≡ true) × (l.teller ≡ l.fn.teller);
   room : length l.inbox.buffer.items ≡ 139264;
 }

@@ -1,0 +1,13 @@
+use Rattle.lfs_fuse_talk.proofs.CourseLemmas.{begun_file, first_of}
+use Rattle.lfs_fuse_talk.proofs.program.begin.Goals as goal
+
+pub returns-clause-begun : goal.returns-clause-begun
+returns-clause-begun g c = (
+  first_of g.S.File.Write.contents c.in_ok-file.file,
+  record {
+    volume = rw c.new-served.ensures.mount c.in_ok-mount.ensures.begun;
+    file = rw c.new-served.ensures.ledger (begun_file g.S.File.Write.contents c.args.options.now.journal_out
+        c.in_ok-file.file c.new-ledger.result.keeping c.in_ok-file.ensures.opened c.new-ledger.ensures.asked
+        c.new-ledger.ensures.first);
+  },
+)
