@@ -4,6 +4,7 @@
 mod bell;
 mod live;
 mod meeting;
+mod rounds;
 mod watch;
 
 use lfs_logstore::LogStore;
