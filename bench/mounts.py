@@ -53,11 +53,18 @@ def of_names(call, names):
         os.chdir("..")
 
 
+def write_all(file, rest, place):
+    """Writes bytes from a place on, in as many calls as it takes."""
+    while rest:
+        count = os.pwrite(file, rest, place)
+        rest, place = rest[count:], place + count
+
+
 def write(_call, _names):
     for _ in range(PASSES):
         file = os.open("large", os.O_CREAT | os.O_TRUNC | os.O_WRONLY, 0o644)
         for place in range(PIECES):
-            os.pwrite(file, PIECE, place * len(PIECE))
+            write_all(file, PIECE, place * len(PIECE))
         os.close(file)
 
 

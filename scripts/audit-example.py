@@ -16,6 +16,8 @@ import sys
 
 WHO = re.compile(r"([0-8]) as (\d+) [\d,]+( init)?")
 CHANGES = {"create", "mkdir", "write", "length", "chmod", "chown", "chflags", "rename"}
+# The cleaner's calls, of which a denial tells no rule.
+CLEANING = {"ifile", "infos", "bmapv", "markv", "segclean"}
 # Rules that say that a name is not there, or no directory: no permission.
 MISSING = {"N1", "N2"}
 
@@ -52,7 +54,7 @@ def denials(journal):
     return collections.Counter(
         (entry.user, entry.call[0], entry.answer[1])
         for entry in journal
-        if entry.answer[0] == "denied" and entry.call[0] != "cleaner"
+        if entry.answer[0] == "denied" and entry.call[0] not in CLEANING
     )
 
 

@@ -4,9 +4,8 @@
 audit-scripts.py SHELL TRAIL [NAME..] runs SHELL, a built `lfs_shell`, on each script in `crates/lfs_script_tests/data`, or
 on those named, with `.journal` behind it, and TRAIL, a built `lfs_audit_trail`, on the journal that it tells, with the
 numbers of both as they are by default. Each must be legal. Then each answer of a journal's entries is changed in turn into
-another of its kind, as far as the first MOST entries: each of these must be illegal, at that entry, or is told as another
-legal answer. The last line counts journals, entries, changes that are illegal and those that are legal; the status is 1
-where a journal is illegal.
+another of its kind: each of these must be illegal, at that entry, or is told as another legal answer. The last line counts
+journals, entries, changes that are illegal and those that are legal; the status is 1 where a journal is illegal.
 """
 import re
 import subprocess
@@ -15,18 +14,18 @@ from pathlib import Path
 
 DATA = Path(__file__).resolve().parent.parent / "crates" / "lfs_script_tests" / "data"
 ENTRY = re.compile(r"\d+ as \d+ .* \| .* \| .*")
-MOST = 4000
+CLEANING = re.compile(r" \| (ifile|infos|bmapv|markv|segclean)\b")
 SECONDS = 120
 
 
-def run(program, text):
-    ran = subprocess.run([program], input=text.encode(), stdout=subprocess.PIPE, stderr=subprocess.DEVNULL, timeout=SECONDS)
+def run(words, text):
+    ran = subprocess.run(words, input=text.encode(), stdout=subprocess.PIPE, stderr=subprocess.DEVNULL, timeout=SECONDS)
     return ran.returncode, ran.stdout.decode("ascii", "replace")
 
 
 def journal_of(shell, script):
     """The lines of the journal that a script leaves."""
-    told = run(shell, script.read_text("ascii", "replace") + "\n.journal\n")[1]
+    told = run([shell], script.read_text("ascii", "replace") + "\n.journal\n")[1]
     return [line for line in told.split("\n") if ENTRY.fullmatch(line)]
 
 
@@ -34,7 +33,7 @@ def changed(line):
     """An entry with another answer."""
     front, answer = line.rsplit(" | ", 1)
     words = answer.split(" ")
-    if words[0] == "ok" and " | cleaner " in front:
+    if words[0] == "ok" and CLEANING.search(front):
         other = "denied"
     elif words[0] == "ok":
         other = "denied M2 EACCES 0 1"
@@ -55,9 +54,9 @@ def changed(line):
     return f"{front} | {other}"
 
 
-def audited(trail, lines):
-    """The word of what is found, and its number."""
-    found = run(trail, "".join(line + "\n" for line in lines))[1].split("\n")[0].split(" ")
+def audited(trail, lines, words=()):
+    """The word of what is found with these words behind the program's name, and its number."""
+    found = run([trail, *words], "".join(line + "\n" for line in lines))[1].split("\n")[0].split(" ")
     number = found[1] if found[0] == "legal" else found[2].rstrip(":")
     return found[0], int(number)
 
@@ -76,7 +75,7 @@ def main(shell, trail, *names):
             good = False
             print(f"{script.stem}: {found[0]} {found[1]} of {len(lines)}")
             continue
-        for at, line in enumerate(lines[:MOST]):
+        for at, line in enumerate(lines):
             found = audited(trail, [*lines[:at], changed(line)])
             if found[0] == "illegal" and found[1] == at + 1:
                 illegal += 1

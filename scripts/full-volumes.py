@@ -3,10 +3,10 @@
 
 full-volumes.py PROGRAM [COUNT [SEED [SHAPE]]] [--segments N] [--climb TRIES] makes COUNT runs (by default 1,000) by a
 generator that SEED (by default 1) determines, of the shapes in turn, or of the one that is named. PROGRAM is a built
-`lfsd`. A run has 6 to 12 segments, or N, and goes on until most calls are refused: files of one block or a few, also past
-the twelfth, are made and written, cut by a byte, given other modes, removed, synced, with passes of the cleaner between. In
-a shape `locked_..` all this is a user's, and then files and directories are locked, by him or by the superuser. Behind it
-stand
+`lfsd` or `lfs_shell`. A run has 6 to 12 segments, or N, and goes on until most calls are refused: files of one block or a
+few, also past the twelfth, are made and written, cut by a byte or a block, given other modes, removed, synced, with passes
+of the cleaner between. In a shape `locked_..` all this is a user's, and then files and directories are locked, by him or by
+the superuser. Behind it stand
 
 - up to twelve rounds, each of an Unlink of each file, an Rmdir of each directory and a pass: they must leave an empty root;
   where files are locked, up to three rounds of the superuser's, in which all flags are taken away first;
@@ -15,8 +15,8 @@ stand
 
 A run that breaks one of these is wedged: its script is kept in a folder that is named at the end, and the status is 1.
 With `--climb` there are COUNT searches instead, of one who wants the volume full for good: from a sequence of steps he goes
-on to others, so many tries, where an administrator is refused no less behind them. What he leaves must be empty in three
-rounds, at once and behind ten passes.
+on to others, so many tries, behind which an administrator is refused no fewer calls, or as many and a round of passes gains
+no more blocks. What he leaves must be empty in three rounds, at once and behind ten passes. PROGRAM is `lfs_shell` then.
 For each shape a line says how many runs there were, how many rounds they took, and how many were wedged.
 """
 import argparse
@@ -30,7 +30,7 @@ import tempfile
 import time
 from concurrent.futures import ThreadPoolExecutor
 
-SECONDS = 300
+SECONDS = 1_800
 ROUNDS = 12
 # Most runs need no more, so these are tried first.
 FEW_ROUNDS = 3
@@ -58,9 +58,16 @@ class Run:
         self.inodes = rng.choice([16, 32, 64, 64, 128, 128, 256, 512, 1024])
         self.frames = rng.choice([32, 64, 1024])
         self.locked = False
+        self.caller = "as 0 0"
 
     def say(self, line):
-        self.lines.append(line)
+        """A line of the caller's; a pass is the superuser's."""
+        if line.startswith("as "):
+            self.caller = line
+        if line == "pass" and self.caller != "as 0 0":
+            self.lines += ["as 0 0", line, self.caller]
+        else:
+            self.lines.append(line)
 
     def arguments(self):
         return ["--segments", str(self.segments), "--inodes", str(self.inodes), "--frames", str(self.frames),
@@ -88,6 +95,13 @@ class Run:
         if size > 0:
             self.sizes[path] = size - 1
             self.say(f"length {path} {size - 1}")
+
+    def shorten(self, path):
+        """The file loses its last block."""
+        blocks = -(-self.sizes.get(path, 0) // BLOCK)
+        if blocks > 0:
+            self.sizes[path] = (blocks - 1) * BLOCK
+            self.say(f"length {path} {self.sizes[path]}")
 
     def chmod(self, path):
         self.say(f"chmod {path} {self.rng.choice(['0600', '0644', '0666', '0700'])}")
@@ -129,6 +143,8 @@ def worn(run, count, kinds, sync, passes):
         kind = run.rng.choice(kinds)
         if kind == "cut":
             run.cut(path)
+        elif kind == "shorten":
+            run.shorten(path)
         elif kind == "chmod":
             run.chmod(path)
         elif kind == "unlink":
@@ -335,6 +351,66 @@ def locked(run, paths, flags, sync, passes):
         run.sometimes("pass", passes)
 
 
+def dense(run, files, blocks, begin=0, count=DIRECT, shuffled=False):
+    """So many blocks of each file are written, in order or in any, so many to a Sync."""
+    places = [(path, block) for path in files for block in range(begin, begin + count)]
+    if shuffled:
+        run.rng.shuffle(places)
+    for at in range(0, len(places), blocks):
+        for path, block in places[at:at + blocks]:
+            run.write(path, block)
+        run.say("sync")
+
+
+def cut_by_blocks(run):
+    """Segments are written full by a user, and more behind passes; then his files are cut by a block or removed, with a Sync
+    behind each, in an order in which segments lose as many: he spends what is left, and frees few blocks in one place."""
+    rng = run.rng
+    run.inodes = 1024
+    by_a_user(run)
+    run.directory("/d")
+    count = rng.choice([DIRECT, DIRECT, DIRECT, 4, 24, 40])
+    how = (rng.choice([8, 10, 15, 19, 19, 20, 21, 23]), rng.choice([0, 0, DIRECT]), count, rng.random() < 0.3)
+    first, fills, more = run.segments * SEGMENT // count, rng.randrange(8), 96 // count
+    for i in range(min(1000, first + fills * more)):
+        run.file(f"/d/{i}")
+    run.say("sync")
+    files = list(run.files)
+    dense(run, files[:first], *how)
+    for fill in range(fills):
+        for _ in range(rng.randrange(1, 4)):
+            run.say("pass")
+        dense(run, files[first + fill * more:][:more], *how)
+    begin, end = sorted([rng.randrange(len(files) // 2), len(files) - 1 - rng.randrange(len(files) // 2)])
+    removes = rng.choice([0, 0, 0.05, 1])
+    for _ in range(rng.randrange(1, 5)):
+        step = rng.choice([1, 3, 4, 5, 7])
+        for path in [files[i] for first in range(step) for i in range(begin + first, end, step)]:
+            run.unlink(path) if rng.random() < removes else run.shorten(path)
+            run.say("sync")
+        for _ in range(rng.choice([0, 0, 1, 3])):
+            run.say("pass")
+
+
+def directories_alone_locked(run):
+    """Files in directories are written until they are refused, and the directories alone are locked, by a user or by the
+    superuser; the files may be cut and written still."""
+    rng = run.rng
+    by_a_user(run)
+    for i in range(rng.randrange(1, 6)):
+        run.directory(f"/d{i}")
+    for i in range(min(run.inodes - 10, 4 * run.segments)):
+        run.file(f"{rng.choice(run.directories)}/{i}")
+    files = list(run.files)
+    dense(run, files, rng.choice([8, 19, 20, 23]))
+    if rng.random() < 0.3:
+        run.say("as 0 0")
+    locked(run, run.directories, rng.choice([["2"], ["4"], USER_FLAGS]), rng.choice([0, 1]), rng.choice([0, 0.2]))
+    run.say("as 7 7")
+    worn(run, rng.choice([20, 100]), ["shorten", "cut", "direct", "past"], rng.choice([0.2, 1]), rng.choice([0, 0.02]))
+    own_byte(run, rng.choice([10, 60]))
+
+
 def own_byte(run, times):
     """The user writes a byte of a file of his and syncs it, until that is refused."""
     for _ in range(times):
@@ -409,7 +485,7 @@ def big_files_locked(run):
 
 SHAPES = [small_files, past_the_twelfth, records, long_names, mixed, removed_one_by_one, cut_one_by_one, directories,
           rewritten, unlinked_and_synced, all_modes, empty_files, spread_files, long_runs]
-SHAPES += [with_locks(shape) for shape in SHAPES] + [big_files_locked]
+SHAPES += [with_locks(shape) for shape in SHAPES] + [big_files_locked, cut_by_blocks, directories_alone_locked]
 
 
 def emptying(run):
@@ -432,14 +508,23 @@ def filling(run):
     return lines
 
 
-def told(program, run, lines):
-    """What the program prints of its users' calls, a line for each."""
+def printed_by(program, run, lines):
+    """The lines that the program prints."""
     text = "\n".join(lines) + "\n"
     done = subprocess.run([program, *run.arguments()], input=text.encode(), capture_output=True, timeout=SECONDS)
     if done.returncode != 0:
         raise RuntimeError(f"status {done.returncode}: {done.stderr[:200]}")
-    printed = done.stdout.decode().split("\n")
+    return done.stdout.decode().split("\n")
+
+
+def users_of(printed):
+    """The answers to users' calls among these lines."""
     return [line for line in printed if line.startswith("0 ") and not line.startswith("0 cleaner ")]
+
+
+def told(program, run, lines):
+    """What the program prints of its users' calls, a line for each."""
+    return users_of(printed_by(program, run, lines))
 
 
 def calls(lines):
@@ -470,25 +555,28 @@ def fresh_named_fill(program, run):
     return fill_alone(program, run, lines + 2 * [line for line in emptying(run) if line != "list /"])
 
 
-KINDS = ["write", "over", "cut", "chmod", "lock", "unlock", "unlink", "make", "sync", "pass"]
+KINDS = ["write", "write", "over", "cut", "shorten", "shorten", "chmod", "lock", "unlock", "unlink", "make", "sync", "pass"]
 
 
 def steps_made(rng, count):
     """Steps of one who wants the volume full: a kind, a file, a block, and how often in a row."""
-    return [(rng.choice(KINDS), rng.randrange(12), rng.randrange(MOST_BLOCKS), rng.choice([1, 1, 1, 4, 16, 64]))
+    return [(rng.choice(KINDS), rng.randrange(1000), rng.randrange(MOST_BLOCKS), rng.choice([1, 1, 1, 4, 16, 64]))
             for _ in range(count)]
 
 
 def stepped(segments, steps):
-    """The run that makes these steps as a user."""
+    """The run in which a user fills a volume and makes these steps."""
     run = Run(random.Random(0), segments)
-    run.inodes, run.frames = 64, 64
+    run.inodes, run.frames = 1024, 64
     by_a_user(run)
     run.directory("/d")
-    for name in range(12):
+    count = segments * SEGMENT // DIRECT
+    for name in range(count):
         run.file(f"/d/{name}")
+    run.say("sync")
+    dense(run, list(run.files), 19)
     for kind, file, block, times in steps:
-        path = f"/d/{file}"
+        path = f"/d/{file % count}"
         for i in range(times):
             at = (block + i) % MOST_BLOCKS
             if kind == "write":
@@ -498,16 +586,19 @@ def stepped(segments, steps):
                 run.say("sync")
             elif kind == "cut":
                 run.cut(path)
+            elif kind == "shorten":
+                run.shorten(f"/d/{(file + i) % count}")
+                run.say("sync")
             elif kind == "chmod":
-                run.chmod(f"/d/{(file + i) % 12}")
+                run.chmod(f"/d/{(file + i) % count}")
             elif kind == "lock":
-                run.say(f"chflags /d/{(file + i) % 12} {2 + block % 3 * 2}")
+                run.say(f"chflags /d/{(file + i) % count} {2 + block % 3 * 2}")
             elif kind == "unlock":
-                run.say(f"chflags /d/{(file + i) % 12} 0")
+                run.say(f"chflags /d/{(file + i) % count} 0")
             elif kind == "unlink":
-                run.unlink(f"/d/{(file + i) % 12}")
+                run.unlink(f"/d/{(file + i) % count}")
             elif kind == "make":
-                run.say(f"create /d/{(file + i) % 12} 0644")
+                run.say(f"create /d/{(file + i) % count} 0644")
             else:
                 run.say(kind)
     for path in run.files + run.directories:
@@ -516,12 +607,28 @@ def stepped(segments, steps):
     return run
 
 
+def space_told(printed):
+    """The blocks that can be written, by each map that is printed."""
+    spaces, space = [], 0
+    for line in printed:
+        words = line.split()
+        if line.startswith(" ") and len(words) > 1 and words[1] in ("clean", "active", "dirty"):
+            space += SEGMENT if words[1] == "clean" else words[-1].count(".") if words[1] == "active" else 0
+        elif line.startswith("waiting "):
+            spaces.append(space)
+            space = 0
+    return spaces
+
+
 def hindered(program, run):
-    """How many calls of an administrator are refused who empties a volume behind three passes, and syncs each call: the more,
-    the nearer to a wedge."""
+    """How many calls of an administrator are refused who empties a volume behind three passes, and syncs each call, and how
+    few blocks the passes gain: the more and the fewer, the nearer to a wedge."""
     probe = [line for call in emptying(run) if call != "pass" for line in (call, "sync")]
-    answers = told(program, run, run.lines + ["pass"] * 3 + probe)
-    return sum(answer == "0 refused NoSpace" for answer in answers[-len(calls(probe)):])
+    printed = printed_by(program, run, run.lines + ["as 0 0", ".map", "pass", "pass", "pass", ".map"] + probe)
+    answers = users_of(printed)
+    before, behind = space_told(printed)
+    refused = sum(answer == "0 refused NoSpace" for answer in answers[-len(calls(probe)):])
+    return refused, before - behind
 
 
 def climbed(program, seed, index, segments, tries):
@@ -552,7 +659,7 @@ def climb(program, count, seed, tries, segments):
         told_of = pool.map(lambda i: climbed(program, seed, i, segments, tries), range(count))
         wedged = 0
         for index, segments, rounds, most, lines in told_of:
-            print(f"{index} climb: segments={segments} rounds={rounds} refused-at-most={most}", flush=True)
+            print(f"{index} climb: segments={segments} rounds={rounds} refused={most[0]} lost-by-passes={most[1]}", flush=True)
             if None in rounds:
                 wedged += 1
                 folder = tempfile.mkdtemp(prefix="full-")

@@ -121,7 +121,7 @@ def wrapped(text):
 
 
 def main(words):
-    files = [pathlib.Path(it).resolve() for it in words if it != "--check"] or sorted(TOP.glob("crates/*/*/**/*.antt"))
+    files = [pathlib.Path(it).resolve() for it in words if it != "--check"] or sorted(it for it in TOP.glob("crates/*/*/**/*.antt") if it.parts[len(TOP.parts) + 2] != "out")
     failed = False
     for file in files:
         text = file.read_text()

@@ -53,6 +53,7 @@ echo r > roots
 chmod 666 roots
 try 'who may write sets the present time' newer 'sleep 0.01; touch c; sleep 0.01; touch roots; [ roots -nt c ] && echo newer'
 try 'who may write sets no other' "touch: setting times of 'roots': Operation not permitted" 'touch -d @5 roots'
+try 'who may write sets one alone no more' "touch: setting times of 'roots': Operation not permitted" 'touch -a roots'
 chmod 644 roots
 try 'who may not write sets none' "touch: cannot touch 'roots': Permission denied" 'touch roots'
 try 'cp keeps mode and times' '444 1000000001' 'echo p > p; touch -d @1000000001 p; chmod 444 p; cp -p p q; stat -c "%a %Y" q'
@@ -70,6 +71,14 @@ try 'git finds nothing wrong' '' 'cd g; git fsck --full 2>&1'
 try 'numbers in use' '3' 'x=$(stat -f -c %d .); touch n1 n2 n3; echo $((x - $(stat -f -c %d .)))'
 try 'blocks in use' '2048' 'x=$(stat -f -c %f .); head -c 1048576 /dev/urandom > big; echo $((x - $(stat -f -c %f .)))'
 try 'and free again' '2048' 'x=$(stat -f -c %f .); rm big; echo $(($(stat -f -c %f .) - x))'
+try 'no write is cut short while there is room' 0 'python3 -c "
+import os
+piece, short = bytes(131072), 0
+for _ in range(10):
+    file = os.open(\"large\", os.O_CREAT | os.O_TRUNC | os.O_WRONLY, 0o644)
+    short += sum(os.pwrite(file, piece, place * len(piece)) < len(piece) for place in range(32))
+    os.close(file)
+print(short)"; rm large'
 try 'the longest name' 255 'stat -f -c %l .'
 echo "$passed passed, $failed failed"
 [ "$failed" = 0 ]

@@ -5,6 +5,7 @@ mod arguments;
 mod counts;
 pub(super) mod fakes;
 mod full;
+mod locked;
 pub(super) mod log;
 mod passes;
 mod runs;

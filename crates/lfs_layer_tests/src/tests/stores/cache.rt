@@ -6,7 +6,7 @@ ghost use Rattle.lfs_cache.specs.Contents.{IsLocked};
 ghost use Rattle.lfs_cache.specs.Keys.{same_key};
 
 use crate::tests::expect_eq;
-use lfs_cache::{Cache, Key, LOCKED_LIMIT};
+use lfs_cache::{BlockCode, Cache, Key, LOCKED_LIMIT};
 use lfs_types::block::Block;
 use std::alloc::{AllocError, Global};
 use std::process::Abort;
@@ -17,7 +17,7 @@ fn key(lbn: u32) -> Key {
     Key {
         ino: 7,
         version: 1,
-        lbn,
+        lbn: BlockCode(lbn),
     }
 }
 

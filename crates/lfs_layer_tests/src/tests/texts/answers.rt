@@ -1,6 +1,7 @@
 //! The texts of answers and of the report.
 
 use crate::tests::expect_eq;
+use lfs_model::asking::CleanerAct;
 use lfs_model::journal::{CleanerAnswer, CleanerKind, CleanerOutcome, Entry, Event};
 use lfs_script::print::{print_answer, print_cleaner};
 use lfs_script::report::report;
@@ -231,10 +232,10 @@ const ENTRIES: u32 = 7;
 fn event(number: u32) -> Event {
     match number {
         1 => Event::User(Request::Sync, Answer::Denied(DENIAL)),
-        2 => Event::Cleaner(CleanerKind::Ifile, CleanerOutcome::Denied),
-        3 => Event::Cleaner(CleanerKind::Ifile, CleanerOutcome::Done(252)),
+        2 => Event::Cleaner(CleanerAct::Ifile, CleanerOutcome::Denied),
+        3 => Event::Cleaner(CleanerAct::Ifile, CleanerOutcome::Done(252)),
         4 => Event::Cleaner(
-            CleanerKind::Infos,
+            CleanerAct::Infos(0),
             CleanerOutcome::Fault(CleanFault::Active),
         ),
         5 => Event::User(Request::Sync, Answer::Refused(Resource::NoSpace)),

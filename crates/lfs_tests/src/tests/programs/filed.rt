@@ -115,7 +115,7 @@ fn file_has_each_of_a_thousand_entries_once(rt: HostRuntime) {
 
 /// What is told of the turns where the file takes no byte: the first call was made by then, and no other is.
 const UNWRITTEN: &str = "0 ok\n2 refused JournalFull\n1 refused JournalFull\n\
-    entries 1\nserved 1\ndenied 0\nrefused 0\ncleaner 0\n";
+    entries 1\nserved 1\ndenied 0\nrefused 0\ncleaner 0\nunentered JournalFull 2\n";
 
 /// What is told of such a file.
 const NO_ROOM: &str = "lfsd: journal not written: write failed\n";

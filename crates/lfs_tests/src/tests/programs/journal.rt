@@ -34,7 +34,8 @@ fn journal_is_written_to_its_file(rt: HostRuntime) {
 /// What is told of the talk where the file takes no byte: the first call was made by then, and no other is.
 const UNWRITTEN: &str =
     "0 ok\n0 refused JournalFull\n0 refused JournalFull\n0 refused JournalFull\n\
-    0 refused JournalFull\nentries 1\nserved 1\ndenied 0\nrefused 0\ncleaner 0\n";
+    0 refused JournalFull\nentries 1\nserved 1\ndenied 0\nrefused 0\ncleaner 0\n\
+    unentered JournalFull 4\n";
 
 #[test]
 fn journal_that_finds_no_room_is_told_once(rt: HostRuntime) {

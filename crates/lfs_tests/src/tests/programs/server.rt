@@ -20,8 +20,8 @@ fn server_runs_a_script(rt: HostRuntime) {
 const CLEANING: &[u8] = b"create /a 0666\npass\n";
 
 /// What it is answered, where the journal has room for the first entry alone.
-const CLEANED: &str =
-    "0 ok\n0 cleaner ifile refused JournalFull\nentries 1\nserved 1\ndenied 0\nrefused 0\ncleaner 0\n";
+const CLEANED: &str = "0 ok\n0 cleaner ifile refused JournalFull\n\
+    entries 1\nserved 1\ndenied 0\nrefused 0\ncleaner 0\nunentered JournalFull 1\n";
 
 #[test]
 fn server_takes_numbers(rt: HostRuntime) {
@@ -47,6 +47,19 @@ fn server_runs_sessions_on_threads(rt: HostRuntime) {
     let out = found.out.as_slice();
     let is_known = out == BY_SESSION.as_bytes() || out == PASSED.as_bytes();
     super::expect_eq(&rt, is_known, true);
+}
+
+/// Calls of two sessions behind a setup that fills the journal, and what is told of them.
+const FILLED: &[u8] = b"create /a 0644\nsession 1\nstat /a\nsession 2\nstat /a\n";
+
+const REFUSED_TO_BOTH: &str = "0 ok\n1 refused JournalFull\n2 refused JournalFull\n\
+    entries 1\nserved 1\ndenied 0\nrefused 0\ncleaner 0\nunentered JournalFull 2\n";
+
+#[test]
+fn report_on_threads_counts_what_the_full_journal_refused(rt: HostRuntime) {
+    let words: &[&[u8]] = &[b"lfsd", b"--threads", b"--journal=1"];
+    let wanted = (0, REFUSED_TO_BOTH, "");
+    expect_ended(&rt, rt.alloc(), Program::Server, words, FILLED, wanted);
 }
 
 /// What is told where a line asks for the cleaner.

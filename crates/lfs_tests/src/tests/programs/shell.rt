@@ -77,15 +77,17 @@ fn shell_tells_its_version(rt: HostRuntime) {
     );
 }
 
-/// What is told of two lines where the journal has room for one entry.
-const FULL: &str =
-    "0 ok\n0 refused JournalFull\nentries 1\nserved 1\ndenied 0\nrefused 0\ncleaner 0\n";
+/// What is told of three calls where the journal has room for one entry, with a report behind the second.
+const FULL: &str = "0 ok\n0 refused JournalFull\n\
+    entries 1\nserved 1\ndenied 0\nrefused 0\ncleaner 0\nunentered JournalFull 1\n\
+    0 refused JournalFull\n\
+    entries 1\nserved 1\ndenied 0\nrefused 0\ncleaner 0\nunentered JournalFull 2\n";
 
 #[test]
 fn shell_takes_numbers(rt: HostRuntime) {
     let words: &[&[u8]] = &[b"lfs_shell", b"--journal=1", b"--frames", b"32"];
     let wanted = (0, FULL, "");
-    let input = b"create /a 0644\nstat /a\n";
+    let input = b"create /a 0644\nstat /a\n.report\nstat /a\n";
     expect_ended(&rt, rt.alloc(), Program::Shell, words, input, wanted);
 }
 

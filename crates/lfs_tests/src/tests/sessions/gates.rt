@@ -6,7 +6,8 @@ use super::{CLEANER, assert_answers};
 use lfs_logstore::LogStore;
 use lfs_server::gate::Gate;
 use lfs_server::serving::Closed;
-use lfs_volume::journal::{CleanerKind, CleanerOutcome, Entry, Event};
+use lfs_volume::asking::CleanerAct;
+use lfs_volume::journal::{CleanerOutcome, Entry, Event};
 use std::alloc::Global;
 use std::process::Abort;
 use std::sync::Wait;
@@ -151,8 +152,8 @@ fn is_called_between(journal: &[Entry]) -> bool {
         match &entry.event {
             Event::User(_, _) if entry.session == 1 && !is_located => return false,
             Event::User(_, _) => is_called = is_called || entry.session == 1,
-            Event::Cleaner(CleanerKind::Bmapv, CleanerOutcome::Done(_)) => is_located = true,
-            Event::Cleaner(CleanerKind::Markv, CleanerOutcome::Done(_)) => return is_called,
+            Event::Cleaner(CleanerAct::Bmapv(_), CleanerOutcome::Done(_)) => is_located = true,
+            Event::Cleaner(CleanerAct::Markv(_), CleanerOutcome::Done(_)) => return is_called,
             Event::Cleaner(_, _) => {}
         }
     }

@@ -9,7 +9,8 @@ use lfs_server::gate::Gate;
 use lfs_server::serving::Closed;
 use lfs_types::answer::Answer;
 use lfs_types::store::Params;
-use lfs_volume::journal::{CleanerKind, CleanerOutcome, Entry, Event};
+use lfs_volume::asking::CleanerAct;
+use lfs_volume::journal::{CleanerOutcome, Entry, Event};
 use std::alloc::Global;
 use std::process::Abort;
 use std::sync::Wait;
@@ -175,7 +176,9 @@ pub fn is_cleaned_between(journal: &[Entry]) -> bool {
         match &entry.event {
             Event::User(_, _) if is_cleaned => return true,
             Event::User(_, _) => is_begun = is_begun || entry.session > 0,
-            Event::Cleaner(CleanerKind::Segclean, CleanerOutcome::Done(_)) => is_cleaned = is_begun,
+            Event::Cleaner(CleanerAct::Segclean(_), CleanerOutcome::Done(_)) => {
+                is_cleaned = is_begun
+            }
             Event::Cleaner(_, _) => {}
         }
     }

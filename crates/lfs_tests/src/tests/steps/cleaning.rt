@@ -6,7 +6,8 @@ use lfs_logstore::LogStore;
 use lfs_types::cleaner::{BlockInfo, CleanFault, CleanerCall, InfoList, MarkList};
 use lfs_types::cred::Cred;
 use lfs_types::store::Params;
-use lfs_volume::journal::{CleanerAnswer, CleanerKind, CleanerOutcome, Entry, Event};
+use lfs_volume::asking::CleanerAct;
+use lfs_volume::journal::{CleanerAnswer, CleanerOutcome, Entry, Event};
 use lfs_volume::volume::Volume;
 use std::alloc::Global;
 use std::process::Abort;
@@ -222,7 +223,7 @@ fn clean_each(rt: &impl Abort, volume: &mut Volume<LogStore>, dirty: &[u32]) {
 fn cleanings(journal: &[Entry]) -> usize {
     let mut count = 0usize;
     for entry in journal {
-        if let Event::Cleaner(CleanerKind::Segclean, CleanerOutcome::Done(0)) = &entry.event {
+        if let Event::Cleaner(CleanerAct::Segclean(_), CleanerOutcome::Done(0)) = &entry.event {
             count = count.saturating_add(1);
         }
     }

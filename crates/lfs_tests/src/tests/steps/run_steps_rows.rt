@@ -205,7 +205,7 @@ const CLEANING_DENIED: &str = "\
 /// The kind of a cleaner's call that was denied, where an entry is that of one.
 fn denied_kind(entry: &Entry) -> Option<CleanerKind> {
     match &entry.event {
-        Event::Cleaner(kind, CleanerOutcome::Denied) => Some(*kind),
+        Event::Cleaner(act, CleanerOutcome::Denied) => Some(act.kind()),
         _ => None,
     }
 }

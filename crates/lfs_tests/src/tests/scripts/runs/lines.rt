@@ -42,6 +42,7 @@ denied 0
 refused 0
 cleaner 7
 rule U1 3
+unentered NoMemory 2
 ";
 
 #[test]

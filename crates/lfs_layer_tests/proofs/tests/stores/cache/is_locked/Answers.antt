@@ -9,7 +9,7 @@ pub returns-then-same : goal.returns-then-same
 returns-then-same c =
     let es = c.args.cache.now.locked in let i = c.loop-held.held-index in let k = c.args.key in let ns =
     c.locked-held-items.result.now in
-    let d : Key = record { ino = 0; version = 0; lbn = 0 } in
+    let d : Key = record { ino = 0; version = 0; lbn = record { 0 = 0 } } in
     let inside : i < length (keys_of es) = subst
     (λ (ms : List Key). i < length ms) c.locked-held-items.ensures.keys c.loop-held-test.true in
     let same : same_key (get_or (keys_of es) i d) k
