@@ -1,5 +1,6 @@
 pub mod BytesLemmas
 pub mod EntryLemmas
+pub mod FilledLemmas
 pub mod LogLemmas
 pub mod MemoryLemmas
 pub mod NamesLemmas

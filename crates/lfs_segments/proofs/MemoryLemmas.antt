@@ -152,9 +152,3 @@ written_more blocks start n block inside =
     ∙ sym (append_assoc zeros (block ∷ []) (drop (start + (n + 1)) blocks))
     ∙ ap (λ (xs : List (List ℕ)). xs ++ drop (start + (n + 1)) blocks) (replicate_more n block)
     ∙ ap (λ (k : ℕ). replicate (n + 1) block ++ drop (start + k) blocks) (sym more_long))
-
--- the first of some equal blocks is replaced
-pub set-replicate_first : (n : ℕ) (block first : List ℕ) → 0 < n → set (replicate n block) 0 first ≡ first
-    ∷ replicate (n - 1) block
-set-replicate_first zero block first some = absurd (omega arith)
-set-replicate_first (suc n) block first some = ap (λ (k : ℕ). first ∷ replicate k block) (omega arith)

@@ -1,3 +1,4 @@
+pub mod Blocks
 pub mod Bytes
 pub mod Entry
 pub mod Log

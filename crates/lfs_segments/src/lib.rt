@@ -3,6 +3,7 @@
 //! UNIX).
 #![tactic(auto)]
 
+mod blocks;
 mod bytes;
 pub mod entry;
 pub mod log;

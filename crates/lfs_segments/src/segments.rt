@@ -1,18 +1,18 @@
 //! The memory of the volume: segments of blocks, one of them active.
 
-ghost use Rattle.std.specs.Prelude.{◌≡◌, ◌+◌, ◌-◌, ◌*◌, ◌<◌, ◌≤◌, ◌↔◌, IfNone, IfOk, IfSome, IsErrOf, IsTrue, [], All, length, replicate, vec_len};
-ghost use Rattle.lfs_types.specs.Blocks.{zero_block};
+ghost use Rattle.std.specs.Prelude.{◌≡◌, ◌+◌, ◌-◌, ◌*◌, ◌<◌, ◌≤◌, ◌↔◌, IfNone, IfOk, IfSome, IsErrOf, IsTrue, [], All, length};
 ghost use Rattle.lfs_types.specs.declared.block.TheConstants.{BLOCK_SIZE};
 ghost use Rattle.lfs_types.specs.declared.limits.TheConstants.{SEGMENT_BLOCKS};
 ghost use Rattle.lfs_types.specs.Ranges.{least_segments, most_segments};
 ghost use Rattle.lfs_segments.specs.Log.{Expects};
-ghost use Rattle.lfs_segments.specs.Memory.{IsLaidOut, IsVolume, appended, block_at, fresh, label, log_start, next_address, opened, room_of, seen, written};
+ghost use Rattle.lfs_segments.specs.Memory.{IsLaidOut, IsVolume, appended, block_at, fresh, label, log_start, next_address, opened, room_of, seen};
 
+use crate::blocks::Blocks;
 use byteorder::{BigEndian, ByteOrder};
 use lfs_types::block::{Block, ZERO_BLOCK};
 use lfs_types::fault::FormatFault;
 pub use lfs_types::limits::{LEAST_SEGMENTS, MOST_SEGMENTS, SEGMENT_BLOCKS};
-use std::alloc::{AllocError, Global};
+use std::alloc::Global;
 use std::marker::Model;
 
 /// The first four bytes of the label, `LFS1`.
@@ -22,7 +22,7 @@ const MARK: u32 = 0x4c46_5331;
 /// at a time.
 #[derive(Drop)]
 pub struct Segments {
-    blocks: Vec<Block>,
+    blocks: Blocks,
     active: u32,
     fill: u32,
 }
@@ -32,9 +32,9 @@ impl Model for Segments {
 
     ghost Value = { SegmentMemory };
 
-    ghost view = { λ s. seen s.blocks.items s.active s.fill };
+    ghost view = { λ s. seen s.blocks s.active s.fill };
 
-    ghost invariant = { λ s. IsLaidOut (seen s.blocks.items s.active s.fill) };
+    ghost invariant = { λ s. IsLaidOut (seen s.blocks s.active s.fill) };
 }
 
 impl Segments {
@@ -54,8 +54,8 @@ impl Segments {
         if segments > MOST_SEGMENTS {
             return Err(FormatFault::TooMany);
         }
-        let mut blocks = zeros(alloc, (segments * SEGMENT_BLOCKS) as usize)?;
-        blocks[0] = label(segments, inodes);
+        let mut blocks = Blocks::zeros(alloc, (segments * SEGMENT_BLOCKS) as usize)?;
+        blocks.put(0, &[label(segments, inodes)]);
         Ok(Segments {
             blocks,
             active: 0,
@@ -73,7 +73,7 @@ impl Segments {
     {
         if is_volume(blocks.len(), active, fill) {
             Some(Segments {
-                blocks,
+                blocks: Blocks::of(blocks),
                 active,
                 fill,
             })
@@ -113,7 +113,7 @@ impl Segments {
         ensures block { result.now ≡ block_at self.now address }
         ensures laid_out { IsLaidOut self.now }
     {
-        &self.blocks[address as usize]
+        self.blocks.get(address as usize)
     }
 
     /// How many blocks fit behind those of the active segment.
@@ -134,7 +134,7 @@ impl Segments {
         ensures laid_out { IsLaidOut self.new }
     {
         let address = self.active * SEGMENT_BLOCKS + self.fill;
-        put(&mut self.blocks, address as usize, blocks);
+        self.blocks.put(address as usize, blocks);
         self.fill += blocks.len() as u32;
         address
     }
@@ -151,8 +151,7 @@ impl Segments {
         self.active = segment;
         self.fill = log_start(segment);
         let first = segment * SEGMENT_BLOCKS;
-        clear(
-            &mut self.blocks,
+        self.blocks.clear(
             (first + self.fill) as usize,
             (first + SEGMENT_BLOCKS) as usize,
         );
@@ -188,34 +187,4 @@ fn label(segments: u32, inodes: u32) -> Block
     BigEndian::write_u32(&mut block[4..8], segments);
     BigEndian::write_u32(&mut block[8..12], inodes);
     block
-}
-
-/// So many blocks without data, in memory taken at once.
-fn zeros(alloc: Global, count: usize) -> Result<Vec<Block>, AllocError>
-    ensures { IfOk result (λ blocks. blocks.items ≡ replicate count zero_block) }
-{
-    let mut blocks = Vec::with_capacity(alloc, count)?;
-    for _ in 0..count {
-        blocks.push(ZERO_BLOCK)?;
-    }
-    Ok(blocks)
-}
-
-/// Writes blocks over others, from a place on.
-fn put(blocks: &mut Vec<Block>, place: usize, others: &[Block])
-    requires { place + length others.now ≤ vec_len blocks.old }
-    ensures { blocks.new.items ≡ written blocks.old.items place others.now }
-{
-    blocks[place..place + others.len()].copy_from_slice(others);
-}
-
-/// Fills blocks with zeros, from a place to another.
-fn clear(blocks: &mut Vec<Block>, start: usize, end: usize)
-    requires ordered { start ≤ end }
-    requires inside { end ≤ vec_len blocks.old }
-    ensures { blocks.new.items ≡ written blocks.old.items start (replicate (end - start) zero_block) }
-{
-    for place in start..end {
-        blocks[place] = ZERO_BLOCK;
-    }
 }

@@ -13,7 +13,7 @@ invariant_of-self c =
     let view = c.self.view_is in
     let count : segment * 64 + 64 - (segment * 64 + log_start segment) ≡ 64 - log_start segment = omega arith in
     rw (c.clear.ensures, c.log_start-self-inside.ensures, count)
-    (opened_laid_out old.blocks.items old.active old.fill segment c.self.invariant (rw (← view) at inside))
+    (opened_laid_out old.blocks old.active old.fill segment c.self.invariant (rw (← view) at inside))
 
 pub returns-clause-laid_out : goal.returns-clause-laid_out
 returns-clause-laid_out c = invariant_of-self c
@@ -24,11 +24,11 @@ returns-clause-ready c =
     let segment = c.args.segment in
     let given = c.requires in
     let view = c.self.view_is in
-    let inside : segment < length old.blocks.items / 64 = rw (← view) at given in
+    let inside : segment < length old.blocks / 64 = rw (← view) at given in
     let count : segment * 64 + 64 - (segment * 64 + log_start segment) ≡ 64 - log_start segment = omega arith in
-    let ready : Expects (seen c.clear.new.blocks.items segment c.log_start-self-inside.result) [] =
+    let ready : Expects (seen c.clear.new.self segment c.log_start-self-inside.result) [] =
     rw (c.clear.ensures, c.log_start-self-inside.ensures, count)
     (subst (λ (m : SegmentMemory). Expects m [])
-    (sym (opened_is old.blocks.items old.active old.fill segment c.self.invariant inside))
-    (Expects-opened (seen old.blocks.items old.active old.fill) segment c.self.invariant inside)) in
+    (sym (opened_is old.blocks old.active old.fill segment c.self.invariant inside))
+    (Expects-opened (seen old.blocks old.active old.fill) segment c.self.invariant inside)) in
     ready

@@ -1,13 +1,13 @@
 use Rattle.std.proofs.Common.{◌≡◌, length, sym, subst, ◌∙◌, arith}
 use Rattle.std.proofs.lemmas.Bool.{false≢true}
-use Rattle.lfs_segments.specs.Memory.{IsVolume}
+use Rattle.lfs_segments.specs.Memory.{IsLaidOut, IsVolume, seen}
 use Rattle.lfs_segments.proofs.segments.Segments.over.Goals as goal
 
 pub invariant_of-result : goal.invariant_of-result
 invariant_of-result c =
     let count : c.len.result ≡ length c.args.blocks.items = c.len.ensures ∙ c.args.blocks.ok.0 in
     let volume = subst (λ n. IsVolume n c.args.active c.args.fill) count (c.is_volume.ensures.0 c.if-is_volume.true) in
-    record {
+    let laid : IsLaidOut (seen c.args.blocks.items c.args.active c.args.fill) = record {
       at_least = volume.at_least;
       at_most = volume.at_most;
       whole = omega (arith, volume.whole);
@@ -15,7 +15,8 @@ invariant_of-result c =
       active = volume.active_inside;
       begun = volume.begun;
       within = volume.within;
-    }
+    } in
+    rw c.of.ensures laid
 
 pub returns-else-is_volume-clause-none : goal.returns-else-is_volume-clause-none
 returns-else-is_volume-clause-none c = λ laid.

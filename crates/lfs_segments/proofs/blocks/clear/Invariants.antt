@@ -1,7 +1,7 @@
 use Rattle.std.proofs.Common.{◌≡◌, ◌-◌, replicate}
 use Rattle.lfs_types.specs.Blocks.{zero_block}
 use Rattle.lfs_segments.specs.Memory.{written}
-use Rattle.lfs_segments.proofs.segments.clear.Given as goal
+use Rattle.lfs_segments.proofs.blocks.clear.Given as goal
 
 -- zeros so far, and all else stays
 abbrev pub invariant-loop-place : goal.invariant-loop-place

@@ -2,7 +2,7 @@ use Rattle.std.proofs.Common.{◌≡◌, ℕ, List, ◌+◌, ◌-◌, ◌<◌, l
 use Rattle.lfs_types.specs.Blocks.{zero_block}
 use Rattle.lfs_segments.specs.Memory.{written}
 use Rattle.lfs_segments.proofs.MemoryLemmas.{written_more}
-use Rattle.lfs_segments.proofs.segments.clear.Goals as goal
+use Rattle.lfs_segments.proofs.blocks.clear.Goals as goal
 
 pub loop-place-preserved : goal.loop-place-preserved
 unfolding zero_block
