@@ -30,21 +30,20 @@ struct Diary<'r, R: Abort> {
     rt: &'r R,
     alloc: Global,
     days: &'r [(&'r str, &'r str)],
+    next: usize,
     told: Vec<u8>,
 }
 
 impl<R: Abort> Rounds for Diary<'_, R> {
     type Client = Day;
 
-    ghost use Rattle.std.specs.Prelude.{Unit};
-
     ghost asks = { λ _ _. Unit {0} };
 
     ghost keeps = { λ _ _ _. Unit {0} };
 
     fn clients(&mut self) -> Option<Vec<Day>> {
-        let ((first, second), rest) = self.days.split_first()?;
-        self.days = rest;
+        let (first, second) = self.days.get(self.next)?;
+        self.next = self.next.saturating_add(1);
         let day = Day {
             first: calls(self.rt, self.alloc, first),
             second: calls(self.rt, self.alloc, second),
@@ -85,6 +84,7 @@ fn serve_days<R: Abort + Threads + Wait + Sync>(
         rt,
         alloc,
         days,
+        next: 0,
         told: Vec::new(alloc),
     };
     let volume = fresh_volume(alloc, SMALL).expect(rt, "a volume");
