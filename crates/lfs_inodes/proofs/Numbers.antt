@@ -61,10 +61,6 @@ pub number_at-one : (xs ys : List ℕ) (at n : ℕ) → AreBytes xs → AreBytes
 unfolding number_at
 number_at-one xs ys at n p q e = big_from-one at n xs ys p q e
 
-pub number_at-lt : (xs : List ℕ) (at n : ℕ) → AreBytes xs → number_at xs at n < 256 ^ n
-unfolding number_at
-number_at-lt xs at n p = big_from-lt at n xs p
-
 -- a write of a number's bytes at a place, with what stood before and after it
 Puts-from_parts : (old : List ℕ) (at n number : ℕ) → at + n ≤ length old → number < 256 ^ n
     → AreBytes (take at old ++ (bytes_high_first n number ++ drop (at + n) old))

@@ -1,6 +1,6 @@
 -- A list with zeros from a place on.
 use Rattle.std.proofs.Common.{◌≡◌, ℕ, ◌+◌, ◌-◌, ◌*◌, ◌<◌, ◌≤◌, List, [], length, slice_index, replicate}
-use Rattle.std.proofs.Common.{take, refl, sym, ◌∙◌, arith, inl, inr}
+use Rattle.std.proofs.Common.{take, sym, ◌∙◌, arith, inl, inr}
 use Rattle.std.proofs.lemmas.Bool.{cases_lt}
 use Rattle.std.proofs.lemmas.List.{ext_get_or, get_or-replicate}
 use Rattle.std.proofs.lemmas.List.{get_or_past, get_or_append_left, get_or-append_right, get_or-take, length-append}
@@ -42,11 +42,6 @@ slice_index-zeroed_from n xs k le = elim (cases_lt k (length xs)) [
       ∙ slice_index-zeros (length xs - n) (k - n)
   | inr past ↦ get_or_past (zeroed_from n xs) k 0 (omega (arith, length-zeroed_from n xs))
 ]
-
--- a block of zeros alone
-pub zeroed_from-first : (xs : List ℕ) → length xs ≡ 512 → zeroed_from 0 xs ≡ zero_block
-unfolding zero_block
-zeroed_from-first xs long = let all : length xs - 0 ≡ 512 = omega arith in rw all refl
 
 -- four zero bytes are the number 0
 pub number_at-zeros : (xs : List ℕ) (at : ℕ) → AreZero xs at (at + 4) → number_at xs at 4 ≡ 0

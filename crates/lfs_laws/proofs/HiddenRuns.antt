@@ -69,12 +69,8 @@ use Rattle.lfs_model.proofs.Members.{children-hang, children-has, children-sorte
 use Rattle.lfs_laws.proofs.RowLaws.{moved_law}
 use Rattle.lfs_laws.proofs.ViewLaw.{view}
 use Rattle.lfs_types.proofs.Maps.{get-insert_same, get-insert_other, get-remove_same, get-remove_other}
-use Rattle.lfs_types.proofs.Somewhere.{There, none_there}
+use Rattle.lfs_types.proofs.Somewhere.{none_there}
 use Rattle.lfs_laws.proofs.LawFlags.{both}
-
-some_too : {X : Type 0} (o p : Option X) (x : X) → is_some o ≡ is_some p → o ≡ Some x → There p
-some_too o None x e f = absurd (cc)
-some_too o (Some y) x e f = record { value = y; is = refl }
 
 -- ---- one number in two worlds
 

@@ -30,10 +30,6 @@ granted other uid gid mode bit =
     cond (is_the_superuser other) true (cond (other.uid == uid) (has_bit mode (owner_mask bit))
     (cond (is_in_group other gid) (has_bit mode (group_mask bit)) (has_bit mode (other_mask bit))))
 
-by_parts : (other : Caller) (r : Row) (bit : Bit) → grants_of other (attrs_of r.file) bit
-    ≡ granted other r.file.uid r.file.gid r.file.mode bit
-by_parts other r bit = refl
-
 kept_400 : (m : ℕ) → has_bit (set_id_cleared m) 0o400 ≡ has_bit m 0o400
 kept_400 m = ap (λ x. x == 1) (omega arith)
 

@@ -27,9 +27,6 @@ use Rattle.lfs_laws.proofs.Fates.Fate.{Stays, Goes, Moves, Changes, Remodes, Giv
 pub row_of : (o : Option Row) (x s : Row) → o ≡ Some x → o ≡ Some s → s ≡ x
 row_of o x s e is = cc
 
-same_field : {A : Type 0} (field : Row → A) (x s : Row) → s ≡ x → field s ≡ field x
-same_field field x s e = ap field e
-
 -- a row that hangs where another hung
 hangs_by : (r x s : Row) → s ≡ x → x.parent ≡ r.parent → x.name ≡ r.name → HangsStill r s
 hangs_by r x s e parent name = record {

@@ -4,8 +4,8 @@
 -- there (`named_at-same`), and both stay at each address before the log's end or in another segment. An opened segment
 -- must have been clean, since its entries go; another thing that `owner_in` looked at would have to be kept by Extends
 -- too.
-use Rattle.std.proofs.Common.{◌≡◌, ◌≢◌, ℕ, ◌+◌, ◌*◌, ◌/◌, ◌%◌, ◌<◌, ◌≤◌, inl, inr, List, Option, Some, None}
-use Rattle.std.proofs.Common.{option_and_then, option_map, length, refl, ap, ◌∙◌, ⊎_elim, arith}
+use Rattle.std.proofs.Common.{◌≡◌, ◌≢◌, ℕ, ◌+◌, ◌*◌, ◌/◌, ◌%◌, ◌<◌, ◌≤◌, inl, inr, List, Some}
+use Rattle.std.proofs.Common.{option_and_then, length, refl, ap, ◌∙◌, ⊎_elim, arith}
 use Rattle.std.proofs.lemmas.Bool.{cases_eq, cases_lt}
 use Rattle.lfs_segments.specs.Log.{Extends, IsOlder, entry_at}
 use Rattle.lfs_segments.specs.Memory.{IsLaidOut, SegmentMemory, block_at, next_address, opened, room_of}
@@ -17,10 +17,8 @@ use Rattle.lfs_bmap.specs.Blocks.{code_of, logical_of}
 use Rattle.lfs_bmap.specs.Owners.{owner_at, owner_in}
 use Rattle.lfs_bmap.specs.declared.blocks.FileBlock.{FileBlock}
 use Rattle.lfs_segments.specs.declared.entry.SummaryEntry.{SummaryEntry}
-use Rattle.lfs_segments.specs.declared.entry.LogicalBlock.{LogicalBlock}
 use Rattle.lfs_segments.specs.declared.entry.LogicalBlock.TheVariants.{Inodes}
-use Rattle.lfs_inodes.specs.declared.inode.Inode.{Inode}
-use Rattle.lfs_log.specs.Names.{inode_key, named_at, record_owner, record_at, record_in}
+use Rattle.lfs_log.specs.Names.{named_at, record_at, record_in}
 use Rattle.lfs_ifile.specs.declared.segment.SegState.TheVariants.{Clean}
 use Rattle.lfs_ifile.specs.Tables.{Tables, row_of}
 use Rattle.lfs_segments.proofs.MemoryLemmas.{log_start-le}
@@ -130,15 +128,3 @@ pub named_at-record : (m : SegmentMemory) (address slot number version : ℕ) (e
 unfolding named_at
 named_at-record m address slot number version e low named inodes found =
     owner_at-record (entry_at m) (record_at m) address slot number version e low named inodes found
-
--- an address without an entry names nothing
-pub named_at-none : (m : SegmentMemory) (place : ℕ) → entry_at m (place / 4) ≡ None → named_at m place ≡ None
-unfolding named_at owner_at
-named_at-none m place none = rw none refl
-
--- whose record stands in a slot of an inode block
-pub owner_in-packed : (block : LogicalBlock) (number version slot : ℕ) (found : Option (ℕ × ℕ)) (held : Option Inode)
-    (v : Inode) → block ≡ Inodes → found ≡ option_map inode_key held → held ≡ Some v
-    → owner_in block number version slot found ≡ Some (record_owner v)
-unfolding owner_in
-owner_in-packed block number version slot found held v inodes is here = rw (inodes, is, here) refl

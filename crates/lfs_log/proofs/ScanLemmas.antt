@@ -98,14 +98,6 @@ infos-at_most m (x ∷ names) =
     let both = length-append (entry_infos m x) (flat_map (entry_infos m) names) in
     omega arith
 
--- a segment has at most 248
-pub infos_of-at_most : (m : SegmentMemory) (segment : ℕ) → length (infos_of m segment) ≤ 248
-unfolding infos_of
-infos_of-at_most m segment =
-    let all = infos-at_most m (names_from m (first_of segment) (64 - log_start segment)) in
-    let few = names_from-at_most m segment in
-    omega arith
-
 -- the entries of a summary from one on
 pub expected_more : (entries : List SummaryEntry) (next count : ℕ) → next < count → count ≤ length entries
     → drop next (take count entries) ≡ get_or entries next unused ∷ drop (next + 1) (take count entries)

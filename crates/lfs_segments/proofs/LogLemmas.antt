@@ -109,18 +109,6 @@ entry_at-same m n address same =
     ap next_entry (expected-same (log_block n segment) (log_block m segment) (address - first_of segment)
     (λ k below. same (first_of segment + k) (omega arith) (omega arith)))
 
--- the names of addresses whose entries are the same
-pub names_from-same : (m n : SegmentMemory) (first count : ℕ)
-    → ((a : ℕ) → first ≤ a → a < first + count → entry_at n a ≡ entry_at m a) → names_from n first count
-    ≡ names_from m first count
-unfolding names_from
-names_from-same m n first zero same = refl
-names_from-same m n first (suc count) same =
-    rw (
-      names_from-same m n first count (λ a from below. same a from (omega arith)),
-      same (first + count) (omega arith) (omega arith),
-    ) refl
-
 -- one address more
 pub names_from-more : (m : SegmentMemory) (first count : ℕ) → names_from m first (count + 1) ≡ names_from m first count
     ++ named_one (first + count) (entry_at m (first + count))

@@ -3,7 +3,7 @@
 -- earlier blocks of its segment, so all that is older stays and the expectation takes one `after_block`; an opened
 -- segment is zeros, which are no summary, so its old names are gone. Both fall if a name could rest on a later block,
 -- or if `summary_entries` made something of `zero_block`.
-use Rattle.std.proofs.Common.{◌≡◌, ◌≢◌, ℕ, ◌+◌, ◌-◌, ◌*◌, ◌/◌, ◌<◌, ◌≤◌, ◌⊎◌, inl, inr, List, [], ◌∷◌, Some, None}
+use Rattle.std.proofs.Common.{◌≡◌, ◌≢◌, ℕ, ◌+◌, ◌-◌, ◌*◌, ◌/◌, ◌<◌, ◌≤◌, ◌⊎◌, inl, inr, List, [], ◌∷◌, Some}
 use Rattle.std.proofs.Common.{length, get_or, replicate, refl, ap, ◌∙◌, ⊎_elim, arith}
 use Rattle.std.specs.List.{slice_get}
 use Rattle.std.proofs.lemmas.Bool.{cases_lt}
@@ -15,7 +15,7 @@ use Rattle.lfs_segments.specs.Memory.{IsLaidOut, SegmentMemory, appended, block_
 use Rattle.lfs_segments.specs.Memory.{next_address, opened, room_of, seen, written}
 use Rattle.lfs_segments.specs.Reading.{summary_entries}
 use Rattle.lfs_segments.proofs.LogLemmas.{entry_at-in, entry_at-pending, entry_at-same, expected-more, expected-same}
-use Rattle.lfs_segments.proofs.LogLemmas.{next_entry, next_entry-zeros_from}
+use Rattle.lfs_segments.proofs.LogLemmas.{next_entry}
 use Rattle.lfs_segments.proofs.MemoryLemmas.{get_or-written_after, get_or-written_before, get_or-written_inside}
 use Rattle.lfs_segments.proofs.MemoryLemmas.{length-written, log_start-le}
 
@@ -174,14 +174,6 @@ module _ (m : SegmentMemory) (segment : ℕ) (laid : IsLaidOut m) (inside : segm
       (λ (before : a / 64 < segment). inl (omega arith))
       (λ (beyond : segment ≤ a / 64). inr (omega arith))
       (cases_lt (a / 64) segment)))
-
-  -- and its own are gone
-  pub entry_at-opened : (a : ℕ) → a / 64 ≡ segment → entry_at (opened m segment) a ≡ None
-  unfolding expected
-  entry_at-opened a here =
-      entry_at-in (opened m segment) segment a here
-      ∙ next_entry-zeros_from (log_block (opened m segment) segment) 0 (a - first_of segment) (omega arith) refl
-      (λ some. block_at-opened (first_of segment + 0) (omega arith) (omega arith))
 
   -- its log expects a summary
   pub Expects-opened : Expects (opened m segment) []
