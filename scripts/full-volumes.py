@@ -356,6 +356,11 @@ def dense(run, files, blocks, begin=0, count=DIRECT, shuffled=False):
     places = [(path, block) for path in files for block in range(begin, begin + count)]
     if shuffled:
         run.rng.shuffle(places)
+    written(run, places, blocks)
+
+
+def written(run, places, blocks):
+    """These blocks of files are written, so many to a Sync."""
     for at in range(0, len(places), blocks):
         for path, block in places[at:at + blocks]:
             run.write(path, block)
@@ -389,6 +394,38 @@ def cut_by_blocks(run):
             run.unlink(path) if rng.random() < removes else run.shorten(path)
             run.say("sync")
         for _ in range(rng.choice([0, 0, 1, 3])):
+            run.say("pass")
+
+
+def written_by_turns(run):
+    """Groups of files are written by turns past the twelfth block, so that eight blocks have as many indirect blocks; then the
+    user cuts files by a block with a Sync behind each, of as many groups, and passes are made."""
+    rng = run.rng
+    run.inodes = 1024
+    by_a_user(run)
+    run.directory("/d")
+    size, blocks = rng.choice([4, 5, 6, 7, 8, 8, 8, 9, 10, 11]), rng.choice([10, 12, 14, 15, 16, 16, 16, 18])
+    count = rng.choice([2, 4, 4, 4, 5, 6, 8, 12])
+    groups = min(run.segments * SEGMENT // (size * count) + 1, 900 // size)
+    names = [[f"/d/{group * size + i}" for i in range(size)] for group in range(groups)]
+    for name in sum(names, []):
+        run.file(name)
+    run.say("sync")
+    places = [(name, DIRECT + block) for group in names for block in range(count) for name in group]
+    fills = [places] if rng.random() < 0.7 else [places, [(name, block + count) for name, block in places[:10 * blocks]]]
+    for at, places in enumerate(fills):
+        for _ in range(at * rng.randrange(1, 4)):
+            run.say("pass")
+        written(run, places, blocks)
+    spread = [group[i] for i in range(size) for group in names]
+    order = spread if rng.random() < 0.7 else rng.sample(run.files, len(run.files))
+    at = 0
+    for _ in range(rng.randrange(1, 5)):
+        for _ in range(rng.choice([5, 10, 15, 20, 25, 30, 40])):
+            run.shorten(order[at % len(order)])
+            run.sometimes("sync", 0.95)
+            at += 1
+        for _ in range(rng.choice([1, 1, 2, 3])):
             run.say("pass")
 
 
@@ -485,7 +522,7 @@ def big_files_locked(run):
 
 SHAPES = [small_files, past_the_twelfth, records, long_names, mixed, removed_one_by_one, cut_one_by_one, directories,
           rewritten, unlinked_and_synced, all_modes, empty_files, spread_files, long_runs]
-SHAPES += [with_locks(shape) for shape in SHAPES] + [big_files_locked, cut_by_blocks, directories_alone_locked]
+SHAPES += [with_locks(shape) for shape in SHAPES] + [big_files_locked, cut_by_blocks, written_by_turns, directories_alone_locked]
 
 
 def emptying(run):

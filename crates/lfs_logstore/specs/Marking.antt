@@ -4,12 +4,12 @@ use Rattle.lfs_types.specs.declared.cleaner.BlockInfo.{BlockInfo}
 use Rattle.lfs_types.specs.declared.cleaner.CleanFault.{CleanFault}
 use Rattle.lfs_staging.specs.declared.parts.Parts.{Parts}
 use Rattle.lfs_segwrite.specs.Applying.{WritesWaiting}
-use Rattle.lfs_segwrite.specs.Marking.{LacksRoomFor, MarksAgain}
+use Rattle.lfs_segwrite.specs.Finishing.{LacksRoomFor, MarksAgain}
 use Rattle.lfs_staging.specs.Store.{IsSettled}
 
 -- Blocks may be written again with this result, from one state of the store to another: all that are named with their
--- present address once what waited was written, which are counted; none where there is no room behind it, or none to
--- clean a segment then, which comes only where at most one segment was clean.
+-- present address once what waited was written, which are counted; none where there is no room for them, or no dirty
+-- segment could be finished behind them, which comes only where at most one segment was clean.
 pub record WritesAgain (old : Parts) (marks : List BlockInfo) (result : Result ℕ CleanFault)
     (new : Parts) : Type 0 where
   pub marked : IfOk result (λ count. MarksAgain marks count old new)

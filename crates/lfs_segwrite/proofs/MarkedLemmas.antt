@@ -28,7 +28,8 @@ use Rattle.lfs_segwrite.specs.Collecting.{blocks_of_entries, entries_of}
 use Rattle.lfs_staging.specs.Files.{content_of}
 use Rattle.lfs_segwrite.specs.Flushing.{Flushes, Waits}
 use Rattle.lfs_staging.specs.Keys.{log_state}
-use Rattle.lfs_segwrite.specs.Marking.{AreNamed, HasRoomToMark, IsOnWay, IsRewritten, MarksAgain, MarksSettled}
+use Rattle.lfs_segwrite.specs.Finishing.{HasRoomToMark, MarksAgain}
+use Rattle.lfs_segwrite.specs.Marking.{AreNamed, IsOnWay, IsRewritten, MarksSettled}
 use Rattle.lfs_segwrite.specs.Marking.{SameShown, StagesNamed, blocks_to_mark, code_named, keys_to_mark}
 use Rattle.lfs_segwrite.specs.Room.{KeepsFiles}
 use Rattle.lfs_staging.specs.Store.{IsSettled, IsStore}
@@ -279,7 +280,7 @@ module _ (old mid staged new : Parts) (marks named : List BlockInfo) (keeps : Ke
 -- what waits was written, and then the blocks were
 pub marks_after : (marks : List BlockInfo) (count : ℕ) (old mid new : Parts) → IsStore old → IsStore mid → IsStore new
     → WritesWaiting old mid → MarksSettled marks count mid new
-    → (old.log.clean ≤ 1 → 0 < count → 0 < mid.log.clean → HasRoomToMark marks mid) → MarksAgain marks count old new
+    → (old.log.clean ≤ 1 → 0 < count → HasRoomToMark marks mid) → MarksAgain marks count old new
 marks_after marks count old mid new first before store w m last =
     let still : (s : ℕ) → s < old.log.memory.segments → DirtyIn (log_state old) s
     → DirtyIn (log_state mid) s = w.log.dirty.dirty in

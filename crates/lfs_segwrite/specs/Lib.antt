@@ -7,3 +7,4 @@ pub mod Flushing
 pub mod Recording
 pub mod Applying
 pub mod Gaining
+pub mod Finishing

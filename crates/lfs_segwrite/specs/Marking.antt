@@ -1,5 +1,5 @@
 -- Blocks that are written again at the log's end, as a cleaner asks.
-use Rattle.std.specs.Prelude.{◌≡◌, ◌≢◌, ◌⊎◌, ℕ, zero, suc, ◌+◌, ◌/◌, ◌<◌, ◌≤◌, ◌==◌, false, List, [], ◌∷◌, ◌++◌, All}
+use Rattle.std.specs.Prelude.{◌≡◌, ◌≢◌, ◌⊎◌, ℕ, zero, suc, ◌+◌, ◌/◌, ◌<◌, ◌≤◌, ◌==◌, List, [], ◌∷◌, ◌++◌, All}
 use Rattle.std.specs.Prelude.{Contains, AllPairs, length, map, min, if◌then◌else◌, nat_lt, IsSome}
 use Rattle.std.specs.List.{flat_map}
 use Rattle.std.specs.Set.{distinct_count}
@@ -21,11 +21,8 @@ use Rattle.lfs_bmap.specs.Moves.{DirtyIn, Moves, StaysDirty, present_address}
 use Rattle.lfs_bmap.specs.Reading.{address, data_block}
 use Rattle.lfs_bmap.specs.Ways.{IsBlockWay, codes_on, way_of}
 use Rattle.lfs_staging.specs.declared.parts.Parts.{Parts}
-use Rattle.lfs_segwrite.specs.Applying.{WritesWaiting}
 use Rattle.lfs_segwrite.specs.Collecting.{inode_blocks}
 use Rattle.lfs_segwrite.specs.Flushing.{Waits}
-use Rattle.lfs_segwrite.specs.Room.{HasCleanable, HasNoCleanable}
-use Rattle.lfs_segwrite.specs.declared.room.TheConstants.{SPARE, WHOLE}
 use Rattle.lfs_staging.specs.Keys.{log_state}
 use Rattle.lfs_staging.specs.Staging.{IsStaged, TakesOnly}
 use Rattle.lfs_staging.specs.View.{key_of, record_of, tree_of, version_of, waiting_in}
@@ -119,30 +116,6 @@ pub record IsRewritten (old new : LogState) (info : BlockInfo) : Type 0 where
   pub elsewhere : new.at info.ino (code_named info.lbn) ≢ old.at info.ino (code_named info.lbn)
   pub outside : DirtyIn old (seg_of (new.at info.ino (code_named info.lbn))) → ⊥
 
--- Behind so many blocks some segment can still be cleaned in what the active segment and a clean one have left, with
--- some to spare.
-abbrev pub LeavesCleanable : ℕ → Parts → Type 0
-LeavesCleanable blocks p = (s : ℕ) × HasCleanable p false (blocks + SPARE) (room_of p.log.memory + WHOLE) s
-
--- behind the blocks that some infos name a segment can be cleaned
-pub record HasRoomToMark (marks : List BlockInfo) (p : Parts) : Type 0 where
-  pub named : List BlockInfo
-  pub are_named : AreNamed (log_state p) marks named
-  pub leaves : LeavesCleanable (blocks_to_mark named) p
-
--- So many blocks can't be written for the cleaner: no segment is clean and they don't fit the active one, or no segment
--- could be cleaned behind them.
-abbrev pub LacksRoomToMark : ℕ → Parts → Type 0
-LacksRoomToMark blocks p =
-    ((p.log.clean ≡ 0) × (room_of p.log.memory < blocks))
-    ⊎ HasNoCleanable p false (blocks + SPARE) (room_of p.log.memory + WHOLE)
-
--- the blocks that some infos name can't be written again for want of room
-pub record LacksRoomFor (marks : List BlockInfo) (p : Parts) : Type 0 where
-  pub named : List BlockInfo
-  pub are_named : AreNamed (log_state p) marks named
-  pub lacks : LacksRoomToMark (blocks_to_mark named) p
-
 -- The blocks that some infos name were written again, so many, and nothing was done where none is named. Each key that
 -- is on no way to one of them has the place that it had, and the log grew by no more than the blocks that they take:
 -- where it ended, or from the start of a segment that was opened for them, where they had no room. What moved went to
@@ -172,17 +145,3 @@ pub record MarksSettled (marks : List BlockInfo) (count : ℕ) (old new : Parts)
       × (room_of old.log.memory ≤ room_of new.log.memory + blocks_to_mark named) × (new.log.clean ≡ old.log.clean))
       ⊎ ((SEGMENT_BLOCKS ≤ room_of new.log.memory + blocks_to_mark named + 1) × (new.log.clean + 1 ≡ old.log.clean)
       × (room_of old.log.memory < blocks_to_mark named))
-
--- What waits was written first. Then the blocks that some infos name, as the map then stood, were written again, so
--- many. What moved went to segments that weren't dirty, these are dirty still, and two segments were opened at most.
--- Where one was clean at most, and is by then, blocks were written only where a segment can be cleaned behind them.
-pub record MarksAgain (marks : List BlockInfo) (count : ℕ) (old new : Parts) : Type 0 where
-  pub between : Parts
-  pub written : WritesWaiting old between
-  pub again : MarksSettled marks count between new
-  pub opened : old.log.clean ≤ new.log.clean + 2
-  pub last : old.log.clean ≤ 1 → 0 < count → 0 < between.log.clean → HasRoomToMark marks between
-  pub moves : Moves (DirtyIn (log_state old)) (log_state old) (log_state new)
-  pub dirty : StaysDirty (log_state old) (log_state new)
-  pub blocks : (a : ℕ) → a / SEGMENT_BLOCKS < old.log.memory.segments → DirtyIn (log_state old) (a / SEGMENT_BLOCKS)
-      → block_at new.log.memory a ≡ block_at old.log.memory a

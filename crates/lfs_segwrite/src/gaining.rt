@@ -109,7 +109,7 @@ fn is_worth(parts: &Parts, cost: PassCost) -> bool
 }
 
 /// Whether a segment is dirty.
-fn is_dirty(parts: &Parts, segment: u32) -> bool
+pub(crate) fn is_dirty(parts: &Parts, segment: u32) -> bool
     requires store { IsStore parts.now }
     requires inside { segment < parts.now.log.memory.segments }
     ensures { IsTrue result ↔ DirtyIn (log_state parts.now) segment }

@@ -5,6 +5,7 @@
 pub mod applying;
 pub mod collecting;
 mod counting;
+mod finishing;
 pub mod flushing;
 pub mod gaining;
 pub mod landing;

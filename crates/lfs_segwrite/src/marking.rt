@@ -16,15 +16,17 @@ ghost use Rattle.lfs_bmap.specs.Ways.{codes_on};
 ghost use Rattle.lfs_segwrite.specs.Applying.{HasRoom, WritesWaiting};
 ghost use Rattle.lfs_staging.specs.Files.{content_of};
 ghost use Rattle.lfs_staging.specs.Keys.{log_state};
-ghost use Rattle.lfs_segwrite.specs.Marking.{AddsNamed, AreNamed, HasRoomToMark, IsNamed, LacksRoomFor, LacksRoomToMark, LeavesCleanable, MarksAgain, MarksSettled, StagesAgain, StagesNamed, code_named};
+ghost use Rattle.lfs_segwrite.specs.Finishing.{HasRoomToMark, LacksRoomFor, LacksRoomToMark, MarksAgain, SomeIsFinishable};
+ghost use Rattle.lfs_segwrite.specs.Marking.{AddsNamed, AreNamed, IsNamed, MarksSettled, StagesAgain, StagesNamed, code_named};
 ghost use Rattle.lfs_staging.specs.Staging.{HasFrames, IsStaged, MayStage, StagesTable};
 ghost use Rattle.lfs_staging.specs.Store.{IsSettled, IsStore, IsWithin};
 ghost use Rattle.lfs_staging.specs.View.{blocks_of, tree_from, tree_of};
 ghost use Rattle.lfs_staging.specs.declared.records.TheConstants.{WAITING_LIMIT};
 
 use crate::counting::{blocks_to_mark, code_named};
+use crate::finishing::has_finishable;
 use crate::flushing::flush;
-use crate::room::{NoRoom, SPARE, WHOLE, has_cleanable, make_room};
+use crate::room::{NoRoom, make_room};
 use crate::writing::write_waiting;
 use lfs_bmap::blocks::FileBlock;
 use lfs_bmap::tables::MOST_DEPTH;
@@ -49,7 +51,9 @@ fn has_few_clean(parts: &Parts) -> bool
 }
 
 /// Writes what waits, and then writes again, at the log's end, each block that an info of a list of at
-/// most 8 names. Says how many these are.
+/// most 8 names. Says how many these are. Where at most one segment was clean, this is refused unless a
+/// dirty segment can be finished behind these blocks: what each takes is counted then, until one can. With
+/// more clean segments nothing is counted.
 pub fn mark(parts: &mut Parts, marks: &[BlockInfo]) -> Result<u32, NoRoom>
     requires store { IsStore parts.old }
     requires room { HasRoom parts.old }
@@ -70,8 +74,7 @@ pub fn mark(parts: &mut Parts, marks: &[BlockInfo]) -> Result<u32, NoRoom>
 
 /// Writes again, at the log's end, each block that an info of a list of at most 8 names: its
 /// address is not 0, and is the block's present one. Says how many these are; an info that stands
-/// twice counts once. With care nothing is written where a segment is clean and none could be cleaned
-/// behind it.
+/// twice counts once. With care nothing is written where no dirty segment could be finished behind it.
 pub(crate) fn mark_settled(
     parts: &mut Parts,
     marks: &[BlockInfo],
@@ -84,7 +87,7 @@ pub(crate) fn mark_settled(
     ensures settled { IsSettled parts.new }
     ensures content { content_of parts.new ≡ content_of parts.old }
     ensures marked { IfOk result (λ count. MarksSettled marks.now count parts.old parts.new) }
-    ensures last { IfOk result (λ count. careful ≡ true → 0 < count → 0 < parts.old.log.clean
+    ensures last { IfOk result (λ count. careful ≡ true → 0 < count
         → HasRoomToMark marks.now parts.old) }
     ensures few { IfOk result (λ count. count ≤ length marks.now) }
     ensures refused { OnErr result (parts.new ≡ parts.old) }
@@ -97,26 +100,20 @@ pub(crate) fn mark_settled(
     if infos.is_empty() {
         return Ok(0);
     }
-    make_room_to_mark(parts, blocks_to_mark(infos), careful)?;
+    make_room_to_mark(parts, infos, blocks_to_mark(infos), careful)?;
     stage_named(parts, infos);
     flush(parts);
     Ok(infos.len() as u32)
 }
 
-/// Whether so many blocks may be written for the cleaner where few segments are clean: none is, so that they must fit, or
-/// some segment can be cleaned behind them.
-fn may_mark(parts: &Parts, blocks: u32) -> bool
-    requires store { IsStore parts.now }
-    requires few { blocks ≤ 27 }
-    ensures { IsTrue result ↔ ((parts.now.log.clean ≡ 0) ⊎ LeavesCleanable blocks parts.now) }
-{
-    let room = parts.log.room() + WHOLE;
-    parts.log.clean() == 0 || has_cleanable(parts, false, blocks + SPARE, room)
-}
-
-/// Makes room for so many blocks that are written for the cleaner, in a segment that is opened where the active one has
-/// too little left. With care there is none where a segment is clean and none could be cleaned behind them.
-fn make_room_to_mark(parts: &mut Parts, blocks: u32, careful: bool) -> Result<(), NoRoom>
+/// Makes room for the blocks of some infos, so many, that are written for the cleaner, in a segment that is opened where
+/// the active one has too little left. With care there is none where no dirty segment could be finished behind them.
+fn make_room_to_mark(
+    parts: &mut Parts,
+    infos: &[BlockInfo],
+    blocks: u32,
+    careful: bool,
+) -> Result<(), NoRoom>
     requires store { IsStore parts.old }
     requires few { blocks ≤ 27 }
     ensures store { IsStore parts.new }
@@ -128,14 +125,13 @@ fn make_room_to_mark(parts: &mut Parts, blocks: u32, careful: bool) -> Result<()
         × (state_of parts.old.log.tables parts.new.log.memory.active ≡ Clean)) }
     ensures fresh { OnOk result (room_of parts.old.log.memory < blocks
         → SEGMENT_BLOCKS ≤ room_of parts.new.log.memory + 1) }
-    ensures last { OnOk result (careful ≡ true → 0 < parts.old.log.clean
-        → LeavesCleanable blocks parts.old) }
+    ensures last { OnOk result (careful ≡ true → SomeIsFinishable infos.now blocks parts.old) }
     ensures refused { OnErr result (parts.new ≡ parts.old) }
-    ensures lacking { OnErr result (LacksRoomToMark blocks parts.old) }
+    ensures lacking { OnErr result (LacksRoomToMark infos.now blocks parts.old) }
     ensures reserved { OnErr result ((careful ≡ true) ⊎ (parts.old.log.clean ≤ 0)) }
     ensures short { OnErr result (careful ≡ false → room_of parts.old.log.memory < blocks) }
 {
-    if careful && !may_mark(parts, blocks) {
+    if careful && !has_finishable(parts, infos, blocks) {
         return Err(NoRoom);
     }
     make_room(parts, blocks, 0)

@@ -1,5 +1,5 @@
 use Rattle.std.proofs.Common.{ℕ, Result, Ok, Err, IfOk, OnErr, inl, inr, sym, subst, arith}
-use Rattle.lfs_segwrite.specs.Marking.{LacksRoomFor}
+use Rattle.lfs_segwrite.specs.Finishing.{LacksRoomFor}
 use Rattle.lfs_segwrite.proofs.MarkedLemmas.{marks_after}
 use Rattle.lfs_segwrite.proofs.marking.mark.Goals as goal
 
@@ -18,7 +18,7 @@ returns-clause-marked c =
     marks_after c.args.marks.now count c.args.parts.now c.write_waiting.new.parts c.mark_settled.new.parts
     c.requires.store c.write_waiting.ensures.store
     c.mark_settled.ensures.store c.write_waiting.ensures again
-    (λ few some free. last (c.has_few_clean-careful.ensures.1 few) some free)) c.mark_settled.ensures.marked
+    (λ few some. last (c.has_few_clean-careful.ensures.1 few) some)) c.mark_settled.ensures.marked
     c.mark_settled.ensures.last
 
 pub returns-clause-lacking : goal.returns-clause-lacking

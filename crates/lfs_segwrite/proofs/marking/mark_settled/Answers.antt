@@ -4,7 +4,8 @@ use Rattle.std.proofs.lemmas.Bool.{cases_lt, eqb-false}
 use Rattle.lfs_segments.specs.Memory.{room_of}
 use Rattle.lfs_staging.specs.declared.parts.Parts.{Parts}
 use Rattle.lfs_staging.specs.Keys.{log_state}
-use Rattle.lfs_segwrite.specs.Marking.{AreNamed, LacksRoomToMark, LeavesCleanable}
+use Rattle.lfs_segwrite.specs.Finishing.{LacksRoomToMark, SomeIsFinishable}
+use Rattle.lfs_segwrite.specs.Marking.{AreNamed}
 use Rattle.lfs_staging.proofs.KeptLemmas.{store_staged}
 use Rattle.lfs_segwrite.proofs.MarkedLemmas.{marked_content, marks_again, settled_still, staged_fits}
 use Rattle.lfs_segwrite.proofs.NamedLemmas.{named_kept}
@@ -71,13 +72,13 @@ returns-clause-marked c =
     + 1) c.blocks_to_mark.ensures.blocks room.fresh)
 
 pub returns-clause-last : goal.returns-clause-last
-returns-clause-last c = λ care some free.
+returns-clause-last c = λ care some.
     record {
       named = c.items-infos.result.now;
       are_named = are_last c;
       leaves =
-          subst (λ n. LeavesCleanable n c.args.parts.now) c.blocks_to_mark.ensures.blocks
-          (c.in_ok-make_room_to_mark.ensures.last care free);
+          subst (λ n. SomeIsFinishable c.items-infos.result.now n c.args.parts.now) c.blocks_to_mark.ensures.blocks
+          (c.in_ok-make_room_to_mark.ensures.last care);
     }
 
 on_err : {T E : Type 0} (r : Result T E) (P : Type 0) → P → OnErr r P
@@ -95,6 +96,6 @@ returns-in_err-make_room_to_mark-clause-lacking c =
       are_named = subst (AreNamed (log_state c.args.parts.now) c.args.marks.now)
           (sym c.items-infos.ensures.items) c.named-named.ensures.named;
       lacks =
-          subst (λ n. LacksRoomToMark n c.args.parts.now) c.blocks_to_mark.ensures.blocks
+          subst (λ n. LacksRoomToMark c.items-infos.result.now n c.args.parts.now) c.blocks_to_mark.ensures.blocks
           c.in_err-make_room_to_mark.ensures.lacking;
     })
