@@ -1,12 +1,13 @@
--- Faults of a run on a volume that was laid out for it, and results that are Ok.
-use Rattle.std.proofs.Common.{◌≡◌, ℕ, ◌<◌, ◌≤◌, Result, Ok, Err, IfErr, IfOk, OnOk, sym, subst}
+-- Faults of a run on a volume that was laid out for it, the session that is named, and results that are Ok.
+use Rattle.std.proofs.Common.{◌≡◌, ℕ, ◌<◌, ◌≤◌, length, Result, Ok, Err, IfErr, IfOk, OnOk, refl, sym, subst}
 use Rattle.lfs_types.specs.StoreStates.{StoreState}
 use Rattle.lfs_types.specs.Tree.{opening_world}
 use Rattle.lfs_types.specs.declared.fault.FormatFault.{FormatFault}
 use Rattle.lfs_types.specs.declared.fault.FormatFault.TheVariants.{TooFew, TooMany}
 use Rattle.lfs_types.specs.declared.fault.FormatFault.TheVariants as formats
 use Rattle.lfs_server.specs.Fresh.{IsFormatFault, IsFreshLog}
-use Rattle.lfs_server.specs.Serving.{IsFaultOf, IsInRange, IsServeFault, served_fault}
+use Rattle.lfs_settle.specs.Interleaving.{Run}
+use Rattle.lfs_server.specs.Serving.{IsClosingFault, IsFaultOf, IsInRange, IsServeFault, NamesUnsettled, served_fault}
 use Rattle.lfs_server.specs.declared.serving.ServeFault.{ServeFault}
 use Rattle.lfs_server.specs.declared.serving.ServeFault.TheVariants.{Sessions, Format, Memory, Unsettled, Thread}
 use Rattle.lfs_staging.specs.Opening.{IsOpening}
@@ -38,6 +39,29 @@ pub layout_fault : (sessions segments inodes frames : ℕ) (fault : FormatFault)
 layout_fault sessions segments inodes frames TooFew few p = (p, few.0, few.1)
 layout_fault sessions segments inodes frames TooMany few p = (p, few.0, few.1)
 layout_fault sessions segments inodes frames formats.Memory few p = (few.0, few.1, p)
+
+closing_fault : (limit : ℕ) (run : Run) (fault : ServeFault) → run.limit ≡ limit
+    → length run.transcripts ≡ length run.scripts → IsClosingFault run fault
+    → NamesUnsettled limit run.setup run.scripts fault
+closing_fault limit run Sessions limited answered p = tt
+closing_fault limit run (Format fault) limited answered p = tt
+closing_fault limit run Memory limited answered p = tt
+closing_fault limit run (Unsettled session) limited answered p = record {
+  run = run;
+  limited = limited;
+  setup_asked = refl;
+  scripts_asked = refl;
+  answered = answered;
+  differs = p;
+}
+closing_fault limit run Thread limited answered p = tt
+
+-- where a run is not handed out, the session that is named is that of the run
+pub closing_faults : {A : Type 0} (limit : ℕ) (run : Run) (result : Result A ServeFault) → run.limit ≡ limit
+    → length run.transcripts ≡ length run.scripts → IfErr result (IsClosingFault run)
+    → IfErr result (NamesUnsettled limit run.setup run.scripts)
+closing_faults limit run (Ok a) limited answered p = tt
+closing_faults limit run (Err fault) limited answered p = closing_fault limit run fault limited answered p
 
 -- what holds holds where a result is Ok
 pub on_ok : {A E P : Type 0} (result : Result A E) → P → OnOk result P

@@ -1,8 +1,10 @@
 -- Why a run is not handed out.
-use Rattle.std.specs.Prelude.{◌≡◌, ℕ, ◌<◌, ◌≤◌, ◌⊎◌, List}
+use Rattle.std.specs.Prelude.{◌≡◌, ℕ, ◌<◌, ◌≤◌, ◌⊎◌, List, length}
+use Rattle.lfs_types.specs.Caller.{Caller}
 use Rattle.lfs_types.specs.declared.fault.FormatFault.{FormatFault}
 use Rattle.lfs_types.specs.declared.fault.FormatFault.TheVariants.{TooFew, TooMany}
 use Rattle.lfs_types.specs.declared.fault.FormatFault.TheVariants as formats
+use Rattle.lfs_types.specs.declared.request.Request.{Request}
 use Rattle.lfs_model.specs.declared.journal.Entry.{Entry}
 use Rattle.lfs_settle.specs.Interleaving.{IsLowestToDiffer, Run}
 use Rattle.lfs_settle.specs.Settled.{Differs}
@@ -16,6 +18,29 @@ abbrev pub IsRunFault : ServeFault → Type 0
 IsRunFault Sessions = ⊥
 IsRunFault (Format fault) = ⊥
 IsRunFault fault = Unit {0}
+
+-- the fault of running threads: memory ran out, or one was not started
+abbrev pub IsThreadFault : ServeFault → Type 0
+IsThreadFault Sessions = ⊥
+IsThreadFault (Format fault) = ⊥
+IsThreadFault (Unsettled session) = ⊥
+IsThreadFault fault = Unit {0}
+
+-- A run of this setup and these scripts, whose journal may have so many entries, is not settled: each script has a list
+-- of answers, and this session is the lowest that differs from what the journal has.
+pub record IsUnsettled (limit : ℕ) (setup : List (Caller × Request)) (scripts : List (List (Caller × Request)))
+    (session : ℕ) : Type 0 where
+  pub run : Run
+  pub limited : run.limit ≡ limit
+  pub setup_asked : run.setup ≡ setup
+  pub scripts_asked : run.scripts ≡ scripts
+  pub answered : length run.transcripts ≡ length scripts
+  pub differs : IsLowestToDiffer run session
+
+-- a fault that names a session is that of such a run
+abbrev pub NamesUnsettled : ℕ → List (Caller × Request) → List (List (Caller × Request)) → ServeFault → Type 0
+NamesUnsettled limit setup scripts (Unsettled session) = IsUnsettled limit setup scripts session
+NamesUnsettled limit setup scripts fault = Unit {0}
 
 -- the fault of handing out what this run left: its journal is not as the lowest session was answered that differs
 abbrev pub IsClosingFault : Run → ServeFault → Type 0

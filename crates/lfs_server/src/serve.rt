@@ -4,7 +4,7 @@ ghost use Rattle.std.specs.Prelude.{◌≡◌, ◌≤◌, ◌<◌, IfErr, IfOk, 
 ghost use Rattle.lfs_types.specs.Tree.{opening_world};
 ghost use Rattle.lfs_logstore.specs.States.{shape_of, state_of};
 ghost use Rattle.lfs_settle.specs.Interleaving.{IsInterleaving, run_of};
-ghost use Rattle.lfs_server.specs.Serving.{IsInRange, IsServeFault};
+ghost use Rattle.lfs_server.specs.Serving.{IsInRange, IsServeFault, NamesUnsettled};
 ghost use Rattle.lfs_volume.specs.Journals.{IsJournal};
 
 use crate::fresh::fresh_volume;
@@ -44,6 +44,7 @@ where
     ensures sessions { OnOk result ((0 < vec_len sessions) × (vec_len sessions ≤ 8)) }
     ensures fault { IfErr result
         (IsServeFault (vec_len sessions) params.segments params.inodes params.frames) }
+    ensures unsettled { IfErr result (NamesUnsettled params.journal setup sessions.items) }
 {
     check_sessions(sessions.len())?;
     let volume = fresh_volume(alloc, params)?;

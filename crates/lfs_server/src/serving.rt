@@ -3,7 +3,7 @@
 ghost use Rattle.std.specs.Prelude.{◌≡◌, ◌⊎◌, ◌<◌, ◌≤◌, ◌+◌, IfErr, IfOk, OnOk, vec_len, length};
 ghost use Rattle.lfs_settle.specs.Interleaving.{IsInterleaving, run_of};
 ghost use Rattle.lfs_volume.specs.Journals.{IsJournal, Since};
-ghost use Rattle.lfs_server.specs.Serving.{IsClosingFault, IsFaultOf, IsRunFault};
+ghost use Rattle.lfs_server.specs.Serving.{IsClosingFault, IsFaultOf, IsRunFault, IsThreadFault, NamesUnsettled};
 ghost use Rattle.lfs_server.specs.declared.serving.ServeFault.TheVariants.{Memory, Sessions};
 
 use crate::cleaner::run_cleaner;
@@ -122,6 +122,7 @@ where
         closed.volume.journal closed.volume.limit)) }
     ensures sessions { OnOk result ((0 < vec_len sessions) × (vec_len sessions ≤ 8)) }
     ensures fault { IfErr result (IsFaultOf (vec_len sessions)) }
+    ensures unsettled { IfErr result (NamesUnsettled volume.limit setup sessions.items) }
 {
     check_sessions(sessions.len())?;
     let run = Run { rt, alloc, gate };
@@ -169,6 +170,7 @@ where
         (F.state closed.volume.store) closed.volume.level
         closed.volume.journal closed.volume.limit)) }
     ensures fault { IfErr result IsRunFault }
+    ensures unsettled { IfErr result (NamesUnsettled S.limit setup.now sessions.now) }
 {
     let mut kept = Kept::<S, F>::new(volume);
     let answers = run_setup(run, &mut kept, setup)?;
@@ -201,7 +203,7 @@ where
     F: CleanedStore + Send + Drop,
     G: Gate,
     ensures count { IfOk result (λ both. vec_len both.1 ≡ length scripts.now) }
-    ensures fault { IfErr result IsRunFault }
+    ensures fault { IfErr result IsThreadFault }
 {
     let (jobs, rings) = prepare(run, scripts)?;
     let shared = Mutex::new(volume);
@@ -256,14 +258,14 @@ where
     F: CleanedStore + Send + Drop,
     G: Gate,
     ensures count { IfOk result (λ transcripts. vec_len transcripts ≡ vec_len jobs.entry) }
-    ensures fault { IfErr result IsRunFault }
+    ensures fault { IfErr result IsThreadFault }
 {
     thread::scope(
         thread::scope_env(),
         run.rt,
         move |scope| -> Result<Vec<Vec<Answer>>, ServeFault>
             ensures count { IfOk result (λ transcripts. vec_len transcripts ≡ vec_len jobs.entry) }
-            ensures fault { IfErr result IsRunFault }
+            ensures fault { IfErr result IsThreadFault }
         {
             let threads = Vec::with_capacity(run.alloc, jobs.len())?;
             start_cleaner(scope, run, volume, rings)?;
@@ -285,7 +287,7 @@ where
     R: Threads + Wait + Sync,
     F: CleanedStore + Send + Drop,
     G: Gate,
-    ensures { IfErr result IsRunFault }
+    ensures { IfErr result IsThreadFault }
 {
     match scope.spawn(move || run_cleaner(run, volume, rings)) {
         Ok(_) => Ok(()),
@@ -321,7 +323,7 @@ fn joined<R: Threads, G>(
     threads: Vec<SessionThread>,
 ) -> Result<Vec<Vec<Answer>>, ServeFault>
     ensures count { IfOk result (λ transcripts. vec_len transcripts ≡ vec_len threads) }
-    ensures fault { IfErr result IsRunFault }
+    ensures fault { IfErr result IsThreadFault }
 {
     let mut transcripts = Vec::with_capacity(run.alloc, threads.len())?;
     for thread in threads {
@@ -332,7 +334,7 @@ fn joined<R: Threads, G>(
 
 /// What the thread of a session gave, if it was started and didn't lack memory.
 fn answers_of<R: Threads>(rt: &R, thread: SessionThread) -> Result<Vec<Answer>, ServeFault>
-    ensures { IfErr result IsRunFault }
+    ensures { IfErr result IsThreadFault }
 {
     match thread {
         Some(thread) => Ok(thread.join(rt)?),

@@ -2,7 +2,7 @@
 use Rattle.std.specs.Prelude.{◌≡◌, ℕ, ◌-◌, ◌<◌, ◌≤◌, ◌==◌, ◌⊎◌, Bool, true, false, List, [], ◌∷◌, ◌++◌, length, map}
 use Rattle.std.specs.Prelude.{drop, Option, None, Some}
 use Rattle.std.specs.Global.{Vec}
-use Rattle.std.specs.List.{filter, slice_get}
+use Rattle.std.specs.List.{filter, list_any, slice_get}
 use Rattle.lfs_types.specs.Caller.{Caller}
 use Rattle.lfs_types.specs.declared.answer.Answer.{Answer}
 use Rattle.lfs_types.specs.declared.answer.Answer.TheVariants.{Refused}
@@ -79,9 +79,15 @@ abbrev pub IsEntered : Bool → List Entry → List (Caller × Request) → List
 IsEntered is_full entries setup answers later =
     AreAnswered is_full setup answers × (entries ≡ entries_kept 0 setup answers ++ later)
 
--- the entries are those of the setup's calls, and these later ones
+-- the journal has no later entry where it had no room for one of these answers
+abbrev pub EndsFull : List Answer → List Entry → Type 0
+EndsFull answers later = list_any is_journal_full answers ≡ true → later ≡ []
+
+-- the entries are those of the setup's calls, and these later ones, of which there are none where the journal had no
+-- room for the setup
 abbrev pub IsBegun : Bool → List Entry → List (Caller × Request) → List Answer → List Entry → Type 0
-IsBegun is_full entries setup answers later = IsEntered is_full entries setup answers later × StaysFull false answers
+IsBegun is_full entries setup answers later =
+    IsEntered is_full entries setup answers later × StaysFull false answers × EndsFull answers later
 
 -- ---- a session
 

@@ -4,7 +4,7 @@ ghost use Rattle.std.specs.Prelude.{◌≡◌, ◌↔◌, ◌≤◌, ℕ, IsTrue
 ghost use Rattle.lfs_settle.specs.Interleaving.{AgreesAt, AreEntered, IsEntered, HasNoStrangers, IsBegun, IsOfRun, IsLowest, MadeItsCalls};
 
 use crate::entries::CLEANER;
-use crate::stepping::{after_call, after_setup_call, next_of, stays_full};
+use crate::stepping::{after_call, after_setup_call, has_full, next_of, stays_full};
 use lfs_model::journal::{Entry, Event};
 use lfs_types::answer::Answer;
 use lfs_types::cred::Cred;
@@ -25,7 +25,11 @@ pub fn after_setup<'a>(
     if !stays_full(answers) {
         return None;
     }
-    behind_setup(is_full, entries, setup, answers)
+    let later = behind_setup(is_full, entries, setup, answers)?;
+    if !later.is_empty() && has_full(answers) {
+        return None;
+    }
+    Some(later)
 }
 
 /// The entries behind those of the setup's next calls with these answers, if these are first.

@@ -1,6 +1,7 @@
 //! One call more, found in a journal or missed there.
 
 ghost use Rattle.std.specs.Prelude.{◌≡◌, ◌↔◌, ◌∷◌, [], false, IsTrue, MatchOption};
+ghost use Rattle.std.specs.List.{list_any};
 ghost use Rattle.lfs_model.specs.Memory.{IsCopying};
 ghost use Rattle.lfs_settle.specs.Interleaving.{AreEntered, IsEntered, MayAnswer, StaysFull, is_journal_full, session_entries};
 ghost use Rattle.lfs_settle.specs.Entering.{makes_entry};
@@ -43,6 +44,18 @@ fn is_journal_full(answer: &Answer) -> bool
     ensures { result ≡ is_journal_full answer.now }
 {
     matches!(answer, Answer::Refused(Resource::JournalFull))
+}
+
+/// Whether one of the answers tells that the journal has no room.
+pub fn has_full(answers: &[Answer]) -> bool
+    ensures { result ≡ list_any is_journal_full answers.now }
+{
+    for answer in answers {
+        if is_journal_full(answer) {
+            return true;
+        }
+    }
+    false
 }
 
 /// Whether behind an answer that the journal has no room there is no other.
