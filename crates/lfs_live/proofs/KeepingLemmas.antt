@@ -101,18 +101,18 @@ run_follows r old new session caller act told tells =
     let ran = tells.ran in
     record { more = _; entered = ran.entered; since = ran.since; since_level = ran.since_level; shape = ran.shape }
 
-pub line_follows : {F : Type 0} (r : Talker F) (handed : List Entry) (answers given : List StepAnswer)
+pub line_follows : {F : Type 0} (r : Talker F) (number : ℕ) (handed : List Entry) (answers given : List StepAnswer)
     (old new : Seen F) (speaker then : Speaker) (said : Heard) (told : List ℕ)
-    → Hears r handed answers old speaker said told new then given → Follows r.cleaner.state old new
-line_follows r handed answers given old new speaker then (heard.Line says.Nothing) told h =
+    → Hears r number handed answers old speaker said told new then given → Follows r.cleaner.state old new
+line_follows r number handed answers given old new speaker then (heard.Line says.Nothing) told h =
     follows_same r.cleaner.state old new h.0
-line_follows r handed answers given old new speaker then (heard.Line (says.Session session)) told h =
+line_follows r number handed answers given old new speaker then (heard.Line (says.Session session)) told h =
     follows_same r.cleaner.state old new h.0
-line_follows r handed answers given old new speaker then (heard.Line (says.Caller cred)) told h =
+line_follows r number handed answers given old new speaker then (heard.Line (says.Caller cred)) told h =
     follows_same r.cleaner.state old new h.0
-line_follows r handed answers given old new speaker then (heard.Line (says.Act act)) told h =
+line_follows r number handed answers given old new speaker then (heard.Line (says.Act act)) told h =
     run_follows r.cleaner old new speaker.session speaker.cred act told h.0
-line_follows r handed answers given old new speaker then (heard.Asks inquiry request) told h =
+line_follows r number handed answers given old new speaker then (heard.Asks inquiry request) told h =
     let looks = h.0 in
     record {
       more = [];
@@ -121,12 +121,12 @@ line_follows r handed answers given old new speaker then (heard.Asks inquiry req
       since_level = looks.since_level;
       shape = ap (λ (s : StoreState). s.shape) looks.state;
     }
-line_follows r handed answers given old new speaker then (heard.Looks look path) told h =
+line_follows r number handed answers given old new speaker then (heard.Looks look path) told h =
     let ran = h.0.asks.ran in
     record { more = _; entered = ran.entered; since = ran.since; since_level = ran.since_level; shape = ran.shape }
-line_follows r handed answers given old new speaker then (heard.Dot dot) told h =
+line_follows r number handed answers given old new speaker then (heard.Dot dot) told h =
     follows_same r.cleaner.state old new h.0
-line_follows r handed answers given old new speaker then (heard.Fault fault place) told h =
+line_follows r number handed answers given old new speaker then (heard.Fault fault place) told h =
     follows_same r.cleaner.state old new h.0
 
 true-false : false ≡ true → ⊥

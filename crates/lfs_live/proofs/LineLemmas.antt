@@ -10,7 +10,7 @@ use Rattle.std.proofs.lemmas.List.{take_all}
 use Rattle.std.proofs.lemmas.List.Elements.{All-push}
 use Rattle.lfs_live.specs.Hearing.{heard_of, is_long}
 use Rattle.lfs_live.specs.Pieces.{IsPiece, IsUnended}
-use Rattle.lfs_live.specs.Telling.{cut_text, fault_line}
+use Rattle.lfs_live.specs.Telling.{cut_texts, fault_line}
 use Rattle.lfs_live.specs.declared.fault.LineFault.TheVariants.{TooLong, Kind}
 use Rattle.lfs_words.specs.declared.fault.FaultKind.TheVariants.{Cut}
 use Rattle.lfs_words.specs.Lines.{HasNoLineFeed}
@@ -111,8 +111,10 @@ pub heard_kept : (line kept : List ℕ) → kept ≡ take 65537 line → heard_o
 heard_kept line kept is = same_by line kept (is_long line) refl is
 
 -- and so do those of what is behind the last line feed
-pub cut_kept : (line kept : List ℕ) → kept ≡ take 65537 line → cut_text kept ≡ cut_text line
-cut_kept [] kept is = ap cut_text is
-cut_kept (c ∷ cs) kept is =
-    ap cut_text is ∙ ap (λ (long : Bool). fault_line (if long then TooLong else Kind Cut) [])
+pub cut_kept : (number : ℕ) (line kept : List ℕ) → kept ≡ take 65537 line → cut_texts number kept
+    ≡ cut_texts number line
+cut_kept number [] kept is = ap (cut_texts number) is
+cut_kept number (c ∷ cs) kept is =
+    ap (cut_texts number) is
+    ∙ ap (λ (long : Bool). fault_line number (if long then TooLong else Kind Cut) [] ∷ [])
     (long_kept (c ∷ cs) (take 65537 (c ∷ cs)) refl)

@@ -35,6 +35,7 @@ use Rattle.lfs_audit.specs.Output.{IsOutput}
 use Rattle.lfs_audit.specs.Runs.{AreAsked, Runs, lines_text}
 use Rattle.lfs_audit.specs.Scripts.{log_cleaner}
 use Rattle.lfs_audit.proofs.RunLemmas.{begun_answers, lines_of_runs, runs_joined, runs_none}
+use Rattle.lfs_live.specs.Frames.{frames}
 use Rattle.lfs_live.specs.Hearing.{heard_of, is_dotted}
 use Rattle.lfs_live.specs.Held.{Course, IsHanded, IsShut, MovesOn}
 use Rattle.lfs_live.specs.Scripts.{WritesAsScript, log_talker}
@@ -44,6 +45,7 @@ use Rattle.lfs_live.specs.Pieces.{ended_line}
 use Rattle.lfs_live.specs.declared.hearing.Dot.TheVariants.{Quit}
 use Rattle.lfs_live.specs.declared.hearing.Heard.{Heard}
 use Rattle.lfs_live.specs.declared.hearing.Heard.TheVariants as heard
+use Rattle.lfs_live.specs.declared.framing.Framing.TheVariants.{Plain}
 use Rattle.lfs_live.specs.declared.telling.Speaker.{Speaker}
 
 -- ---- no line of a script begins with a dot
@@ -246,28 +248,28 @@ unmoved {F} r now after tidied closed idle moves tidies =
     tidies.stays (rw (still, idle) refl) ∙ still
 
 script-heard : {F : Type 0} (t : Talker F) (old new : Course F) (speaker
-    then : Speaker) (lines : List (List ℕ)) (told rest : List ℕ) (n : ℕ) (draft : Drafted) (plan : Planned)
-    → HearsAll t old speaker lines told new then → old.is_open ≡ false → old.cleans ≡ false
+    then : Speaker) (lines texts : List (List ℕ)) (rest : List ℕ) (n : ℕ) (draft : Drafted) (plan : Planned)
+    → HearsAll t n old speaker lines texts new then → old.is_open ≡ false → old.cleans ≡ false
     → draft.session ≡ speaker.session → draft.cred ≡ speaker.cred
     → All IsShort (lines_of (ended lines ++ rest)) → plan_from n draft (lines_of (ended lines ++ rest)) ≡ Ok plan
-    → (given : List StepAnswer) × Goes t.cleaner old.volume new.volume draft then told rest given plan
+    → (given : List StepAnswer) × Goes t.cleaner old.volume new.volume draft then (frames Plain texts) rest given plan
     × (new.handed ≡ old.handed) × (new.answers ≡ old.answers ++ given)
-script-heard {F} t old new speaker then [] told rest n draft plan hears closed idle session cred short ok = (
+script-heard {F} t old new speaker then [] texts rest n draft plan hears closed idle session cred short ok = (
   [],
   record {
     number = n;
     after = draft;
     followed = followed-none t.cleaner old.volume new.volume draft draft
-        then told [] (ap (λ (c : Course F). c.volume) hears.0) refl (session
-        ∙ ap (λ (s : Speaker). s.session) (sym hears.1)) (cred ∙ ap (λ (s : Speaker). s.cred) (sym hears.1)) hears.2
-        refl;
+        then (frames Plain texts) [] (ap (λ (c : Course F). c.volume) hears.0) refl (session
+        ∙ ap (λ (s : Speaker). s.session) (sym hears.1)) (cred ∙ ap (λ (s : Speaker). s.cred) (sym hears.1))
+        (ap (frames Plain) hears.2) refl;
     short = short;
     goes_on = ok;
   },
   ap (λ (c : Course F). c.handed) hears.0,
   ap (λ (c : Course F). c.answers) hears.0 ∙ sym (append-nil old.answers),
 )
-script-heard {F} t old new speaker then (line ∷ lines) told rest n draft plan hears closed idle session cred short ok =
+script-heard {F} t old new speaker then (line ∷ lines) texts rest n draft plan hears closed idle session cred short ok =
     let text = ended (line ∷ lines) ++ rest in
     let behind = ended lines ++ rest in
     let cut = first-of line lines rest hears.8 in
@@ -281,7 +283,8 @@ script-heard {F} t old new speaker then (line ∷ lines) told rest n draft plan 
     let next = hears.5 in
     let given = hears.6 in
     let does : Does t.cleaner old.volume speaker read.0 hears.0 middle next given =
-    subst (λ (h : Heard). Hears t old.handed old.answers old.volume speaker h hears.0 middle next given) says hears.9 in
+    subst (λ (h : Heard). Hears t n old.handed old.answers old.volume speaker h hears.0 middle next given) says
+    hears.9 in
     let still = unmoved t.cleaner (record old { volume = middle; answers = old.answers ++ given }) hears.3 after closed
     idle hears.10 hears.11 in
     let followed = followed-line t.cleaner old.volume middle draft speaker next read.0 hears.0 given session cred
@@ -292,13 +295,14 @@ script-heard {F} t old new speaker then (line ∷ lines) told rest n draft plan 
     followed.session followed.cred
     (All-tail IsShort line (lines_of behind) shorts) read.2 in
     let goes = subst (λ (v : Seen F). Goes t.cleaner v new.volume (added draft read.0)
-    then hears.1 rest more.0 plan) (ap (λ (c : Course F). c.volume) still) more.1 in (
+    then (frames Plain hears.1) rest more.0 plan) (ap (λ (c : Course F). c.volume) still) more.1 in (
       given ++ more.0,
       record {
         number = goes.number;
         after = goes.after;
         followed = followed-joined t.cleaner old.volume middle new.volume draft (added draft read.0) goes.after next
-            then hears.0 hears.1 told given more.0 hears.7 followed goes.followed;
+            then hears.0 (frames Plain hears.1) (frames Plain texts) given more.0 (ap (frames Plain) hears.7) followed
+            goes.followed;
         short = goes.short;
         goes_on = goes.goes_on;
       },
@@ -316,10 +320,10 @@ ok-same : (after : Drafted) (plan : Planned) (result : Result Planned ScriptFaul
 ok-same after plan result first then = cc
 
 -- of a script's last bytes nothing is told, and its plan ends there
-script-ends : (number : ℕ) (after : Drafted) (plan : Planned) (last told behind : List ℕ)
-    → IsLast last told (Some behind) → All IsShort (lines_of (last ++ behind))
-    → plan_from number after (lines_of (last ++ behind)) ≡ Ok plan → (told ≡ []) × (planned after ≡ plan)
-script-ends number after plan last told behind (inl quits) short ok =
+script-ends : (number count : ℕ) (after : Drafted) (plan : Planned) (last : List ℕ) (texts : List (List ℕ))
+    (behind : List ℕ) → IsLast count last texts (Some behind) → All IsShort (lines_of (last ++ behind))
+    → plan_from number after (lines_of (last ++ behind)) ≡ Ok plan → (texts ≡ []) × (planned after ≡ plan)
+script-ends number count after plan last texts behind (inl quits) short ok =
     let line = quits.0 in
     let text = last ++ behind in
     let cut : IsFirstLine text line behind = record {
@@ -332,12 +336,12 @@ script-ends number after plan last told behind (inl quits) short ok =
     (sym (plan_step number after text line behind cut) ∙ ok) in
     line-is-quit read.0 _ (sym (heard-said line read.0 (All-head IsShort line (lines_of behind) shorts) read.1)
     ∙ quits.2)
-script-ends number after plan [] told behind (inr ends) short ok = (
+script-ends number count after plan [] texts behind (inr ends) short ok = (
   ends.2,
   ok-same after plan (plan_from number after (lines_of [])) (plan_end number after)
       (subst (λ (l : List ℕ). plan_from number after (lines_of l) ≡ Ok plan) ends.1 ok),
 )
-script-ends number after plan (c ∷ cs) told behind (inr ends) short ok =
+script-ends number count after plan (c ∷ cs) texts behind (inr ends) short ok =
     let whole : (c ∷ cs) ++ behind ≡ c ∷ cs = ap (λ (l : List ℕ). (c ∷ cs) ++ l) ends.1 ∙ append-nil (c ∷ cs) in
     absurd (not-ok plan _ (sym (plan_cut number after (c ∷ cs) ends.0 (omega arith))
     ∙ subst (λ (l : List ℕ). plan_from number after (lines_of l) ≡ Ok plan) whole ok))
@@ -345,17 +349,18 @@ script-ends number after plan (c ∷ cs) told behind (inr ends) short ok =
 -- ---- the whole
 
 -- nothing is told of the last bytes
-told-whole : (told told_last lines report all : List ℕ) → told_last ≡ [] → told ≡ lines → report ≡ all
-    → (told ++ told_last) ++ report ≡ lines ++ all
-told-whole told told_last lines report all none is same =
-    ap (λ (l : List ℕ). (told ++ l) ++ report) none ∙ ap (λ (l : List ℕ). l ++ report) (append-nil told)
+told-whole : (texts last : List (List ℕ)) (lines report all : List ℕ) → last ≡ [] → frames Plain texts ≡ lines
+    → report ≡ all → frames Plain (texts ++ last) ++ report ≡ lines ++ all
+told-whole texts last lines report all none is same =
+    ap (λ (l : List (List ℕ)). frames Plain (texts ++ l) ++ report) none
+    ∙ ap (λ (l : List (List ℕ)). frames Plain l ++ report) (append-nil texts)
     ∙ ap (λ (l : List ℕ). l ++ report) is ∙ ap (λ (l : List ℕ). lines ++ l) same
 
 script-written : (old new : Course Parts) (script behind : List ℕ) (start out : Option (List ℕ)) (plan : Planned)
     → old.volume.journal ≡ [] → old.handed ≡ [] → old.answers ≡ [] → old.is_open ≡ false → old.cleans ≡ false
     → plan_of script ≡ Ok plan
     → All IsShort (lines_of script)
-    → IsTalk log_talker old new (Some script) (Some behind) start out
+    → IsTalk log_talker Plain old new (Some script) (Some behind) start out
     → (text : List ℕ) × IsOutput log_cleaner
     (Begins (state_of old.volume.since) old.volume.since_level) script old.volume.limit old.volume.store text
     × Appends start out text
@@ -363,13 +368,13 @@ script-written old new script behind start out plan empty unhanded untold closed
     let all = talk.heard in
     let rest = all.last ++ behind in
     let whole : script ≡ ended all.lines ++ rest = all.taken ∙ append_assoc (ended all.lines) all.last behind in
-    let went = script-heard log_talker old new first_speaker all.then all.lines all.told rest 1 first_draft plan
+    let went = script-heard log_talker old new first_speaker all.then all.lines all.texts rest 1 first_draft plan
     all.heard closed idle refl refl
     (subst (λ (s : List ℕ). All IsShort (lines_of s)) whole short)
     (subst (λ (s : List ℕ). plan_from 1 first_draft (lines_of s) ≡ Ok plan) whole parsed) in
     let goes = went.1 in
     let none : new.handed ≡ [] = went.2 ∙ unhanded in
-    let fin = script-ends goes.number goes.after plan all.last all.told_last behind all.ends goes.short goes.goes_on in
+    let fin = script-ends goes.number _ goes.after plan all.last all.last_texts behind all.ends goes.short goes.goes_on in
     let ran = goes.followed.ran in
     let made = goes.followed.made in
     let answers = goes.followed.answers in
@@ -382,8 +387,9 @@ script-written old new script behind start out plan empty unhanded untold closed
     went.3 ∙ ap (λ (l : List StepAnswer). l ++ went.0) untold ∙ goes.followed.given_so in
     let text = lines_text made answers ++ run_report (kept_steps made answers) answers in
     let report = run_report (new.handed ++ new.volume.journal) new.answers in
-    let written : Appends start out ((all.told ++ all.told_last) ++ report) =
-    Appends-trans start talk.before out (all.told ++ all.told_last) report all.printed talk.reported in (
+    let lines = frames Plain (all.texts ++ all.last_texts) in
+    let written : Appends start out (lines ++ report) =
+    Appends-trans start talk.before out lines report all.printed talk.reported in (
       text,
       record {
         plan = plan;
@@ -400,7 +406,7 @@ script-written old new script behind start out plan empty unhanded untold closed
         };
       },
       subst (λ (l : List ℕ). Appends start out l)
-          (told-whole all.told all.told_last (lines_text made answers) report
+          (told-whole all.texts all.last_texts (lines_text made answers) report
           (run_report (kept_steps made answers) answers) fin.0 goes.followed.printed
           (ap (λ (l : List Entry). run_report l new.answers) kept
           ∙ ap (run_report (kept_steps made answers)) told))

@@ -44,14 +44,14 @@ begun volume sink manner = record {
 
 -- a talk over a volume that begins so, with its end
 abbrev pub begun_talk : {J : Type 0} (sink : Sink J) (begins : Seen Parts → Type 0) (volume : Seen Parts) (j : J)
-    (manner : Manner) (old new : Held Parts J) (known left start out : Option (List ℕ))
+    (manner : Manner) (old new : Held Parts J) (has_fault : Bool) (known left start out : Option (List ℕ))
     → old ≡ begun volume j manner → begins volume → volume.journal ≡ []
-    → (HasBegun old → IsKeptTalk log_talker sink old new known left start out)
+    → (HasBegun old → IsKeptTalk log_talker manner.framing sink old new has_fault known left start out)
     → IsKeptTalkOver begins manner new.is_open (sink.next j) (sink.contents j) (sink.contents new.sink) known left start
     out
-begun_talk {J} sink begins volume j manner old new known left start out is begin empty talk =
-    let ended = subst (λ (h : Held Parts J). HasBegun h → IsKeptTalk log_talker sink h new known left start out) is talk
-    (refl, empty) in
+begun_talk {J} sink begins volume j manner old new has_fault known left start out is begin empty talk =
+    let ended = subst (λ (h : Held Parts J). HasBegun h
+    → IsKeptTalk log_talker manner.framing sink h new has_fault known left start out) is talk (refl, empty) in
     record {
       talk = record { old = volume; new = course_of new ended.handed ended.answers; begun = begin; talk = ended.talk };
       kept = λ taking. (ended.kept taking).lines;
@@ -61,11 +61,11 @@ begun_talk {J} sink begins volume j manner old new known left start out is begin
 pub begun_heard : {J : Type 0} (sink : Sink J) (begins : Seen Parts → Type 0) (volume : Seen Parts) (j : J)
     (manner : Manner) (old new : Held Parts J) (known left start out : Option (List ℕ))
     → old ≡ begun volume j manner → begins volume → volume.journal ≡ []
-    → (HasBegun old → HasKeptSoFar log_talker sink old new known left start out)
+    → (HasBegun old → HasKeptSoFar log_talker manner.framing sink old new known left start out)
     → HasHeardOver begins manner known left start out
 begun_heard {J} sink begins volume j manner old new known left start out is begin empty heard =
-    let so_far = subst (λ (h : Held Parts J). HasBegun h → HasKeptSoFar log_talker sink h new known left start out) is
-    heard (refl, empty) in
+    let so_far = subst (λ (h : Held Parts J). HasBegun h
+    → HasKeptSoFar log_talker manner.framing sink h new known left start out) is heard (refl, empty) in
     record {
       old = volume;
       new = course_of new so_far.handed so_far.answers;

@@ -1,7 +1,7 @@
 -- What is told of a volume, from wherever its journal began.
-use Rattle.std.proofs.Common.{◌≡◌, ℕ, List, [], ◌++◌, Option, None, Some, Result, Ok, Err, refl, sym, ap, subst, ◌∙◌}
+use Rattle.std.proofs.Common.{◌≡◌, ℕ, List, [], ◌++◌, Option, Some, Result, Ok, Err, refl, sym, ap, subst, ◌∙◌}
 use Rattle.std.proofs.Common.{append-nil}
-use Rattle.std.specs.Prelude.{IfOk, MatchOption}
+use Rattle.std.specs.Prelude.{IfOk}
 use Rattle.lfs_types.specs.declared.request.Request.{Request}
 use Rattle.lfs_model.specs.declared.journal.Entry.{Entry}
 use Rattle.lfs_model.specs.declared.steps.StepAnswer.{StepAnswer}
@@ -20,7 +20,6 @@ use Rattle.lfs_live.specs.Talking.{Does, Hears, IsAnsweredBy, LooksOn, asker_of}
 use Rattle.lfs_live.specs.Telling.{dot_text, fault_line}
 use Rattle.lfs_live.specs.declared.fault.LineFault.{LineFault}
 use Rattle.lfs_live.specs.declared.hearing.Dot.{Dot}
-use Rattle.lfs_live.specs.declared.hearing.Dot.TheVariants.{Quit}
 use Rattle.lfs_live.specs.declared.hearing.Inquiry.{Inquiry}
 use Rattle.lfs_live.specs.declared.hearing.Heard.{Heard}
 use Rattle.lfs_live.specs.declared.hearing.Heard.TheVariants as heard
@@ -51,14 +50,14 @@ counted_more tally after given same adds = λ handed answers is.
     (adds answers (ap (λ (t : Tally). t.refusals) is))
 
 -- a line of a script was done
-pub line_answered : {F : Type 0} (r : Talker F) (old new : Seen F) (tally after : Tally) (speaker
+pub line_answered : {F : Type 0} (r : Talker F) (number : ℕ) (old new : Seen F) (tally after : Tally) (speaker
     then : Speaker) (line : List ℕ) (said : Line) (told : List ℕ) → heard_of line ≡ heard.Line said
     → after.totals ≡ tally.totals
     → (given : List StepAnswer) × Does r.cleaner old speaker said told new then given
     × AddsUp tally.refusals after.refusals given
-    → HasAnswered r old new tally after speaker then (heard_of line) told
-line_answered {F} r old new tally after speaker then line said told is same (given, does, adds) =
-    subst (λ (h : Heard). HasAnswered r old new tally after speaker then h told) (sym is)
+    → HasAnswered r number old new tally after speaker then (heard_of line) told
+line_answered {F} r number old new tally after speaker then line said told is same (given, does, adds) =
+    subst (λ (h : Heard). HasAnswered r number old new tally after speaker then h told) (sym is)
     (record {
       given = given;
       heard = λ handed answers counted. does;
@@ -66,58 +65,54 @@ line_answered {F} r old new tally after speaker then line said told is same (giv
     })
 
 -- nothing was done
-pub none_answered : {F : Type 0} (r : Talker F) (old new : Seen F) (tally : Tally) (speaker
+pub none_answered : {F : Type 0} (r : Talker F) (number : ℕ) (old new : Seen F) (tally : Tally) (speaker
     then : Speaker) (said : Heard) (told : List ℕ)
     → ((handed : List Entry) (answers : List StepAnswer) → tally ≡ tally_of handed answers
-    → Hears r handed answers old speaker said told new then [])
-    → HasAnswered r old new tally tally speaker then said told
-none_answered r old new tally speaker then said told hears = record {
+    → Hears r number handed answers old speaker said told new then [])
+    → HasAnswered r number old new tally tally speaker then said told
+none_answered r number old new tally speaker then said told hears = record {
   given = [];
   heard = hears;
   counted = λ handed answers is. is ∙ ap (tally_of handed) (sym (append-nil answers));
 }
 
 -- a call was asked about, which is not made
-pub asks_answered : {F : Type 0} (r : Talker F) (old new : Seen F) (tally : Tally) (speaker : Speaker) (line : List ℕ)
+pub asks_answered : {F : Type 0} (r : Talker F) (number : ℕ) (old new : Seen F) (tally : Tally) (speaker : Speaker) (line : List ℕ)
     (inquiry : Inquiry) (request : Request) (told : List ℕ) → heard_of line ≡ heard.Asks inquiry request
     → LooksOn (r.cleaner.state old.store) (r.cleaner.state new.store) old new
     → AtPresent r.cleaner.state old (λ w. IsAnsweredBy w inquiry speaker.cred request told)
-    → HasAnswered r old new tally tally speaker speaker (heard_of line) told
-asks_answered {F} r old new tally speaker line inquiry request told is looks text =
-    subst (λ (h : Heard). HasAnswered r old new tally tally speaker speaker h told) (sym is)
-    (none_answered r old new tally speaker speaker (heard.Asks inquiry request) told
+    → HasAnswered r number old new tally tally speaker speaker (heard_of line) told
+asks_answered {F} r number old new tally speaker line inquiry request told is looks text =
+    subst (λ (h : Heard). HasAnswered r number old new tally tally speaker speaker h told) (sym is)
+    (none_answered r number old new tally speaker speaker (heard.Asks inquiry request) told
     (λ handed answers counted. (looks, refl, text, refl)))
 
 -- a path was looked at, by calls whose refusals are not counted
-pub look_answered : {F : Type 0} (r : Talker F) (old new : Seen F) (tally : Tally) (speaker : Speaker) (line : List ℕ)
+pub look_answered : {F : Type 0} (r : Talker F) (number : ℕ) (old new : Seen F) (tally : Tally) (speaker : Speaker) (line : List ℕ)
     (look : Look) (path : List (List ℕ)) (told : List ℕ) → heard_of line ≡ heard.Looks look path
     → TellsLook r.cleaner old new (asker_of speaker) look path [] told
-    → HasAnswered r old new tally tally speaker speaker (heard_of line) told
-look_answered {F} r old new tally speaker line look path told is looks =
-    subst (λ (h : Heard). HasAnswered r old new tally tally speaker speaker h told) (sym is)
-    (none_answered r old new tally speaker speaker (heard.Looks look path) told
+    → HasAnswered r number old new tally tally speaker speaker (heard_of line) told
+look_answered {F} r number old new tally speaker line look path told is looks =
+    subst (λ (h : Heard). HasAnswered r number old new tally tally speaker speaker h told) (sym is)
+    (none_answered r number old new tally speaker speaker (heard.Looks look path) told
     (λ handed answers counted. (looks, refl, refl)))
 
 -- a fault was told
-pub fault_answered : {F : Type 0} (r : Talker F) (old : Seen F) (tally : Tally) (speaker : Speaker) (line : List ℕ)
+pub fault_answered : {F : Type 0} (r : Talker F) (number : ℕ) (old : Seen F) (tally : Tally) (speaker : Speaker) (line : List ℕ)
     (fault : LineFault) (place told : List ℕ) → heard_of line ≡ heard.Fault fault place
-    → told ≡ fault_line fault place → HasAnswered r old old tally tally speaker speaker (heard_of line) told
-fault_answered {F} r old tally speaker line fault place told is text =
-    subst (λ (h : Heard). HasAnswered r old old tally tally speaker speaker h told) (sym is)
-    (none_answered r old old tally speaker speaker (heard.Fault fault place) told
+    → told ≡ fault_line number fault place → HasAnswered r number old old tally tally speaker speaker (heard_of line) told
+fault_answered {F} r number old tally speaker line fault place told is text =
+    subst (λ (h : Heard). HasAnswered r number old old tally tally speaker speaker h told) (sym is)
+    (none_answered r number old old tally speaker speaker (heard.Fault fault place) told
     (λ handed answers counted. (refl, refl, text, refl)))
 
--- a word of the server's own was told, or ends the talk
-pub dot_answered : {F T E : Type 0} (items : T → List ℕ) (r : Talker F) (old : Seen F) (tally : Tally)
-    (speaker : Speaker) (line : List ℕ) (dot : Dot) (result : Result (Option T) E) → heard_of line ≡ heard.Dot dot
-    → IfOk result (λ given. MatchOption given (dot ≡ Quit) (λ text. (handed : List Entry)
-    (answers : List StepAnswer) → tally ≡ tally_of handed answers → dot_text r dot handed answers old
-    ≡ Some (items text)))
-    → IfOk result (λ given. MatchOption given ((heard_of line ≡ heard.Dot Quit) × (old ≡ old) × (tally ≡ tally))
-    (λ text. HasAnswered r old old tally tally speaker speaker (heard_of line) (items text)))
-dot_answered {F} items r old tally speaker line dot (Ok (Some text)) is tells =
-    subst (λ (h : Heard). HasAnswered r old old tally tally speaker speaker h (items text)) (sym is)
-    (none_answered r old old tally speaker speaker (heard.Dot dot) (items text)
-    (λ handed answers counted. (refl, refl, tells handed answers counted, refl)))
-dot_answered items r old tally speaker line dot (Ok None) is quits = (is ∙ ap heard.Dot quits, refl, refl)
-dot_answered items r old tally speaker line dot (Err e) is tells = tt
+-- a word of the server's own was told
+pub dot_answered : {F : Type 0} (r : Talker F) (number : ℕ) (old : Seen F) (tally : Tally) (speaker : Speaker)
+    (line : List ℕ) (dot : Dot) (text told : List ℕ) → heard_of line ≡ heard.Dot dot
+    → ((handed : List Entry) (answers : List StepAnswer) → tally ≡ tally_of handed answers
+    → dot_text r dot handed answers old ≡ Some text)
+    → told ≡ text → HasAnswered r number old old tally tally speaker speaker (heard_of line) told
+dot_answered {F} r number old tally speaker line dot text told is tells same =
+    subst (λ (h : Heard). HasAnswered r number old old tally tally speaker speaker h told) (sym is)
+    (none_answered r number old old tally speaker speaker (heard.Dot dot) told
+    (λ handed answers counted. (refl, refl, tells handed answers counted ∙ ap Some (sym same), refl)))

@@ -19,6 +19,8 @@ use Rattle.lfs_live.specs.Held.{Course}
 use Rattle.lfs_sinks.specs.Numbered.{numbered_text}
 use Rattle.lfs_live.specs.Talkers.{Talker, talker_of}
 use Rattle.lfs_live.specs.Talking.{HasHeardSoFar, IsTalk}
+use Rattle.lfs_live.specs.declared.framing.Framing.{Framing}
+use Rattle.lfs_live.specs.declared.framing.Framing.TheVariants.{Plain}
 use Rattle.lfs_view.specs.MapText.{map_text}
 use Rattle.lfs_view.specs.SegmentText.{segment_text}
 use Rattle.lfs_view.specs.SpaceText.{space_text}
@@ -40,10 +42,12 @@ pub record IsFresh (segments inodes frames limit : ℕ) (volume : Seen Parts) : 
 abbrev pub IsJournalOf : ℕ → Option (List ℕ) → Option (List ℕ) → List Entry → Type 0
 IsJournalOf number first last entries = Appends first last (numbered_text number entries)
 
--- how a talk goes: whether a sink takes the entries of its journal, and whether passes are made unasked
+-- how a talk goes: whether a sink takes the entries of its journal, whether passes are made unasked, and how its
+-- answers are framed
 pub record Manner : Type 0 where
   pub is_open : Bool
   pub cleans : Bool
+  pub framing : Framing
 
 -- a talk that begins so with a volume
 abbrev pub begins_with : {F : Type 0} → Seen F → Manner → Course F
@@ -56,7 +60,7 @@ pub record IsTalkOver (begins : Seen Parts → Type 0) (manner : Manner)
   pub old : Seen Parts
   pub new : Course Parts
   pub begun : begins old
-  pub talk : IsTalk log_talker (begins_with old manner) new known left start out
+  pub talk : IsTalk log_talker manner.framing (begins_with old manner) new known left start out
 
 -- The same, and where the sink took entries to the end, its bytes became these by the lines of all entries, numbered
 -- from this number on.
@@ -71,7 +75,7 @@ pub record HasHeardOver (begins : Seen Parts → Type 0) (manner : Manner)
   pub old : Seen Parts
   pub new : Course Parts
   pub begun : begins old
-  pub so_far : HasHeardSoFar log_talker (begins_with old manner) new known left start out
+  pub so_far : HasHeardSoFar log_talker manner.framing (begins_with old manner) new known left start out
 
 -- the same of a fresh volume
 abbrev pub IsLogTalk : ℕ → ℕ → ℕ → ℕ → Manner → Option (List ℕ) → Option (List ℕ) → Option (List ℕ) → Option (List ℕ)
@@ -91,14 +95,14 @@ abbrev pub IsLogFault : ℕ → ℕ → ℕ → RunFault → Type 0
 IsLogFault segments inodes frames (Format fault) = IsFormatFault segments inodes frames fault
 IsLogFault segments inodes frames fault = IsTalkFault fault
 
--- What a talk without a sink writes, and without passes unasked, whose lines are a script without a fault, in which no
+-- What a talk without a sink writes, without passes unasked and frames, whose lines are a script without a fault, in which no
 -- line has more than 65,536 bytes, a run of that script writes, from wherever the journal began.
 abbrev pub WritesAsScript : Type 0
 WritesAsScript =
     (old new : Course Parts) (script : List ℕ) (left start out : Option (List ℕ)) (plan : Planned)
     → old.volume.journal ≡ [] → old.handed ≡ [] → old.answers ≡ [] → old.is_open ≡ false → old.cleans ≡ false
     → plan_of script ≡ Ok plan → All (λ line. length line ≤ 65536) (lines_of script)
-    → IsTalk log_talker old new (Some script) left start out
+    → IsTalk log_talker Plain old new (Some script) left start out
     → let v = old.volume in
     (text : List ℕ) × IsOutput log_cleaner (Begins (state_of v.since) v.since_level) script v.limit v.store text
     × Appends start out text

@@ -1,5 +1,6 @@
 -- What lines do, one after another, and what is told of them.
-use Rattle.std.specs.Prelude.{◌≡◌, ℕ, ◌⊎◌, ◌&&◌, not, nat_lt, Bool, true, false, List, [], ◌∷◌, ◌++◌, Option, Some}
+use Rattle.std.specs.Prelude.{◌≡◌, ℕ, ◌+◌, ◌⊎◌, ◌&&◌, ◌||◌, not, nat_lt, Bool, true, false, List, [], ◌∷◌, ◌++◌}
+use Rattle.std.specs.Prelude.{length, Option, Some}
 use Rattle.std.specs.Io.KnownBytes.{Appends, Consumes, IsAtEnd}
 use Rattle.std.specs.List.{flat_map}
 use Rattle.lfs_types.specs.Caller.{Caller as Credential}
@@ -22,11 +23,14 @@ use Rattle.lfs_browse.specs.Looks.{TellsLook}
 use Rattle.lfs_browse.specs.declared.asker.Asker.{Asker}
 use Rattle.lfs_who.specs.WhoText.{IsWhoTold}
 use Rattle.lfs_why.specs.WhyText.{why_text}
+use Rattle.lfs_live.specs.Faulty.{have_fault, is_told}
+use Rattle.lfs_live.specs.Frames.{framed, frames}
 use Rattle.lfs_live.specs.Hearing.{heard_of}
 use Rattle.lfs_live.specs.Held.{Course, Held, MovesOn, Sink, Takes, course_of}
 use Rattle.lfs_live.specs.Talkers.{Talker}
 use Rattle.lfs_live.specs.Pieces.{ended_line}
-use Rattle.lfs_live.specs.Telling.{cut_text, dot_text, fault_line}
+use Rattle.lfs_live.specs.Telling.{cut_texts, dot_text, fault_line}
+use Rattle.lfs_live.specs.declared.framing.Framing.{Framing}
 use Rattle.lfs_live.specs.declared.hearing.Dot.TheVariants.{Quit}
 use Rattle.lfs_live.specs.declared.hearing.Heard.{Heard}
 use Rattle.lfs_live.specs.declared.hearing.Heard.TheVariants as heard
@@ -67,22 +71,22 @@ abbrev pub IsAnsweredBy : World → Inquiry → Credential → Request → List 
 IsAnsweredBy w Why caller request told = told ≡ why_text w caller request
 IsAnsweredBy w Who caller request told = IsWhoTold w request told
 
--- The same of each line, with the entries that were handed out and the answers that were told by then: a call that is
--- asked about is not made, a look makes its calls, whose refusals are not counted, and a word of the server's own and a
--- fault change nothing.
-abbrev pub Hears : {F : Type 0} → Talker F → List Entry → List StepAnswer → Seen F → Speaker → Heard → List ℕ → Seen F
-    → Speaker → List StepAnswer → Type 0
-Hears r handed answers old speaker (heard.Line line) told new then given =
+-- The same of each line, by its number, with the entries that were handed out and the answers that were told by then: a
+-- call that is asked about is not made, a look makes its calls, whose refusals are not counted, and a word of the
+-- server's own and a fault change nothing.
+abbrev pub Hears : {F : Type 0} → Talker F → ℕ → List Entry → List StepAnswer → Seen F → Speaker → Heard → List ℕ
+    → Seen F → Speaker → List StepAnswer → Type 0
+Hears r number handed answers old speaker (heard.Line line) told new then given =
     Does r.cleaner old speaker line told new then given
-Hears r handed answers old speaker (heard.Asks inquiry request) told new then given =
+Hears r number handed answers old speaker (heard.Asks inquiry request) told new then given =
     LooksOn (r.cleaner.state old.store) (r.cleaner.state new.store) old new × (then ≡ speaker)
     × AtPresent r.cleaner.state old (λ w. IsAnsweredBy w inquiry speaker.cred request told) × (given ≡ [])
-Hears r handed answers old speaker (heard.Looks look path) told new then given =
+Hears r number handed answers old speaker (heard.Looks look path) told new then given =
     TellsLook r.cleaner old new (asker_of speaker) look path [] told × (then ≡ speaker) × (given ≡ [])
-Hears r handed answers old speaker (heard.Dot dot) told new then given =
+Hears r number handed answers old speaker (heard.Dot dot) told new then given =
     (new ≡ old) × (then ≡ speaker) × (dot_text r dot handed answers old ≡ Some told) × (given ≡ [])
-Hears r handed answers old speaker (heard.Fault fault place) told new then given =
-    (new ≡ old) × (then ≡ speaker) × (told ≡ fault_line fault place) × (given ≡ [])
+Hears r number handed answers old speaker (heard.Fault fault place) told new then given =
+    (new ≡ old) × (then ≡ speaker) × (told ≡ fault_line number fault place) × (given ≡ [])
 
 -- a pass of the cleaner is due: passes are made unasked, and at most three segments are clean
 abbrev pub is_due : {F : Type 0} → (F → StoreState) → Course F → Bool
@@ -100,78 +104,86 @@ pub record Tidies {F : Type 0} (r : Cleaner F) (now after : Course F) : Type 0 w
   pub passes : is_due r.state now ≡ true → HasPassed r now after
   pub stays : is_due r.state now ≡ false → after ≡ now
 
--- the same of lines, one after another, behind each of which entries may be handed out, or the journal closed, and a
--- pass made
-abbrev pub HearsAll : {F : Type 0} → Talker F → Course F → Speaker → List (List ℕ) → List ℕ → Course F → Speaker
-    → Type 0
-HearsAll r old speaker [] told new then = (new ≡ old) × (then ≡ speaker) × (told ≡ [])
-HearsAll {F} r old speaker (line ∷ lines) told new then =
-    (first : List ℕ) × (rest : List ℕ) × (middle : Seen F) × (after : Course F) × (tidied : Course F)
-    × (next : Speaker) × (given : List StepAnswer) × (told ≡ first ++ rest) × HasNoLineFeed line
-    × Hears r old.handed old.answers old.volume speaker (heard_of line) first middle next given
+-- The same of lines, one after another, of which the first has this number, with the text that is told of each: behind
+-- each of them entries may be handed out, or the journal closed, and a pass made.
+abbrev pub HearsAll : {F : Type 0} → Talker F → ℕ → Course F → Speaker → List (List ℕ) → List (List ℕ) → Course F
+    → Speaker → Type 0
+HearsAll r number old speaker [] texts new then = (new ≡ old) × (then ≡ speaker) × (texts ≡ [])
+HearsAll {F} r number old speaker (line ∷ lines) texts new then =
+    (told : List ℕ) × (rest : List (List ℕ)) × (middle : Seen F) × (after : Course F) × (tidied : Course F)
+    × (next : Speaker) × (given : List StepAnswer) × (texts ≡ told ∷ rest) × HasNoLineFeed line
+    × Hears r number old.handed old.answers old.volume speaker (heard_of line) told middle next given
     × MovesOn (record old { volume = middle; answers = old.answers ++ given }) after × Tidies r.cleaner after tidied
-    × HearsAll r tidied next lines rest new then
+    × HearsAll r (number + 1) tidied next lines rest new then
 
 -- lines, each with its line feed
 abbrev pub ended : List (List ℕ) → List ℕ
 ended lines = flat_map ended_line lines
 
 -- Lines were read, and what is told of them is written; and a part of a line was read, of which nothing is told.
-pub record HasHeardSoFar {F : Type 0} (r : Talker F) (old new : Course F)
+pub record HasHeardSoFar {F : Type 0} (r : Talker F) (framing : Framing) (old new : Course F)
     (known left start out : Option (List ℕ)) : Type 0 where
   pub then : Speaker
   pub lines : List (List ℕ)
   pub part : List ℕ
-  pub told : List ℕ
-  pub heard : HearsAll r old first_speaker lines told new then
+  pub texts : List (List ℕ)
+  pub heard : HearsAll r 1 old first_speaker lines texts new then
   pub unended : HasNoLineFeed part
   pub taken : Consumes known left (ended lines ++ part)
-  pub printed : Appends start out told
+  pub printed : Appends start out (frames framing texts)
 
--- what was read last: a line that quits, of which nothing is told, or all that is behind the last line feed
-abbrev pub IsLast : List ℕ → List ℕ → Option (List ℕ) → Type 0
-IsLast last told left =
-    ((line : List ℕ) × HasNoLineFeed line × (heard_of line ≡ heard.Dot Quit) × (last ≡ ended_line line) × (told ≡ []))
-    ⊎ (HasNoLineFeed last × IsAtEnd left × (told ≡ cut_text last))
+-- what was read last, of the line with this number: one that quits, of which nothing is told, or all that is behind the
+-- last line feed
+abbrev pub IsLast : ℕ → List ℕ → List (List ℕ) → Option (List ℕ) → Type 0
+IsLast number last texts left =
+    ((line : List ℕ) × HasNoLineFeed line × (heard_of line ≡ heard.Dot Quit) × (last ≡ ended_line line)
+    × (texts ≡ []))
+    ⊎ (HasNoLineFeed last × IsAtEnd left × (texts ≡ cut_texts number last))
 
 -- Lines were read up to one that quits, or to the end of the input, and what is told of each is written, in order, and
 -- nothing else.
-pub record HasHeardAll {F : Type 0} (r : Talker F) (old new : Course F)
+pub record HasHeardAll {F : Type 0} (r : Talker F) (framing : Framing) (old new : Course F)
     (known left start out : Option (List ℕ)) : Type 0 where
   pub then : Speaker
   pub lines : List (List ℕ)
   pub last : List ℕ
-  pub told : List ℕ
-  pub told_last : List ℕ
-  pub heard : HearsAll r old first_speaker lines told new then
-  pub ends : IsLast last told_last left
+  pub texts : List (List ℕ)
+  pub last_texts : List (List ℕ)
+  pub heard : HearsAll r 1 old first_speaker lines texts new then
+  pub ends : IsLast (length lines + 1) last last_texts left
   pub taken : Consumes known left (ended lines ++ last)
-  pub printed : Appends start out (told ++ told_last)
+  pub printed : Appends start out (frames framing (texts ++ last_texts))
+
+-- one of the lines has a fault, or what is behind the last line feed
+abbrev pub has_fault_in : {F : Type 0} {r : Talker F} {framing : Framing} {old new : Course F}
+    {known left start out : Option (List ℕ)} → HasHeardAll r framing old new known left start out → Bool
+has_fault_in heard = have_fault heard.lines heard.texts || is_told heard.last_texts
 
 -- the same, and then the report of all entries, those that were handed out and those that are kept, which are legal from
 -- the tree where the journal began, and of the answers that were told
-pub record IsTalk {F : Type 0} (r : Talker F) (old new : Course F)
+pub record IsTalk {F : Type 0} (r : Talker F) (framing : Framing) (old new : Course F)
     (known left start out : Option (List ℕ)) : Type 0 where
   pub before : Option (List ℕ)
-  pub heard : HasHeardAll r old new known left start before
+  pub heard : HasHeardAll r framing old new known left start before
   pub legal : Since (r.cleaner.state old.volume.since) old.volume.since_level (λ from.
       let shape = (r.cleaner.state old.volume.store).shape in
       IsLegal shape.numbers shape.segments (new.handed ++ new.volume.journal) from)
-  pub reported : Appends before out (run_report (new.handed ++ new.volume.journal) new.answers)
+  pub reported : Appends before out (framed framing (run_report (new.handed ++ new.volume.journal) new.answers))
 
--- A talk with its sink: the entries that were handed out; and a sink that takes more has the lines of all entries, in
--- order, each once.
-pub record IsKeptTalk {F J : Type 0} (r : Talker F) (sink : Sink J) (old new : Held F J)
-    (known left start out : Option (List ℕ)) : Type 0 where
+-- A talk with its sink: the entries that were handed out; a sink that takes more has the lines of all entries, in order,
+-- each once; and whether a line had a fault.
+pub record IsKeptTalk {F J : Type 0} (r : Talker F) (framing : Framing) (sink : Sink J) (old new : Held F J)
+    (has_fault : Bool) (known left start out : Option (List ℕ)) : Type 0 where
   pub handed : List Entry
   pub answers : List StepAnswer
-  pub talk : IsTalk r (course_of old [] []) (course_of new handed answers) known left start out
+  pub talk : IsTalk r framing (course_of old [] []) (course_of new handed answers) known left start out
+  pub faulty : has_fault ≡ has_fault_in talk.heard
   pub kept : new.is_open ≡ true → Takes sink old.sink new.sink (handed ++ new.volume.journal)
 
 -- the same up to a read that failed
-pub record HasKeptSoFar {F J : Type 0} (r : Talker F) (sink : Sink J) (old new : Held F J)
+pub record HasKeptSoFar {F J : Type 0} (r : Talker F) (framing : Framing) (sink : Sink J) (old new : Held F J)
     (known left start out : Option (List ℕ)) : Type 0 where
   pub handed : List Entry
   pub answers : List StepAnswer
-  pub so_far : HasHeardSoFar r (course_of old [] []) (course_of new handed answers) known left start out
+  pub so_far : HasHeardSoFar r framing (course_of old [] []) (course_of new handed answers) known left start out
   pub kept : new.is_open ≡ true → Takes sink old.sink new.sink (handed ++ new.volume.journal)

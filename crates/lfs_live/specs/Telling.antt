@@ -35,14 +35,19 @@ abbrev pub fault_word : LineFault → List ℕ
 fault_word TooLong = codes "TooLong"
 fault_word (Kind kind) = kind_word kind
 
--- the line of a fault, with where it stands
-unfoldable pub fault_line : LineFault → List ℕ → List ℕ
-fault_line fault place = codes "fault" ++ 32 ∷ fault_word fault ++ place ++ 10 ∷ []
+-- the line of a fault: its word, the number of the line that has it, and where it stands there
+unfoldable pub fault_line : ℕ → LineFault → List ℕ → List ℕ
+fault_line number fault place =
+    codes "fault" ++ 32 ∷ fault_word fault ++ codes " line " ++ decimal number ++ place ++ 10 ∷ []
 
--- what is told of bytes behind the last line feed
-abbrev pub cut_text : List ℕ → List ℕ
-cut_text [] = []
-cut_text (c ∷ cs) = fault_line (if is_long (c ∷ cs) then TooLong else Kind Cut) []
+-- what is told of bytes behind the last line feed, which have this number
+abbrev pub cut_line : ℕ → List ℕ → List ℕ
+cut_line number bytes = fault_line number (if is_long bytes then TooLong else Kind Cut) []
+
+-- the same, where there are some
+abbrev pub cut_texts : ℕ → List ℕ → List (List ℕ)
+cut_texts number [] = []
+cut_texts number (c ∷ cs) = cut_line number (c ∷ cs) ∷ []
 
 -- how many entries a journal keeps of how many, and how many were handed out of it
 unfoldable pub entries_told : ℕ → ℕ → ℕ → List ℕ

@@ -5,7 +5,7 @@ ghost use Rattle.lfs_script.specs.Places.{place_text};
 ghost use Rattle.lfs_live.specs.Telling.{fault_line, fault_word, kind_word};
 
 use lfs_script::place::push_place;
-use lfs_words::append::push_word;
+use lfs_words::append::{push_decimal, push_word};
 use lfs_words::fault::FaultKind;
 use std::alloc::{AllocError, Global};
 use std::marker::Model;
@@ -99,13 +99,20 @@ fn kind_word(kind: FaultKind) -> &'static str
     }
 }
 
-/// Appends the line of a fault, with where it stands.
+/// Appends the line of a fault: its word, the number of the line that has it, and where it stands there.
 #[tactic(auto, unfolding(crate::specs::Telling::fault_line))]
-pub fn push_fault(out: &mut Vec<u8>, fault: LineFault, place: &Place) -> Result<(), AllocError>
-    ensures { OnOk result (out.new.items ≡ out.old.items ++ fault_line fault place.now) }
+pub fn push_fault(
+    out: &mut Vec<u8>,
+    number: u64,
+    fault: LineFault,
+    place: &Place,
+) -> Result<(), AllocError>
+    ensures { OnOk result (out.new.items ≡ out.old.items ++ fault_line number fault place.now) }
 {
     out.extend_from_slice(b"fault")?;
     push_word(out, fault.word())?;
+    out.extend_from_slice(b" line ")?;
+    push_decimal(out, number)?;
     out.extend_from_slice(place.text())?;
     out.extend_from_slice(b"\n")
 }

@@ -2,6 +2,7 @@
 #![tactic(auto)]
 
 pub mod fault;
+pub mod framing;
 pub mod hearing;
 pub mod help;
 pub mod journal;

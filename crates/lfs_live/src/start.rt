@@ -7,8 +7,10 @@ ghost use Rattle.lfs_live.specs.Faults.{IsTalkFault};
 ghost use Rattle.lfs_live.specs.Held.{HasBegun, sink_of};
 ghost use Rattle.lfs_live.specs.Scripts.{HasHeardOfLog, IsKeptLogTalk, IsLogFault, IsLogTalk, log_talker};
 ghost use Rattle.lfs_live.specs.Talking.{HasKeptSoFar, IsKeptTalk};
+ghost use Rattle.lfs_live.specs.declared.framing.Framing.TheVariants.{Plain};
 
-use crate::talk::talk;
+use crate::framing::Framing;
+use crate::talk::{Setting, talk};
 use crate::tended::Tended;
 use crate::watch::{Nobody, Watch};
 use crate::witnesses::Witnesses;
@@ -25,6 +27,8 @@ use std::io::{self, Read, Write};
 pub struct Setup<J: Drop, V: Drop> {
     /// The parameters of the volume.
     pub params: Params,
+    /// How the answers are framed.
+    pub framing: Framing,
     /// Whether the cleaner makes a pass unasked behind each line that leaves at most three segments clean.
     pub cleans: bool,
     /// Who stands beside.
@@ -48,13 +52,13 @@ pub fn run_kept<J: JournalSink + Drop, V: Watch<LogStore> + Drop, R: Read, W: Wr
 ) -> Result<Witnesses<J, V>, RunFault>
     ensures written { let p = setup.params in let before = setup.witnesses in IfOk result (λ after.
         IsKeptLogTalk p.segments p.inodes p.frames p.journal
-        (record { is_open = before.is_open; cleans = setup.cleans }) after.is_open (J.next before.sink)
+        (record { is_open = before.is_open; cleans = setup.cleans; framing = setup.framing }) after.is_open (J.next before.sink)
         (J.contents before.sink) (J.contents after.sink)
         (R.remaining reader.old) (R.remaining reader.new)
         (W.contents writer.old) (W.contents writer.new)) }
     ensures so_far { let p = setup.params in IfErr result (λ fault. fault ≡ Failed → HasHeardOfLog
         p.segments p.inodes p.frames p.journal
-        (record { is_open = setup.witnesses.is_open; cleans = setup.cleans })
+        (record { is_open = setup.witnesses.is_open; cleans = setup.cleans; framing = setup.framing })
         (R.remaining reader.old) (R.remaining reader.new)
         (W.contents writer.old) (W.contents writer.new)) }
     ensures silent { IfOk result (λ after. after.is_open ≡ setup.witnesses.is_open → teller.new ≡ teller.old) }
@@ -62,36 +66,40 @@ pub fn run_kept<J: JournalSink + Drop, V: Watch<LogStore> + Drop, R: Read, W: Wr
     ensures fault { let p = setup.params in IfErr result (IsLogFault p.segments p.inodes p.frames) }
 {
     let volume = fresh_volume(alloc, setup.params)?;
+    let setting = Setting {
+        alloc,
+        framing: setup.framing,
+    };
     let mut tended = Tended::new(alloc, volume, setup.cleans, setup.witnesses);
-    run_over(alloc, reader, writer, teller, &mut tended)?;
+    run_over(setting, reader, writer, teller, &mut tended)?;
     Ok(tended.into_witnesses())
 }
 
 /// A talk over a volume, whatever tree it begins at: one who watches is shown its store, with an empty line of which nothing
-/// is told, before the first line.
+/// is told, before the first line. Whether a line had a fault.
 ///
 /// # Errors
 ///
 /// Those of `talk`.
 pub fn run_over<J: JournalSink + Drop, V: Watch<LogStore> + Drop, R: Read, W: Write, D: Write>(
-    alloc: Global,
+    setting: Setting,
     reader: &mut R,
     writer: &mut W,
     teller: &mut D,
     tended: &mut Tended<LogStore, J, V>,
-) -> Result<(), RunFault>
-    ensures written { OnOk result (HasBegun tended.old → IsKeptTalk log_talker (sink_of J.contents J.next)
-        tended.old tended.new (R.remaining reader.old) (R.remaining reader.new)
+) -> Result<bool, RunFault>
+    ensures written { IfOk result (λ has_fault. HasBegun tended.old → IsKeptTalk log_talker setting.framing
+        (sink_of J.contents J.next) tended.old tended.new has_fault (R.remaining reader.old) (R.remaining reader.new)
         (W.contents writer.old) (W.contents writer.new)) }
     ensures so_far { IfErr result (λ fault. fault ≡ Failed → HasBegun tended.old → HasKeptSoFar log_talker
-        (sink_of J.contents J.next) tended.old tended.new (R.remaining reader.old) (R.remaining reader.new)
+        setting.framing (sink_of J.contents J.next) tended.old tended.new (R.remaining reader.old) (R.remaining reader.new)
         (W.contents writer.old) (W.contents writer.new)) }
     ensures opened { OnOk result (tended.new.is_open ≡ true → tended.old.is_open ≡ true) }
     ensures silent { OnOk result (tended.new.is_open ≡ tended.old.is_open → teller.new ≡ teller.old) }
     ensures fault { IfErr result IsTalkFault }
 {
-    match tended.show(alloc, &[], &[]) {
-        Ok(()) => talk(alloc, reader, writer, teller, tended),
+    match tended.show(setting.alloc, &[], &[]) {
+        Ok(()) => talk(setting, reader, writer, teller, tended),
         Err(AllocError) => Err(RunFault::Memory),
     }
 }
@@ -111,12 +119,12 @@ pub fn run_watched<V: Watch<LogStore> + Drop, R: Read, W: Write>(
 ) -> Result<V, RunFault>
     ensures written { OnOk result (IsLogTalk
         params.segments params.inodes params.frames params.journal
-        (record { is_open = false; cleans = cleans })
+        (record { is_open = false; cleans = cleans; framing = Plain })
         (R.remaining reader.old) (R.remaining reader.new)
         (W.contents writer.old) (W.contents writer.new)) }
     ensures so_far { IfErr result (λ fault. fault ≡ Failed → HasHeardOfLog
         params.segments params.inodes params.frames params.journal
-        (record { is_open = false; cleans = cleans })
+        (record { is_open = false; cleans = cleans; framing = Plain })
         (R.remaining reader.old) (R.remaining reader.new)
         (W.contents writer.old) (W.contents writer.new)) }
     ensures ranges { OnOk result (IsInRange params.segments params.inodes params.frames) }
@@ -130,6 +138,7 @@ pub fn run_watched<V: Watch<LogStore> + Drop, R: Read, W: Write>(
     };
     let setup = Setup {
         params,
+        framing: Framing::Plain,
         cleans,
         witnesses,
     };
@@ -153,12 +162,12 @@ pub fn run_lines<R: Read, W: Write>(
 ) -> Result<(), RunFault>
     ensures written { OnOk result (IsLogTalk
         params.segments params.inodes params.frames params.journal
-        (record { is_open = false; cleans = false })
+        (record { is_open = false; cleans = false; framing = Plain })
         (R.remaining reader.old) (R.remaining reader.new)
         (W.contents writer.old) (W.contents writer.new)) }
     ensures so_far { IfErr result (λ fault. fault ≡ Failed → HasHeardOfLog
         params.segments params.inodes params.frames params.journal
-        (record { is_open = false; cleans = false })
+        (record { is_open = false; cleans = false; framing = Plain })
         (R.remaining reader.old) (R.remaining reader.new)
         (W.contents writer.old) (W.contents writer.new)) }
     ensures ranges { OnOk result (IsInRange params.segments params.inodes params.frames) }

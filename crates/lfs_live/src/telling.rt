@@ -1,6 +1,6 @@
 //! What a line does, and the text that is told of it.
 
-ghost use Rattle.std.specs.Prelude.{◌≡◌, ◌++◌, [], List, length, Some, IfOk, MatchOption, OnOk};
+ghost use Rattle.std.specs.Prelude.{◌≡◌, ◌++◌, [], false, List, length, Some, IfOk, IfSome, MatchOption, OnOk};
 ghost use Rattle.lfs_model.specs.Counts.{counts_of};
 ghost use Rattle.lfs_volume.specs.Cleanings.{cleaner_of};
 ghost use Rattle.lfs_volume.specs.Journals.{AtPresent};
@@ -10,12 +10,13 @@ ghost use Rattle.lfs_model.specs.declared.steps.StepAnswer.{StepAnswer};
 ghost use Rattle.lfs_sinks.specs.Refusals.{AddsUp, run_report, tally_of};
 ghost use Rattle.lfs_who.specs.WhoText.{IsWhoTold};
 ghost use Rattle.lfs_why.specs.WhyText.{why_text};
+ghost use Rattle.lfs_live.specs.Faulty.{is_faulty};
 ghost use Rattle.lfs_live.specs.Hearing.{heard_of};
 ghost use Rattle.lfs_live.specs.Talkers.{talker_of};
 ghost use Rattle.lfs_live.specs.Steps.{HasAnswered};
 ghost use Rattle.lfs_live.specs.Talking.{Does, IsAnsweredBy, LooksOn, asker_of, first_speaker};
 ghost use Rattle.lfs_live.specs.HelpText.{help_text};
-ghost use Rattle.lfs_live.specs.Telling.{cut_text, dot_text, entries_told, fault_line};
+ghost use Rattle.lfs_live.specs.Telling.{cut_line, dot_text, entries_told, fault_line};
 ghost use Rattle.lfs_live.specs.declared.hearing.Dot.TheVariants.{Quit};
 ghost use Rattle.lfs_live.specs.declared.hearing.Heard.TheVariants as heard;
 
@@ -66,8 +67,49 @@ impl Speaker {
     }
 }
 
-/// Does what a line says, counts the answers to its calls, and gives the text that is told of it, or none for a line that
-/// quits. A line is given without its line feed.
+/// A line.
+#[derive(Clone, Copy, Debug)]
+pub struct NumberedLine<'a> {
+    /// Its number, from 1 on.
+    pub number: u64,
+    /// Its bytes, without its line feed.
+    pub bytes: &'a [u8],
+}
+
+/// What is told of a line.
+#[derive(Drop)]
+pub struct Told {
+    /// The text.
+    pub text: Vec<u8>,
+    /// Whether the line has a fault.
+    pub has_fault: bool,
+}
+
+impl Told {
+    /// What is told of a line without a fault.
+    fn faultless(text: Vec<u8>) -> Told
+        ensures { result ≡ record { text = text; has_fault = false } }
+    {
+        Told {
+            text,
+            has_fault: false,
+        }
+    }
+
+    /// What is told of a word of the server's own: of a segment that there is not, a fault.
+    fn of_dot(dot: Dot, text: Vec<u8>) -> Told
+        ensures text { result.text ≡ text }
+        ensures faulty { result.has_fault ≡ is_faulty (heard.Dot dot) text.items }
+    {
+        let has_fault = match dot {
+            Dot::Segment(_) => text.as_slice().starts_with(b"fault "),
+            _ => false,
+        };
+        Told { text, has_fault }
+    }
+}
+
+/// Does what a line says, counts the answers to its calls, and gives what is told of it, or none for a line that quits.
 ///
 /// # Errors
 ///
@@ -77,32 +119,44 @@ pub fn answer<F: CleanedStore + ShowsLog + Drop>(
     volume: &mut Volume<F>,
     tally: &mut Tally,
     speaker: &mut Speaker,
-    line: &[u8],
-) -> Result<Option<Vec<u8>>, AllocError>
-    ensures { IfOk result (λ given. MatchOption given
-        ((heard_of line.now ≡ heard.Dot Quit) × (volume.new ≡ volume.old) × (tally.new ≡ tally.old))
-        (λ text. HasAnswered
+    line: NumberedLine<'_>,
+) -> Result<Option<Told>, AllocError>
+    ensures told { IfOk result (λ given. MatchOption given
+        ((heard_of line.entry.bytes.now ≡ heard.Dot Quit) × (volume.new ≡ volume.old) × (tally.new ≡ tally.old))
+        (λ told. HasAnswered
         (talker_of (cleaner_of F.state F.is_settled F.cleaner)
-        F.map_text F.segment_text F.space_text)
-        volume.old volume.new tally.old tally.new speaker.old speaker.new (heard_of line.now) text.items)) }
+        F.map_text F.segment_text F.space_text) line.entry.number
+        volume.old volume.new tally.old tally.new speaker.old speaker.new
+        (heard_of line.entry.bytes.now) told.text.items)) }
+    ensures faulty { IfOk result (λ given. IfSome given (λ told. told.has_fault
+        ≡ is_faulty (heard_of line.entry.bytes.now) told.text.items)) }
 {
-    match hear(alloc, line)? {
-        Heard::Line(said) => Ok(Some(obey(alloc, volume, &mut tally.refusals, speaker, said)?)),
+    match hear(alloc, line.bytes)? {
+        Heard::Line(said) => {
+            let text = obey(alloc, volume, &mut tally.refusals, speaker, said)?;
+            Ok(Some(Told::faultless(text)))
+        }
         Heard::Asks(inquiry, request) => {
-            let told = tell_inquiry(alloc, volume, inquiry, &speaker.cred, &request);
+            let text = tell_inquiry(alloc, volume, inquiry, &speaker.cred, &request);
             drop(request);
-            Ok(Some(told?))
+            Ok(Some(Told::faultless(text?)))
         }
         Heard::Looks(look, path) => {
-            let told = look_at(alloc, volume, speaker, look, &path);
+            let text = look_at(alloc, volume, speaker, look, &path);
             drop(path);
-            Ok(Some(told?))
+            Ok(Some(Told::faultless(text?)))
         }
-        Heard::Dot(dot) => tell_dot(alloc, volume, tally, dot),
+        Heard::Dot(dot) => match tell_dot(alloc, volume, tally, dot)? {
+            Some(text) => Ok(Some(Told::of_dot(dot, text))),
+            None => Ok(None),
+        },
         Heard::Fault(fault, place) => {
-            let text = tell_fault(alloc, fault, &place);
+            let text = tell_fault(alloc, line.number, fault, &place);
             drop(place);
-            Ok(Some(text?))
+            Ok(Some(Told {
+                text: text?,
+                has_fault: true,
+            }))
         }
     }
 }
@@ -325,26 +379,28 @@ fn tell_help(alloc: Global) -> Result<Vec<u8>, AllocError>
     Ok(text)
 }
 
-/// The line of a fault, with where it stands.
-fn tell_fault(alloc: Global, fault: LineFault, place: &Place) -> Result<Vec<u8>, AllocError>
-    ensures { IfOk result (λ text. text.items ≡ fault_line fault place.now) }
+/// The line of a fault of the line of this number, with where it stands.
+fn tell_fault(
+    alloc: Global,
+    number: u64,
+    fault: LineFault,
+    place: &Place,
+) -> Result<Vec<u8>, AllocError>
+    ensures { IfOk result (λ text. text.items ≡ fault_line number fault place.now) }
 {
     let mut text = Vec::new(alloc);
-    push_fault(&mut text, fault, place)?;
+    push_fault(&mut text, number, fault, place)?;
     Ok(text)
 }
 
-/// The text that is told of what is behind the last line feed.
-pub(crate) fn tell_cut(alloc: Global, bytes: &[u8]) -> Result<Vec<u8>, AllocError>
-    ensures { IfOk result (λ text. text.items ≡ cut_text bytes.now) }
+/// The text that is told of what is behind the last line feed, where there is something.
+pub(crate) fn tell_cut(alloc: Global, line: NumberedLine<'_>) -> Result<Vec<u8>, AllocError>
+    ensures { IfOk result (λ text. text.items ≡ cut_line line.entry.number line.entry.bytes.now) }
 {
-    if bytes.is_empty() {
-        return Ok(Vec::new(alloc));
-    }
-    let fault = if bytes.len() > LINE_MAX {
+    let fault = if line.bytes.len() > LINE_MAX {
         LineFault::TooLong
     } else {
         LineFault::Kind(FaultKind::Cut)
     };
-    tell_fault(alloc, fault, &Place::none(alloc))
+    tell_fault(alloc, line.number, fault, &Place::none(alloc))
 }

@@ -1,7 +1,7 @@
 -- How `lfs_shell` ends, by how its talk did.
 use Rattle.std.proofs.Common.{◌≡◌, ℕ, Bool, true, false, List, Option, Result, Ok, Err, IfErr, IfOk, IsSome, inl, inr}
 use Rattle.std.proofs.Common.{is_some, refl, sym}
-use Rattle.std.proofs.Common.{subst, ◌∙◌, arith}
+use Rattle.std.proofs.Common.{ap, subst, ◌∙◌, arith}
 use Rattle.std.specs.Prelude.{MatchResult}
 use Rattle.lfs_audit.specs.declared.fault.RunFault.{RunFault}
 use Rattle.lfs_audit.specs.declared.fault.RunFault.TheVariants.{Read}
@@ -9,11 +9,12 @@ use Rattle.lfs_audit.specs.declared.fault.RunFault.TheVariants as run
 use Rattle.lfs_live.specs.Faults.{IsTalkFault}
 use Rattle.lfs_live.specs.Scripts.{IsLogFault}
 use Rattle.lfs_programs.specs.Talks.{EndsShell, EndsTalk, Finishes, HasBrokenOff, HasTalked, HasTalkedSoFar}
-use Rattle.lfs_programs.specs.Talks.{IsShellFault}
+use Rattle.lfs_programs.specs.Talks.{IsShellFault, whole_with}
 use Rattle.lfs_programs.specs.declared.fault.ShellFault.{ShellFault}
 use Rattle.lfs_programs.specs.declared.fault.ShellFault.TheVariants.{Film, Image, Journal, Line, Talk}
 use Rattle.lfs_programs.specs.declared.fault.ShellFault.TheVariants.{Unsaved}
 use Rattle.lfs_programs.specs.Volumes.{IsUnbegun}
+use Rattle.lfs_programs.specs.declared.filming.Ending.{Ending}
 use Rattle.lfs_programs.specs.declared.filming.Heard.{Heard}
 use Rattle.lfs_programs.specs.declared.options.ShellOptions.{ShellOptions}
 
@@ -94,21 +95,24 @@ talk_cause options run.Write cause = cause
 
 -- the file of the journal has each entry, and the volume is kept
 whole : {F : Type 0} (contents : F → Option (List ℕ)) (options : ShellOptions) (known start out : Option (List ℕ))
-    (heard : Heard) → heard.is_kept ≡ true → heard.is_saved ≡ true
-    → HasTalked contents options heard.is_kept heard.is_saved known start out
-    → HasTalked contents options true true known start out
-whole contents options known start out heard kept saved talked =
-    subst (λ (b : Bool). HasTalked contents options b true known start out) kept
-    (subst (λ (b : Bool). HasTalked contents options heard.is_kept b known start out) saved talked)
+    (ending : Ending) (has_fault : Bool) → ending.is_kept ≡ true → ending.is_saved ≡ true
+    → ending.has_fault ≡ has_fault → HasTalked contents options ending known start out
+    → HasTalked contents options (whole_with has_fault) known start out
+whole contents options known start out ending has_fault kept saved faulty talked =
+    let is : ending ≡ whole_with has_fault =
+    ap (λ (b : Bool). record ending { is_kept = b }) kept
+    ∙ ap (λ (b : Bool). record ending { is_kept = true; is_saved = b }) saved
+    ∙ ap (λ (b : Bool). whole_with b) faulty in
+    subst (λ (e : Ending). HasTalked contents options e known start out) is talked
 
 -- a talk, what it has besides, and the status that is told of it
 pub ends_talk : {R W D F : Type 0} (contents : F → Option (List ℕ)) (options : ShellOptions)
     (known start out : Option (List ℕ)) (status : ℕ) (in_before in_after : R) (out_before out_after : W)
     (err_before err_between err_after : D) (heard : Result Heard RunFault) (outcome : Result (Unit {0}) ShellFault)
-    → IfOk heard (λ h. HasTalked contents options h.is_kept h.is_saved known start out)
-    → IfOk heard (λ h. h.is_kept ≡ true → h.is_saved ≡ true → err_between ≡ err_before)
-    → IfOk heard (λ h. h.is_kept ≡ false → IsSome options.journal_out)
-    → IfOk heard (λ h. h.is_saved ≡ false → IsSome options.image)
+    → IfOk heard (λ h. HasTalked contents options h.ending known start out)
+    → IfOk heard (λ h. h.ending.is_kept ≡ true → h.ending.is_saved ≡ true → err_between ≡ err_before)
+    → IfOk heard (λ h. h.ending.is_kept ≡ false → IsSome options.journal_out)
+    → IfOk heard (λ h. h.ending.is_saved ≡ false → IsSome options.image)
     → IfErr heard (λ fault. fault ≡ Read → HasTalkedSoFar options known start out)
     → IfErr heard IsTalkFault
     → Finishes contents options heard outcome
@@ -125,7 +129,9 @@ ends_talk contents options known start out status in_before in_after out_before 
     err_after (Ok heard) (Ok done) talked silent kept saved so_far cause finishes is untold = record {
       either = omega (arith, is);
       done = λ _. (
-        whole contents options known start out heard finishes.0 finishes.1 talked,
+        heard.ending.has_fault,
+        whole contents options known start out heard.ending heard.ending.has_fault finishes.0 finishes.1 refl talked,
+        finishes.3,
         untold ∙ silent finishes.0 finishes.1,
       );
       filmed = λ _. finishes.2;
@@ -143,7 +149,7 @@ ends_talk contents options known start out status in_before in_after out_before 
       fault = Film why;
       cause = finishes;
       so_far = λ talk. absurd (cc);
-      answered = λ _ _. (heard.is_kept, heard.is_saved, talked);
+      answered = λ _ _. (heard.ending, talked);
       unkept = λ journal. absurd (cc);
       unsaved = λ image. absurd (cc);
       faulty = λ line. absurd (cc);
@@ -156,11 +162,7 @@ ends_talk contents options known start out status in_before in_after out_before 
       cause = kept finishes;
       so_far = λ talk. absurd (cc);
       answered = λ why film. absurd (cc);
-      unkept = λ _. (
-        heard.is_saved,
-        subst (λ (b : Bool). HasTalked contents options b heard.is_saved known start out)
-            finishes talked,
-      );
+      unkept = λ _. (heard.ending, finishes, talked);
       unsaved = λ image. absurd (cc);
       faulty = λ line. absurd (cc);
     })
@@ -173,8 +175,7 @@ ends_talk contents options known start out status in_before in_after out_before 
       so_far = λ talk. absurd (cc);
       answered = λ why film. absurd (cc);
       unkept = λ journal. absurd (cc);
-      unsaved = λ _. subst (λ (b : Bool). HasTalked contents options b false known start out) finishes.0
-          (subst (λ (b : Bool). HasTalked contents options heard.is_kept b known start out) finishes.1 talked);
+      unsaved = λ _. (heard.ending, finishes.0, finishes.1, talked);
       faulty = λ line. absurd (cc);
     })
 ends_talk contents options known start out status in_before in_after out_before out_after err_before err_between
@@ -187,7 +188,7 @@ ends_talk contents options known start out status in_before in_after out_before 
       answered = λ why film. absurd (cc);
       unkept = λ journal. absurd (cc);
       unsaved = λ image. absurd (cc);
-      faulty = λ _. whole contents options known start out heard finishes.0 finishes.1 talked;
+      faulty = λ _. whole contents options known start out heard.ending true finishes.0 finishes.1 finishes.3 talked;
     })
 
 -- a talk whose journal's file is not made

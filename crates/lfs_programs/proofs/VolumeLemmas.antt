@@ -7,12 +7,13 @@ use Rattle.std.proofs.KnownBytes.{prepend_known-nil}
 use Rattle.std.specs.declared.io.buffered.BufReader.{BufReader}
 use Rattle.lfs_staging.specs.declared.parts.Parts.{Parts}
 use Rattle.lfs_volume.specs.Seen.{Seen}
-use Rattle.lfs_live.specs.Held.{HasBegun, Held, Sink}
+use Rattle.lfs_live.specs.Held.{HasBegun, Held, Sink, course_of}
 use Rattle.lfs_live.specs.Scripts.{HasHeardOver, IsJournalOf, Manner, log_talker}
 use Rattle.lfs_live.specs.Talking.{HasKeptSoFar}
-use Rattle.lfs_live.proofs.StartLemmas.{begun, begun_heard, begun_talk}
+use Rattle.lfs_live.proofs.StartLemmas.{begun, begun_heard}
 use Rattle.lfs_programs.specs.Talks.{HasHeard, HasTalked, HasTalkedSoFar, manner_of}
 use Rattle.lfs_programs.specs.Volumes.{IsBegun}
+use Rattle.lfs_programs.specs.declared.filming.Ending.{Ending}
 use Rattle.lfs_programs.specs.declared.options.ShellOptions.{ShellOptions}
 
 -- the journal of a volume with which a talk begins is empty
@@ -24,52 +25,50 @@ never_both : (b : Bool) → b ≡ true → b ≡ false → ⊥
 never_both b holds fails = absurd (cc)
 
 heard_since : {F J : Type 0} (contents : F → Option (List ℕ)) (sink : Sink J) (options : ShellOptions)
-    (is_saved : Bool) (volume : Seen Parts) (j : J) (manner : Manner) (old new : Held Parts J)
+    (ending : Ending) (volume : Seen Parts) (j : J) (manner : Manner) (old new : Held Parts J)
     (known left start out : Option (List ℕ))
     → old ≡ begun volume j manner → IsBegun options volume
-    → (HasBegun old → HasHeard contents sink options is_saved old new known left start out)
-    → HasHeard contents sink options is_saved (begun volume j manner) new known left start out
-heard_since {F} {J} contents sink options is_saved volume j manner old new known left start out is begin heard =
-    subst (λ (h : Held Parts J). HasBegun h → HasHeard contents sink options is_saved h new known left start out) is
+    → (HasBegun old → HasHeard contents sink options ending old new known left start out)
+    → HasHeard contents sink options ending (begun volume j manner) new known left start out
+heard_since {F} {J} contents sink options ending volume j manner old new known left start out is begin heard =
+    subst (λ (h : Held Parts J). HasBegun h → HasHeard contents sink options ending h new known left start out) is
     heard (refl, begun_empty options volume begin)
 
 -- a talk without a file for its journal
 pub talked_alone : {F J : Type 0} (contents : F → Option (List ℕ)) (sink : Sink J) (options : ShellOptions)
-    (is_kept is_saved : Bool) (volume : Seen Parts) (j : J) (old new : Held Parts J)
+    (ending : Ending) (volume : Seen Parts) (j : J) (old new : Held Parts J)
     (known left start out : Option (List ℕ))
     → is_some options.journal_out ≡ false
     → old ≡ begun volume j (manner_of options false) → IsBegun options volume
-    → (HasBegun old → HasHeard contents sink options is_saved old new known left start out)
-    → HasTalked contents options is_kept is_saved known start out
-talked_alone {F} {J} contents sink options is_kept is_saved volume j old new known left start out none is begin heard =
+    → (HasBegun old → HasHeard contents sink options ending old new known left start out)
+    → HasTalked contents options ending known start out
+talked_alone {F} {J} contents sink options ending volume j old new known left start out none is begin heard =
     let manner = manner_of options false in
-    let h = heard_since contents sink options is_saved volume j manner old new known left start out is begin heard in
+    let h = heard_since contents sink options ending volume j manner old new known left start out is begin heard in
     record {
       left = left;
       alone = λ _. record {
-        talk = (begun_talk sink (IsBegun options) volume j manner (begun volume j manner) h.after known left start out
-            refl begin (begun_empty options volume begin) (λ _. h.talk)).talk;
+        talk = record { old = volume; new = course_of h.after h.talk.handed h.talk.answers; begun = begin; talk = h.talk.talk };
         saved = h.saved;
+        faulty = h.talk.faulty;
       };
       filed = λ some. absurd (never_both (is_some options.journal_out) some none);
     }
 
 -- a talk with one
 pub talked_filed : {F J : Type 0} (contents : F → Option (List ℕ)) (sink : Sink J) (of : J → F)
-    (options : ShellOptions) (is_kept is_saved : Bool) (volume : Seen Parts) (j : J) (old new : Held Parts J)
+    (options : ShellOptions) (is_kept : Bool) (ending : Ending) (volume : Seen Parts) (j : J) (old new : Held Parts J)
     (known left start out : Option (List ℕ))
     → is_some options.journal_out ≡ true
     → ((k : J) → sink.contents k ≡ contents (of k)) → sink.next j ≡ 1 → is_kept ≡ new.is_open
     → old ≡ begun volume j (manner_of options true) → IsBegun options volume
-    → (HasBegun old → HasHeard contents sink options is_saved old new known left start out)
-    → HasTalked contents options is_kept is_saved known start out
-talked_filed {F} {J} contents sink of options is_kept is_saved volume j old new known left start
+    → (HasBegun old → HasHeard contents sink options ending old new known left start out)
+    → HasTalked contents options (record ending { is_kept = is_kept }) known start out
+talked_filed {F} {J} contents sink of options is_kept ending volume j old new known left start
     out some holds first kept is begin heard =
     let manner = manner_of options true in
-    let h = heard_since contents sink options is_saved volume j manner old new known left start out is begin heard in
-    let talk = begun_talk sink (IsBegun options) volume j manner (begun volume j manner) h.after known left start out
-    refl begin (begun_empty options volume begin) (λ _. h.talk) in
-    let entries = talk.talk.new.handed ++ talk.talk.new.volume.journal in
+    let h = heard_since contents sink options ending volume j manner old new known left start out is begin heard in
+    let entries = h.talk.handed ++ h.after.volume.journal in
     let taking_on : is_kept ≡ h.after.is_open = kept ∙ ap (λ (x : Held Parts J). x.is_open) h.same in
     record {
       left = left;
@@ -78,15 +77,16 @@ talked_filed {F} {J} contents sink of options is_kept is_saved volume j old new 
         before = of j;
         after = of h.after.sink;
         talk = record {
-          talk = talk.talk;
+          talk = record { old = volume; new = course_of h.after h.talk.handed h.talk.answers; begun = begin; talk = h.talk.talk };
           kept = λ taking. subst (λ (n : ℕ). IsJournalOf n (contents (of j)) (contents (of h.after.sink)) entries) first
               (subst (λ (b : Option (List ℕ)). IsJournalOf (sink.next j) b (contents (of h.after.sink)) entries)
               (holds j)
               (subst (λ (b : Option (List ℕ)). IsJournalOf (sink.next j) (sink.contents j) b entries)
               (holds h.after.sink)
-              (talk.kept (sym taking_on ∙ taking))));
+              (h.talk.kept (sym taking_on ∙ taking)).lines));
         };
         saved = h.saved;
+        faulty = h.talk.faulty;
       };
     }
 
@@ -95,7 +95,7 @@ pub talked_so_far : {J : Type 0} (sink : Sink J) (options : ShellOptions) (is_op
     (old new : Held Parts J) (known left start out : Option (List ℕ))
     → is_open ≡ is_some options.journal_out
     → old ≡ begun volume j (manner_of options is_open) → IsBegun options volume
-    → (HasBegun old → HasKeptSoFar log_talker sink old new known left start out)
+    → (HasBegun old → HasKeptSoFar log_talker options.framing sink old new known left start out)
     → HasTalkedSoFar options known start out
 talked_so_far {J} sink options is_open volume j old new known left start out filed is begin heard = record {
   left = left;

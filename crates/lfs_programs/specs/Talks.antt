@@ -11,58 +11,66 @@ use Rattle.lfs_audit.specs.declared.fault.RunFault.{RunFault}
 use Rattle.lfs_audit.specs.declared.fault.RunFault.TheVariants.{Read}
 use Rattle.lfs_live.specs.Held.{Held, Sink}
 use Rattle.lfs_live.specs.Scripts.{HasHeardOver, IsKeptTalkOver, IsLogFault, IsTalkOver, Manner, log_talker}
-use Rattle.lfs_live.specs.Talking.{IsKeptTalk}
+use Rattle.lfs_live.specs.Talking.{IsKeptTalk, has_fault_in}
 use Rattle.lfs_programs.specs.Volumes.{HasSaved, IsBegun}
 use Rattle.lfs_staging.specs.declared.parts.Parts.{Parts}
 use Rattle.lfs_volume.specs.Seen.{Seen}
 use Rattle.lfs_programs.specs.Ends.{EndsUnasked}
 use Rattle.lfs_programs.specs.declared.fault.FilmFault.{FilmFault}
 use Rattle.lfs_programs.specs.declared.fault.ShellFault.{ShellFault}
+use Rattle.lfs_programs.specs.declared.filming.Ending.{Ending}
 use Rattle.lfs_programs.specs.declared.filming.Heard.{Heard}
 use Rattle.lfs_programs.specs.declared.fault.ShellFault.TheVariants.{Film, Image, Journal, Line, Talk}
 use Rattle.lfs_programs.specs.declared.fault.ShellFault.TheVariants.{Unsaved}
 
--- how a talk goes: with a sink that takes the entries of its journal or without one, and with passes unasked where they
--- are asked for
+-- how a talk goes: with a sink that takes the entries of its journal or without one, with passes unasked where they
+-- are asked for, and framed as was asked
 abbrev pub manner_of : ShellOptions → Bool → Manner
-manner_of options is_open = record { is_open = is_open; cleans = options.cleans }
+manner_of options is_open =
+    record { is_open = is_open; cleans = options.cleans; framing = options.framing }
 
 -- the volume that a talk left is kept in a file, where an image is asked for
 abbrev pub IsKept : {F : Type 0} → (F → Option (List ℕ)) → ShellOptions → Bool → Seen Parts → Type 0
 IsKept contents options is_saved left = is_saved ≡ true → IfSome options.image (λ _. HasSaved contents left)
 
--- A volume was talked about, with its sink, up to the end, and kept behind that.
+-- A volume was talked about, with its sink, up to the end, and kept behind that; and whether a line had a fault.
 pub record HasHeard {F J : Type 0} (contents : F → Option (List ℕ)) (sink : Sink J) (options : ShellOptions)
-    (is_saved : Bool) (old new : Held Parts J) (known left start out : Option (List ℕ)) : Type 0 where
+    (ending : Ending) (old new : Held Parts J) (known left start out : Option (List ℕ)) : Type 0 where
   pub after : Held Parts J
-  pub talk : IsKeptTalk log_talker sink old after known left start out
-  pub saved : IsKept contents options is_saved after.volume
+  pub talk : IsKeptTalk log_talker options.framing sink old after ending.has_fault known left start out
+  pub saved : IsKept contents options ending.is_saved after.volume
   pub same : new ≡ record after { volume = new.volume }
 
 -- The bytes of a reader were talked about up to the end of the talk, with all entries in memory, and the volume was
--- kept.
-pub record HasAnswered {F : Type 0} (contents : F → Option (List ℕ)) (options : ShellOptions) (is_saved : Bool)
+-- kept; and whether one of the lines that were heard has a fault.
+pub record HasAnswered {F : Type 0} (contents : F → Option (List ℕ)) (options : ShellOptions) (ending : Ending)
     (known left start out : Option (List ℕ)) : Type 0 where
   pub talk : IsTalkOver (IsBegun options) (manner_of options false) known left start out
-  pub saved : IsKept contents options is_saved talk.new.volume
+  pub saved : IsKept contents options ending.is_saved talk.new.volume
+  pub faulty : ending.has_fault ≡ has_fault_in talk.talk.heard
 
 -- The same, and a file's bytes, where they are known, grew by the lines of all entries of the talk, numbered from 1 on,
 -- where it took them to the end.
-pub record HasFiled {F : Type 0} (contents : F → Option (List ℕ)) (options : ShellOptions) (is_kept is_saved : Bool)
+pub record HasFiled {F : Type 0} (contents : F → Option (List ℕ)) (options : ShellOptions) (ending : Ending)
     (known left start out : Option (List ℕ)) : Type 0 where
   pub before : F
   pub after : F
-  pub talk : IsKeptTalkOver (IsBegun options) (manner_of options true) is_kept 1 (contents before) (contents after)
-      known left start out
-  pub saved : IsKept contents options is_saved talk.talk.new.volume
+  pub talk : IsKeptTalkOver (IsBegun options) (manner_of options true) ending.is_kept 1 (contents before)
+      (contents after) known left start out
+  pub saved : IsKept contents options ending.is_saved talk.talk.new.volume
+  pub faulty : ending.has_fault ≡ has_fault_in talk.talk.talk.heard
 
 -- The bytes of a reader were talked about up to the end of the talk: with all entries in memory, or with a file of the
 -- journal, where one is asked for.
-pub record HasTalked {F : Type 0} (contents : F → Option (List ℕ)) (options : ShellOptions) (is_kept is_saved : Bool)
+pub record HasTalked {F : Type 0} (contents : F → Option (List ℕ)) (options : ShellOptions) (ending : Ending)
     (known start out : Option (List ℕ)) : Type 0 where
   pub left : Option (List ℕ)
-  pub alone : is_some options.journal_out ≡ false → HasAnswered contents options is_saved known left start out
-  pub filed : is_some options.journal_out ≡ true → HasFiled contents options is_kept is_saved known left start out
+  pub alone : is_some options.journal_out ≡ false → HasAnswered contents options ending known left start out
+  pub filed : is_some options.journal_out ≡ true → HasFiled contents options ending known left start out
+
+-- how a talk ended that is kept whole
+abbrev pub whole_with : Bool → Ending
+whole_with has_fault = record { is_kept = true; is_saved = true; has_fault = has_fault }
 
 -- the same up to a read that failed
 pub record HasTalkedSoFar (options : ShellOptions) (known start out : Option (List ℕ)) : Type 0 where
@@ -96,28 +104,31 @@ abbrev pub Finishes : {F : Type 0} → (F → Option (List ℕ)) → ShellOption
     → Result (Unit {0}) ShellFault → Type 0
 Finishes contents options (Err fault) outcome = outcome ≡ Err (Talk fault)
 Finishes contents options (Ok heard) (Ok done) =
-    (heard.is_kept ≡ true) × (heard.is_saved ≡ true) × IfSome options.film (λ _. IsFilmed contents)
-    × (options.strict ≡ true → heard.has_fault ≡ false)
+    (heard.ending.is_kept ≡ true) × (heard.ending.is_saved ≡ true) × IfSome options.film (λ _. IsFilmed contents)
+    × (options.strict ≡ true → heard.ending.has_fault ≡ false)
 Finishes contents options (Ok heard) (Err (Talk fault)) = ⊥
 Finishes contents options (Ok heard) (Err (Image fault)) = ⊥
 Finishes contents options (Ok heard) (Err (Film fault)) = IsSome options.film
-Finishes contents options (Ok heard) (Err Journal) = heard.is_kept ≡ false
-Finishes contents options (Ok heard) (Err Unsaved) = (heard.is_kept ≡ true) × (heard.is_saved ≡ false)
+Finishes contents options (Ok heard) (Err Journal) = heard.ending.is_kept ≡ false
+Finishes contents options (Ok heard) (Err Unsaved) = (heard.ending.is_kept ≡ true) × (heard.ending.is_saved ≡ false)
 Finishes contents options (Ok heard) (Err Line) =
-    (heard.is_kept ≡ true) × (heard.is_saved ≡ true) × (options.strict ≡ true) × (heard.has_fault ≡ true)
+    (heard.ending.is_kept ≡ true) × (heard.ending.is_saved ≡ true) × (options.strict ≡ true) × (heard.ending.has_fault ≡ true)
 
 -- A talk ended in a fault, which has its cause. Where a read failed, each line that was read by then is answered; where
--- a film was not written, the file of the journal took no more, the volume was not kept, or a line had a fault, all is.
+-- a film was not written, the file of the journal took no more, the volume was not kept, or one of the lines that were
+-- heard has a fault, all is.
 pub record HasBrokenOff {F : Type 0} (contents : F → Option (List ℕ)) (options : ShellOptions)
     (known start out : Option (List ℕ)) : Type 0 where
   pub fault : ShellFault
   pub cause : IsShellFault options fault
   pub so_far : fault ≡ Talk Read → HasTalkedSoFar options known start out
   pub answered : (why : FilmFault) → fault ≡ Film why
-      → (is_kept : Bool) × (is_saved : Bool) × HasTalked contents options is_kept is_saved known start out
-  pub unkept : fault ≡ Journal → (is_saved : Bool) × HasTalked contents options false is_saved known start out
-  pub unsaved : fault ≡ Unsaved → HasTalked contents options true false known start out
-  pub faulty : fault ≡ Line → HasTalked contents options true true known start out
+      → (ending : Ending) × HasTalked contents options ending known start out
+  pub unkept : fault ≡ Journal → (ending : Ending) × (ending.is_kept ≡ false)
+      × HasTalked contents options ending known start out
+  pub unsaved : fault ≡ Unsaved → (ending : Ending) × (ending.is_kept ≡ true) × (ending.is_saved ≡ false)
+      × HasTalked contents options ending known start out
+  pub faulty : fault ≡ Line → HasTalked contents options (whole_with true) known start out
 
 -- a file is needed before anything is answered: that of the journal, or that of the lines
 abbrev pub NeedsFile : ShellOptions → Type 0
@@ -125,13 +136,14 @@ NeedsFile options = IsSome options.journal_out ⊎ IsSome options.script
 
 -- A program that was asked for a talk ends with this status: 0 where it has its end, a file of the journal that is
 -- asked for has each entry, the volume is kept in a file where an image is asked for, a film that is asked for is
--- written to a file, and nothing is told; 2 where a file that is needed before could not be opened, and then nothing is
--- read; else 1.
+-- written to a file, none of the lines that were heard has a fault where that is asked for, and nothing is told; 2
+-- where a file that is needed before could not be opened, and then nothing is read; else 1.
 pub record EndsTalk {R W D F : Type 0} (contents : F → Option (List ℕ)) (options : ShellOptions)
     (known start out : Option (List ℕ)) (status : ℕ) (in_before in_after : R) (out_before out_after : W)
     (err_before err_after : D) : Type 0 where
   pub either : status ≤ 2
-  pub done : status ≡ 0 → HasTalked contents options true true known start out × (err_after ≡ err_before)
+  pub done : status ≡ 0 → (has_fault : Bool) × HasTalked contents options (whole_with has_fault) known start out
+      × (options.strict ≡ true → has_fault ≡ false) × (err_after ≡ err_before)
   pub filmed : status ≡ 0 → IfSome options.film (λ _. IsFilmed contents)
   pub failed : status ≡ 1 → HasBrokenOff contents options known start out
   pub unmade : status ≡ 2 → NeedsFile options × (in_after ≡ in_before) × (out_after ≡ out_before)

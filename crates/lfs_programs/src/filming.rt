@@ -15,6 +15,7 @@ use crate::volume::keep;
 use lfs_audit::fault::RunFault;
 use lfs_film::film::Film;
 use lfs_live::start::run_over;
+use lfs_live::talk::Setting;
 use lfs_live::tended::Tended;
 use lfs_live::watch::Watch;
 use lfs_live::witnesses::Witnesses;
@@ -32,31 +33,11 @@ pub(crate) const NAME: &str = "lfs_shell";
 /// The name of a film's file while it is written, behind that of the film.
 const PART: &str = ".part";
 
-/// How the answer to a line begins that has a fault.
-const FAULT: &[u8] = b"fault ";
-
 /// One who is shown each line that was answered.
 #[derive(Drop)]
 pub(crate) struct Filming {
     /// The film, where one is made.
     film: Option<Film>,
-    /// Whether a line had a fault.
-    has_fault: bool,
-}
-
-impl Filming {
-    /// What one is told of a talk that has its end.
-    fn heard(self, is_kept: bool, is_saved: bool) -> Heard
-        ensures kept { result.is_kept ≡ is_kept }
-        ensures saved { result.is_saved ≡ is_saved }
-    {
-        Heard {
-            film: self.film,
-            is_kept,
-            is_saved,
-            has_fault: self.has_fault,
-        }
-    }
 }
 
 impl Watch<LogStore> for Filming {
@@ -67,12 +48,22 @@ impl Watch<LogStore> for Filming {
         told: &[u8],
         store: &LogStore,
     ) -> Result<(), AllocError> {
-        self.has_fault = self.has_fault || told.starts_with(FAULT);
         match &mut self.film {
             Some(film) => film.show(alloc, line, told, store),
             None => Ok(()),
         }
     }
+}
+
+/// What a talk is had with.
+#[derive(Drop)]
+pub(crate) struct Means<'a, F: Files> {
+    /// The files.
+    pub(crate) files: &'a F,
+    /// The memory.
+    pub(crate) alloc: Global,
+    /// What was asked for.
+    pub(crate) options: ShellOptions<'a>,
 }
 
 /// What a talk begins with.
@@ -84,17 +75,24 @@ pub(crate) struct Outset<F: Drop> {
     pub(crate) journal: Option<F>,
 }
 
+/// How a talk came to its end.
+#[derive(Clone, Copy, PartialEq, Eq, Debug)]
+pub(crate) struct Ending {
+    /// Whether the file of the journal, where there is one, has each entry.
+    pub(crate) is_kept: bool,
+    /// Whether the volume is kept in the image's file, where one is asked for.
+    pub(crate) is_saved: bool,
+    /// Whether a line had a fault.
+    pub(crate) has_fault: bool,
+}
+
 /// A talk that has its end.
 #[derive(Drop)]
 pub(crate) struct Heard {
     /// Its film, where one is made.
     film: Option<Film>,
-    /// Whether the file of the journal, where there is one, has each entry.
-    is_kept: bool,
-    /// Whether the volume is kept in the image's file, where one is asked for.
-    is_saved: bool,
-    /// Whether a line had a fault.
-    has_fault: bool,
+    /// How it came to its end.
+    ending: Ending,
 }
 
 /// Answers lines as they come, and keeps the volume behind them, where that is asked for. The journal's entries go to a file,
@@ -104,28 +102,27 @@ pub(crate) struct Heard {
 ///
 /// The talk's fault.
 pub(crate) fn hear<F: Files, R: Read, W: Write, D: Write>(
-    files: &F,
-    alloc: Global,
+    means: &Means<'_, F>,
+    outset: Outset<F::File>,
     reader: &mut R,
     writer: &mut W,
     teller: &mut D,
-    outset: Outset<F::File>,
-    options: &ShellOptions<'_>,
 ) -> Result<Heard, RunFault>
-    requires begun { IsBegun options.now outset.volume }
-    requires filed { is_some outset.journal ≡ is_some options.now.journal_out }
-    ensures talked { IfOk result (λ heard. HasTalked F.File.contents options.now heard.is_kept heard.is_saved
+    requires begun { IsBegun means.now.options outset.volume }
+    requires filed { is_some outset.journal ≡ is_some means.now.options.journal_out }
+    ensures talked { IfOk result (λ heard. HasTalked F.File.contents means.now.options heard.ending
         (R.remaining reader.old) (W.contents writer.old) (W.contents writer.new)) }
-    ensures silent { IfOk result (λ heard. heard.is_kept ≡ true → heard.is_saved ≡ true → teller.new ≡ teller.old) }
-    ensures kept { IfOk result (λ heard. heard.is_kept ≡ false → IsSome options.now.journal_out) }
-    ensures saved { IfOk result (λ heard. heard.is_saved ≡ false → IsSome options.now.image) }
-    ensures so_far { IfErr result (λ fault. fault ≡ Failed → HasTalkedSoFar options.now
+    ensures silent { IfOk result (λ heard. heard.ending.is_kept ≡ true → heard.ending.is_saved ≡ true
+        → teller.new ≡ teller.old) }
+    ensures kept { IfOk result (λ heard. heard.ending.is_kept ≡ false → IsSome means.now.options.journal_out) }
+    ensures saved { IfOk result (λ heard. heard.ending.is_saved ≡ false → IsSome means.now.options.image) }
+    ensures so_far { IfErr result (λ fault. fault ≡ Failed → HasTalkedSoFar means.now.options
         (R.remaining reader.old) (W.contents writer.old) (W.contents writer.new)) }
     ensures fault { IfErr result IsTalkFault }
 {
+    let Means { alloc, options, .. } = *means;
     let watch = Filming {
         film: options.film.map(|_| Film::new(alloc)),
-        has_fault: false,
     };
     let Outset { volume, journal } = outset;
     let Some(file) = journal else {
@@ -136,9 +133,12 @@ pub(crate) fn hear<F: Files, R: Read, W: Write, D: Write>(
             watch,
         };
         let mut tended = Tended::new(alloc, volume, options.cleans, witnesses);
-        let is_saved = hear_over(files, alloc, reader, writer, teller, &mut tended, options)?;
+        let ending = hear_over(means, &mut tended, reader, writer, teller)?;
         let after = tended.into_witnesses();
-        return Ok(after.watch.heard(true, is_saved));
+        return Ok(Heard {
+            film: after.watch.film,
+            ending,
+        });
     };
     let witnesses = Witnesses {
         sink: LineSink::new(alloc, file),
@@ -147,39 +147,59 @@ pub(crate) fn hear<F: Files, R: Read, W: Write, D: Write>(
         watch,
     };
     let mut tended = Tended::new(alloc, volume, options.cleans, witnesses);
-    let is_saved = hear_over(files, alloc, reader, writer, teller, &mut tended, options)?;
+    let ending = hear_over(means, &mut tended, reader, writer, teller)?;
     let after = tended.into_witnesses();
-    Ok(after.watch.heard(after.is_open, is_saved))
+    Ok(Heard {
+        film: after.watch.film,
+        ending: Ending {
+            is_kept: after.is_open,
+            ..ending
+        },
+    })
 }
 
-/// Answers lines as they come on a volume, and keeps it behind them, where that is asked for. Whether it is kept.
+/// Answers lines as they come on a volume, and keeps it behind them, where that is asked for. It says nothing of the file of
+/// the journal.
 ///
 /// # Errors
 ///
 /// The talk's fault.
 fn hear_over<F: Files, J: JournalSink + Drop, R: Read, W: Write, D: Write>(
-    files: &F,
-    alloc: Global,
+    means: &Means<'_, F>,
+    tended: &mut Tended<LogStore, J, Filming>,
     reader: &mut R,
     writer: &mut W,
     teller: &mut D,
-    tended: &mut Tended<LogStore, J, Filming>,
-    options: &ShellOptions<'_>,
-) -> Result<bool, RunFault>
-    ensures heard { IfOk result (λ is_saved. HasBegun tended.old → HasHeard F.File.contents (sink_of J.contents J.next)
-        options.now is_saved tended.old tended.new (R.remaining reader.old) (R.remaining reader.new)
+) -> Result<Ending, RunFault>
+    ensures heard { IfOk result (λ ending. HasBegun tended.old → HasHeard F.File.contents (sink_of J.contents J.next)
+        means.now.options ending tended.old tended.new (R.remaining reader.old) (R.remaining reader.new)
         (W.contents writer.old) (W.contents writer.new)) }
-    ensures silent { IfOk result (λ is_saved. tended.new.is_open ≡ tended.old.is_open → is_saved ≡ true
+    ensures silent { IfOk result (λ ending. tended.new.is_open ≡ tended.old.is_open → ending.is_saved ≡ true
         → teller.new ≡ teller.old) }
     ensures opened { OnOk result (tended.new.is_open ≡ true → tended.old.is_open ≡ true) }
-    ensures saved { IfOk result (λ is_saved. is_saved ≡ false → IsSome options.now.image) }
+    ensures kept { IfOk result (λ ending. ending.is_kept ≡ true) }
+    ensures saved { IfOk result (λ ending. ending.is_saved ≡ false → IsSome means.now.options.image) }
     ensures so_far { IfErr result (λ fault. fault ≡ Failed → HasBegun tended.old → HasKeptSoFar log_talker
-        (sink_of J.contents J.next) tended.old tended.new (R.remaining reader.old) (R.remaining reader.new)
-        (W.contents writer.old) (W.contents writer.new)) }
+        means.now.options.framing (sink_of J.contents J.next) tended.old tended.new
+        (R.remaining reader.old) (R.remaining reader.new) (W.contents writer.old) (W.contents writer.new)) }
     ensures fault { IfErr result IsTalkFault }
 {
-    run_over(alloc, reader, writer, teller, tended)?;
-    Ok(keep(files, alloc, teller, tended, options))
+    let Means {
+        files,
+        alloc,
+        options,
+    } = *means;
+    let setting = Setting {
+        alloc,
+        framing: options.framing,
+    };
+    let has_fault = run_over(setting, reader, writer, teller, tended)?;
+    let is_saved = keep(files, alloc, teller, tended, &options);
+    Ok(Ending {
+        is_kept: true,
+        is_saved,
+        has_fault,
+    })
 }
 
 /// Writes the page of the film of a talk, where one is asked for.
@@ -189,19 +209,17 @@ fn hear_over<F: Files, J: JournalSink + Drop, R: Read, W: Write, D: Write>(
 /// The talk's fault; `Film`: the page was not written; `Journal`: the file of the journal has not each entry; `Unsaved`: the
 /// volume is not kept; `Line`: a line had a fault, where that is asked for.
 pub(crate) fn finish<F: Files>(
-    files: &F,
-    alloc: Global,
-    options: &ShellOptions<'_>,
+    means: &Means<'_, F>,
     heard: Result<Heard, RunFault>,
 ) -> Result<(), ShellFault>
-    ensures { Finishes F.File.contents options.now heard result }
+    ensures { Finishes F.File.contents means.now.options heard result }
 {
-    let Heard {
-        film,
-        is_kept,
-        is_saved,
-        has_fault,
-    } = match heard {
+    let Means {
+        files,
+        alloc,
+        options,
+    } = *means;
+    let Heard { film, ending } = match heard {
         Ok(heard) => heard,
         Err(fault) => return Err(ShellFault::Talk(fault)),
     };
@@ -210,13 +228,13 @@ pub(crate) fn finish<F: Files>(
             return Err(ShellFault::Film(fault));
         }
     }
-    if !is_kept {
+    if !ending.is_kept {
         return Err(ShellFault::Journal);
     }
-    if !is_saved {
+    if !ending.is_saved {
         return Err(ShellFault::Unsaved);
     }
-    if options.strict && has_fault {
+    if options.strict && ending.has_fault {
         return Err(ShellFault::Line);
     }
     Ok(())

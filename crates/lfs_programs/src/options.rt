@@ -6,6 +6,7 @@ ghost use Rattle.lfs_programs.specs.Ranges.{IsBetween, IsInRange};
 use clap::builder::ValueParser;
 use clap::error::ErrorKind;
 use clap::{Arg, ArgAction, ArgMatches, Command, Error};
+use lfs_live::framing::Framing;
 use lfs_types::store::Params;
 use std::alloc::{AllocError, Global};
 use std::convert::AsStr;
@@ -81,6 +82,9 @@ const SCRIPT: &str = "script";
 
 /// The option of `lfs_shell` that has a line's fault end it with status 1.
 const STRICT: &str = "strict";
+
+/// The option of `lfs_shell` that puts the count of its lines before each answer.
+const FRAMED: &str = "framed";
 
 /// The version of the programs, as `CHANGELOG.md` has it.
 const VERSION: &str = "1.0";
@@ -184,6 +188,8 @@ pub struct ShellOptions<'a> {
     pub image: Option<&'a str>,
     /// Whether the status is 1 where a line has a fault.
     pub strict: bool,
+    /// How the answers are framed.
+    pub framing: Framing,
 }
 
 /// The options that the words of `lfs_shell` ask for; the first word is the program's name.
@@ -215,6 +221,7 @@ pub fn shell_options_of<'a, S: AsStr>(
                 script: matches.get_str(SCRIPT),
                 image: matches.get_str(IMAGE),
                 strict: matches.get_flag(STRICT),
+                framing: framing_in(&matches),
             })
         }
         Err(refusal) => Err(wrong_value(&mut command, refusal)),
@@ -330,6 +337,7 @@ fn shell_command<'a>(alloc: Global) -> Result<Command<'a>, AllocError> {
         .arg(clean(alloc))?
         .arg(film(alloc))?
         .arg(strict(alloc))?
+        .arg(framed(alloc))?
         .arg(script(alloc))
 }
 
@@ -393,6 +401,25 @@ fn strict<'a>(alloc: Global) -> Arg<'a> {
         .long(STRICT)
         .action(ArgAction::SetTrue)
         .help("Ends with status 1 where a line has a fault")
+}
+
+/// The option for answers in frames.
+fn framed<'a>(alloc: Global) -> Arg<'a> {
+    Arg::new(alloc, FRAMED)
+        .long(FRAMED)
+        .action(ArgAction::SetTrue)
+        .help(
+            "Writes before each line's answer a line with the count of its lines, and so before the report",
+        )
+}
+
+/// How answers are framed, by the option for it.
+fn framing_in(matches: &ArgMatches<'_>) -> Framing {
+    if matches.get_flag(FRAMED) {
+        Framing::Counted
+    } else {
+        Framing::Plain
+    }
 }
 
 /// The word for the file of a script.

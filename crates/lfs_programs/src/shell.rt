@@ -10,7 +10,7 @@ ghost use Rattle.lfs_programs.specs.Ends.{EndsUnasked};
 ghost use Rattle.lfs_programs.specs.Talks.{EndsShell, EndsTalk, HasTalked, HasTalkedSoFar, IsShellEnd};
 
 use crate::fault::{OpenFault, ShellFault};
-use crate::filming::{Heard, NAME, Outset, finish, hear};
+use crate::filming::{Heard, Means, NAME, Outset, finish, hear};
 use crate::journal::make_journal;
 use crate::options::{ShellOptions, shell_not_utf8, shell_options_of};
 use crate::refusing::refuse;
@@ -88,47 +88,59 @@ where
         × EndsUnasked (kind_of error) result stdout.old stdout.new stderr.old stderr.new) }
 {
     match asked {
-        Ok(options) => match open_script(files, options.script) {
-            Ok(Some(mut lines)) => talk_over(files, alloc, &options, &mut lines, stdout, stderr),
-            Ok(None) => talk_over(files, alloc, &options, stdin, stdout, stderr),
-            Err(fault) => {
-                let _ = tell(stderr, NAME, &fault);
-                2
-            }
-        },
+        Ok(options) => {
+            let means = Means {
+                files,
+                alloc,
+                options,
+            };
+            talk_of(&means, stdin, stdout, stderr)
+        }
         Err(error) => refuse(stdout, stderr, NAME, &error),
     }
 }
 
-/// Answers the lines of a reader as was asked, and gives the status with which the program ends.
-fn talk_over<F, R, W, D>(
-    files: &F,
-    alloc: Global,
-    options: &ShellOptions<'_>,
-    reader: &mut R,
-    stdout: &mut W,
-    stderr: &mut D,
-) -> u8
+/// Answers the lines of the file that was asked for, or else of a reader, and gives the status with which the program ends.
+fn talk_of<F, R, W, D>(means: &Means<'_, F>, stdin: &mut R, stdout: &mut W, stderr: &mut D) -> u8
 where
     F: Files,
     R: Read,
     W: Write,
     D: Write,
-    ensures { EndsTalk F.File.contents options.now
+    ensures { EndsShell F.File.contents means.now.options
+        (R.remaining stdin.old) (W.contents stdout.old) (W.contents stdout.new)
+        result stdin.old stdin.new stdout.old stdout.new stderr.old stderr.new }
+{
+    match open_script(means.files, means.options.script) {
+        Ok(Some(mut lines)) => talk_over(means, &mut lines, stdout, stderr),
+        Ok(None) => talk_over(means, stdin, stdout, stderr),
+        Err(fault) => {
+            let _ = tell(stderr, NAME, &fault);
+            2
+        }
+    }
+}
+
+/// Answers the lines of a reader as was asked, and gives the status with which the program ends.
+fn talk_over<F, R, W, D>(means: &Means<'_, F>, reader: &mut R, stdout: &mut W, stderr: &mut D) -> u8
+where
+    F: Files,
+    R: Read,
+    W: Write,
+    D: Write,
+    ensures { EndsTalk F.File.contents means.now.options
         (R.remaining reader.old) (W.contents stdout.old) (W.contents stdout.new)
         result reader.old reader.new stdout.old stdout.new stderr.old stderr.new }
 {
-    match begin(files, alloc, options) {
-        Ok(volume) => talk_on(files, alloc, options, volume, reader, stdout, stderr),
+    match begin(means.files, means.alloc, &means.options) {
+        Ok(volume) => talk_on(means, volume, reader, stdout, stderr),
         Err(fault) => end_talk(stderr, Err(fault)),
     }
 }
 
 /// The same on a volume.
 fn talk_on<F, R, W, D>(
-    files: &F,
-    alloc: Global,
-    options: &ShellOptions<'_>,
+    means: &Means<'_, F>,
     volume: Volume<LogStore>,
     reader: &mut R,
     stdout: &mut W,
@@ -139,16 +151,16 @@ where
     R: Read,
     W: Write,
     D: Write,
-    requires { IsBegun options.now volume }
-    ensures { EndsTalk F.File.contents options.now
+    requires { IsBegun means.now.options volume }
+    ensures { EndsTalk F.File.contents means.now.options
         (R.remaining reader.old) (W.contents stdout.old) (W.contents stdout.new)
         result reader.old reader.new stdout.old stdout.new stderr.old stderr.new }
 {
-    match open_journal(files, options.journal_out) {
+    match open_journal(means.files, means.options.journal_out) {
         Ok(journal) => {
             let outset = Outset { volume, journal };
-            let heard = run(files, alloc, reader, stdout, stderr, outset, options);
-            let outcome = finish(files, alloc, options, heard);
+            let heard = run(means, outset, reader, stdout, stderr);
+            let outcome = finish(means, heard);
             end_talk(stderr, outcome)
         }
         Err(fault) => {
@@ -193,27 +205,26 @@ fn end_talk<D: Write>(stderr: &mut D, outcome: Result<(), ShellFault>) -> u8
 ///
 /// The talk's fault; `Memory` where there is none for the pieces.
 fn run<F: Files, R: Read, W: Write, D: Write>(
-    files: &F,
-    alloc: Global,
+    means: &Means<'_, F>,
+    outset: Outset<F::File>,
     reader: &mut R,
     stdout: &mut W,
     stderr: &mut D,
-    outset: Outset<F::File>,
-    options: &ShellOptions<'_>,
 ) -> Result<Heard, RunFault>
-    requires begun { IsBegun options.now outset.volume }
-    requires filed { is_some outset.journal ≡ is_some options.now.journal_out }
-    ensures talked { IfOk result (λ heard. HasTalked F.File.contents options.now heard.is_kept heard.is_saved
+    requires begun { IsBegun means.now.options outset.volume }
+    requires filed { is_some outset.journal ≡ is_some means.now.options.journal_out }
+    ensures talked { IfOk result (λ heard. HasTalked F.File.contents means.now.options heard.ending
         (R.remaining reader.old) (W.contents stdout.old) (W.contents stdout.new)) }
-    ensures silent { IfOk result (λ heard. heard.is_kept ≡ true → heard.is_saved ≡ true → stderr.new ≡ stderr.old) }
-    ensures kept { IfOk result (λ heard. heard.is_kept ≡ false → IsSome options.now.journal_out) }
-    ensures saved { IfOk result (λ heard. heard.is_saved ≡ false → IsSome options.now.image) }
-    ensures so_far { IfErr result (λ fault. fault ≡ Failed → HasTalkedSoFar options.now
+    ensures silent { IfOk result (λ heard. heard.ending.is_kept ≡ true → heard.ending.is_saved ≡ true
+        → stderr.new ≡ stderr.old) }
+    ensures kept { IfOk result (λ heard. heard.ending.is_kept ≡ false → IsSome means.now.options.journal_out) }
+    ensures saved { IfOk result (λ heard. heard.ending.is_saved ≡ false → IsSome means.now.options.image) }
+    ensures so_far { IfErr result (λ fault. fault ≡ Failed → HasTalkedSoFar means.now.options
         (R.remaining reader.old) (W.contents stdout.old) (W.contents stdout.new)) }
     ensures fault { IfErr result IsTalkFault }
 {
-    match BufReader::new(alloc, reader) {
-        Ok(mut pieces) => hear(files, alloc, &mut pieces, stdout, stderr, outset, options),
+    match BufReader::new(means.alloc, reader) {
+        Ok(mut pieces) => hear(means, outset, &mut pieces, stdout, stderr),
         Err(_) => Err(RunFault::Memory),
     }
 }

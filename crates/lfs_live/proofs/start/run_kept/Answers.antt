@@ -16,7 +16,7 @@ returns-in_err-run_over-clause-so_far g c =
     let exit = err_from_is_err_and c.from_residual-in_err-run_over.result c.from_residual-in_err-run_over.ensures.1 in
     rw (exit.1, exit.2)
     (λ is. begun_heard sink (IsFresh p.segments p.inodes p.frames p.journal) c.in_ok-volume.volume before.sink
-    (record { is_open = before.is_open; cleans = c.args.setup.cleans }) _ c.run_over.new.tended _ _ _ _
+    (record { is_open = before.is_open; cleans = c.args.setup.cleans; framing = c.args.setup.framing }) _ c.run_over.new.tended _ _ _ _
     c.new-tended.ensures fresh made.fresh.0 (c.in_err-run_over.ensures.so_far is))
 
 pub returns-in_err-run_over-clause-fault : goal.returns-in_err-run_over-clause-fault
@@ -32,14 +32,18 @@ returns-clause-written g c =
     let before = c.args.setup.witnesses in
     let after = c.into_witnesses in
     let sink = sink_of g.J.JournalSink.contents g.J.JournalSink.next in
-    let manner : Manner = record { is_open = before.is_open; cleans = c.args.setup.cleans } in
+    let manner : Manner = record {
+      is_open = before.is_open;
+      cleans = c.args.setup.cleans;
+      framing = c.args.setup.framing;
+    } in
     let begins = IsFresh p.segments p.inodes p.frames p.journal in
     let made = c.in_ok-volume.ensures in
     let fresh = fresh_log p.segments p.inodes p.frames p.journal c.in_ok-volume.volume made.fresh.0 made.fresh.1
     made.fresh.2 made.begins in
     kept_as sink begins manner c.run_over.new.tended after.result.sink
     after.result.is_open _ _ _ _ _ _ after.ensures.sink after.ensures.is_open
-    (begun_talk sink begins c.in_ok-volume.volume before.sink manner _ c.run_over.new.tended _ _ _ _
+    (begun_talk sink begins c.in_ok-volume.volume before.sink manner _ c.run_over.new.tended _ _ _ _ _
     c.new-tended.ensures fresh made.fresh.0 c.in_ok-run_over.ensures.written)
 
 pub returns-clause-silent : goal.returns-clause-silent

@@ -1,34 +1,49 @@
-use Rattle.std.proofs.Common.{rules}
+use Rattle.std.proofs.Common.{List, ℕ, ap, rules, subst, sym}
+use Rattle.std.proofs.lemmas.Option.{MatchOption-at_some}
 use Rattle.lfs_volume.specs.Cleanings.{cleaner_of}
+use Rattle.lfs_live.specs.Hearing.{heard_of}
+use Rattle.lfs_live.specs.Steps.{HasAnswered}
 use Rattle.lfs_live.specs.Talkers.{talker_of}
 use Rattle.lfs_live.proofs.TellingLemmas.{asks_answered, dot_answered, fault_answered, look_answered}
 use Rattle.lfs_live.proofs.telling.answer.Goals as goal
 
-pub returns-in_ok-told-in-Asks : goal.returns-in_ok-told-in-Asks
-returns-in_ok-told-in-Asks g c =
+pub returns-in_ok-text-in-Asks-clause-told : goal.returns-in_ok-text-in-Asks-clause-told
+returns-in_ok-text-in-Asks-clause-told g c =
     let r = talker_of (cleaner_of g.F.FileStore.state g.F.FileStore.is_settled g.F.CleanedStore.cleaner)
     g.F.ShowsLog.map_text g.F.ShowsLog.segment_text g.F.ShowsLog.space_text in
-    asks_answered r c.args.volume.now c.tell_inquiry-told.new.volume c.args.tally.now c.args.speaker.now c.args.line.now
-    c.in-Asks.inquiry c.in-Asks.request _ (search rules) c.tell_inquiry-told.ensures.looks
-    c.in_ok-told-in-Asks.ensures.text
+    let line = c.args.line in
+    let speaker = c.args.speaker.now in
+    let tally = c.args.tally.now in
+    subst (λ (told : List ℕ). HasAnswered r line.number c.args.volume.now c.tell_inquiry-text.new.volume tally tally
+    speaker speaker (heard_of line.bytes.now) told) (sym (ap (λ t. t.text.items) c.faultless-in-Asks.ensures))
+    (asks_answered r line.number c.args.volume.now c.tell_inquiry-text.new.volume tally speaker line.bytes.now
+    c.in-Asks.inquiry c.in-Asks.request _ (search rules) c.tell_inquiry-text.ensures.looks
+    c.in_ok-text-in-Asks.ensures.text)
 
-pub returns-in_ok-told-in-Looks : goal.returns-in_ok-told-in-Looks
-returns-in_ok-told-in-Looks g c =
+pub returns-in_ok-text-in-Looks-clause-told : goal.returns-in_ok-text-in-Looks-clause-told
+returns-in_ok-text-in-Looks-clause-told g c =
     let r = talker_of (cleaner_of g.F.FileStore.state g.F.FileStore.is_settled g.F.CleanedStore.cleaner)
     g.F.ShowsLog.map_text g.F.ShowsLog.segment_text g.F.ShowsLog.space_text in
-    look_answered r c.args.volume.now c.look_at-told.new.volume c.args.tally.now c.args.speaker.now
-    c.args.line.now c.in-Looks.look c.in-Looks.path _ (search rules) c.in_ok-told-in-Looks.ensures
+    let line = c.args.line in
+    let speaker = c.args.speaker.now in
+    let tally = c.args.tally.now in
+    subst (λ (told : List ℕ). HasAnswered r line.number c.args.volume.now c.look_at-text.new.volume tally tally
+    speaker speaker (heard_of line.bytes.now) told) (sym (ap (λ t. t.text.items) c.faultless-in-Looks.ensures))
+    (look_answered r line.number c.args.volume.now c.look_at-text.new.volume tally speaker line.bytes.now
+    c.in-Looks.look c.in-Looks.path _ (search rules) c.in_ok-text-in-Looks.ensures)
 
-pub returns-in-Dot : goal.returns-in-Dot
-returns-in-Dot g c =
+pub returns-in-Some-clause-told : goal.returns-in-Some-clause-told
+returns-in-Some-clause-told g c =
     let r = talker_of (cleaner_of g.F.FileStore.state g.F.FileStore.is_settled g.F.CleanedStore.cleaner)
     g.F.ShowsLog.map_text g.F.ShowsLog.segment_text g.F.ShowsLog.space_text in
-    dot_answered (λ t. t.items) r c.args.volume.now c.args.tally.now c.args.speaker.now c.args.line.now c.in-Dot.dot
-    c.tell_dot.result (search rules) c.tell_dot.ensures
+    let line = c.args.line in
+    dot_answered r line.number c.args.volume.now c.args.tally.now c.args.speaker.now line.bytes.now c.in-Dot.dot
+    c.in-Some.text.items c.of_dot.result.text.items (search rules)
+    (MatchOption-at_some _ _ _ c.in-Some.is c.in_ok-text-in-Dot.ensures) (ap (λ t. t.items) c.of_dot.ensures.text)
 
-pub returns-in_ok-text-in-Fault : goal.returns-in_ok-text-in-Fault
-returns-in_ok-text-in-Fault g c =
+pub returns-in_ok-text-in-Fault-clause-told : goal.returns-in_ok-text-in-Fault-clause-told
+returns-in_ok-text-in-Fault-clause-told g c =
     let r = talker_of (cleaner_of g.F.FileStore.state g.F.FileStore.is_settled g.F.CleanedStore.cleaner)
     g.F.ShowsLog.map_text g.F.ShowsLog.segment_text g.F.ShowsLog.space_text in
-    fault_answered r c.args.volume.now c.args.tally.now c.args.speaker.now c.args.line.now c.in-Fault.fault _ _
-    (search rules) c.in_ok-text-in-Fault.ensures
+    fault_answered r c.args.line.number c.args.volume.now c.args.tally.now c.args.speaker.now c.args.line.bytes.now
+    c.in-Fault.fault _ _ (search rules) c.in_ok-text-in-Fault.ensures
