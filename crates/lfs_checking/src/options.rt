@@ -1,7 +1,7 @@
 //! What the arguments of `lfs_check` ask for.
 
-use clap::error::ErrorKind;
 use clap::{Arg, ArgAction, Command, Error};
+use lfs_command::refusing;
 use std::alloc::{AllocError, Global};
 use std::convert::AsStr;
 
@@ -24,21 +24,9 @@ pub fn options_of<'a, S: AsStr>(alloc: Global, words: &'a [S]) -> Result<Option<
     Ok(matches.get_str(IMAGE))
 }
 
-/// The fault of arguments that are no text.
-///
-/// # Errors
-///
-/// It is itself one, with exit code 2; or want of memory.
+/// The error of arguments that are no text, with exit code 2; or want of memory.
 pub fn not_utf8(alloc: Global) -> Error {
-    match command(alloc) {
-        Ok(mut command) => {
-            match command.error(ErrorKind::ValueValidation, "the arguments must be UTF-8") {
-                Ok(error) => error,
-                Err(error) => Error::from(error),
-            }
-        }
-        Err(error) => Error::from(error),
-    }
+    refusing::not_utf8(command(alloc))
 }
 
 /// The command line.

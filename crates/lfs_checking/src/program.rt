@@ -8,13 +8,14 @@ use crate::options::{not_utf8, options_of};
 use crate::reading::read_image;
 use crate::verdict::verdict;
 use clap::Error;
-use clap::error::ErrorKind;
+use lfs_command::refusing::refuse;
+use lfs_command::words::{NoWords, words};
 use lfs_io::output::{flush, write_text};
 use lfs_io::tell::tell;
 use std::alloc::{AllocError, Global};
-use std::env::{self, Env};
+use std::env::Env;
 use std::fs::File;
-use std::io::{self, Read, Write};
+use std::io::{Read, Write};
 use std::rt::Files;
 
 /// The program's name.
@@ -44,7 +45,7 @@ where
             Ok(status) => status,
             Err(fault) => end(stderr, fault),
         },
-        Err(error) => refuse(stdout, stderr, &error),
+        Err(error) => refuse(stdout, stderr, NAME, &error),
     }
 }
 
@@ -52,30 +53,6 @@ where
 fn end<D: Write>(stderr: &mut D, fault: CheckFault) -> u8 {
     let _ = tell(stderr, NAME, &fault);
     1
-}
-
-/// Why there are no words.
-#[derive(Clone, Copy, Debug)]
-enum NoWords {
-    /// One is no text.
-    NotUtf8,
-    /// A growth was refused.
-    Memory,
-}
-
-impl From<AllocError> for NoWords {
-    fn from(_error: AllocError) -> NoWords {
-        NoWords::Memory
-    }
-}
-
-/// The words of a command line; the first is the program's name.
-fn words<E: Env + AllocGlobal>(env: &E) -> Result<Vec<String>, NoWords> {
-    match env::args(env) {
-        Ok(words) => Ok(words.collect::<Vec<_>>(env.alloc())?),
-        Err(error) if error.kind() == io::ErrorKind::OutOfMemory => Err(NoWords::Memory),
-        Err(_) => Err(NoWords::NotUtf8),
-    }
 }
 
 /// The file that the words of a command line name, where they name one.
@@ -87,22 +64,6 @@ fn asked<'a>(
         Ok(words) => options_of(alloc, words.as_slice()),
         Err(NoWords::Memory) => Err(AllocError.into()),
         Err(NoWords::NotUtf8) => Err(not_utf8(alloc)),
-    }
-}
-
-/// Tells what was asked for in place of a check: the help, on standard output, and of words that were refused why, on
-/// standard error. Gives the status with which the program ends.
-fn refuse<W: Write, D: Write>(stdout: &mut W, stderr: &mut D, error: &Error) -> u8 {
-    match error.kind() {
-        ErrorKind::OutOfMemory => end(stderr, CheckFault::Memory),
-        ErrorKind::DisplayHelp => match write!(stdout, "{error}") {
-            Ok(()) => 0,
-            Err(_) => end(stderr, CheckFault::Write),
-        },
-        _ => {
-            let _ = write!(stderr, "{error}");
-            2
-        }
     }
 }
 
