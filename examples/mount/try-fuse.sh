@@ -1,47 +1,66 @@
 #!/usr/bin/env bash
-# Mounts a fresh volume by mount.sh, tries on it what rests on times, modes and room, and unmounts.
-# try-fuse.sh PROGRAM, where PROGRAM is a built lfs_fuse; as root, with /dev/fuse, git, make and tar. The last line says how
-# many tries passed and failed; the status is 0 where none failed.
+# Mounts a fresh volume by mount.sh, tries on it what rests on times, modes and room, and unmounts; and then one whose
+# journal goes to a file, which is audited.
+# try-fuse.sh PROGRAM AUDIT, where PROGRAM is a built lfs_fuse and AUDIT a built lfs_audit_trail; as root, with /dev/fuse,
+# git, make and tar. The last line says how many tries passed and failed; the status is 0 where none failed.
 set -euo pipefail
 here=$(cd "$(dirname "$0")" && pwd)
 export LFS_FUSE
 LFS_FUSE=$(realpath "$1")
+audit=$(realpath "$2")
 export LC_ALL=C GIT_CONFIG_GLOBAL=/dev/null GIT_CONFIG_NOSYSTEM=1
 folder=$(mktemp -d)
+files=$(mktemp -d)
 chmod 755 "$folder"
+mounted=
 
-"$here/mount.sh" "$folder" --segments 512 &
-mounted=$!
-finish() {
+# begin OPTION..: mounts a fresh volume with these options, on which everybody may make names.
+begin() {
+    "$here/mount.sh" "$folder" "$@" &
+    mounted=$!
+    for _ in $(seq 100); do
+        mountpoint -q "$folder" && break
+        sleep 0.1
+    done
+    mountpoint -q "$folder"
+    cd "$folder"
+    chmod 1777 .
+}
+# unmount: what is mounted, if anything is, is no more, and its program has ended.
+unmount() {
     cd /
-    umount "$folder" 2> "$folder.log" || umount -l "$folder" || true
+    mountpoint -q "$folder" || return 0
+    umount "$folder" 2> "$files/umount" || umount -l "$folder" || true
     wait "$mounted" || true
+}
+finish() {
+    unmount
     rmdir "$folder"
-    rm -f "$folder.log"
+    rm -r "$files"
 }
 trap finish EXIT
-for _ in $(seq 100); do
-    mountpoint -q "$folder" && break
-    sleep 0.1
-done
-mountpoint -q "$folder"
-cd "$folder"
-chmod 1777 .
 
 passed=0
 failed=0
-# try WHAT EXPECTED COMMAND: user 7 runs a command in the mounted folder, and it prints this.
-try() {
-    local printed
-    printed=$(HOME=$folder setpriv --reuid=7 --regid=7 --clear-groups timeout 120 sh -c "$3" 2>&1 < /dev/null || true)
-    if [ "$printed" = "$2" ]; then
+# as USER COMMAND: a user runs a command in the mounted folder.
+as() {
+    HOME=$folder setpriv --reuid="$1" --regid="$1" --clear-groups timeout 120 sh -c "$2" 2>&1 < /dev/null || true
+}
+# expect WHAT EXPECTED PRINTED: this was to be printed.
+expect() {
+    if [ "$3" = "$2" ]; then
         passed=$((passed + 1))
     else
         failed=$((failed + 1))
-        printf '%s\nprinted:\n%s\nexpected:\n%s\n' "$1" "$printed" "$2"
+        printf '%s\nprinted:\n%s\nexpected:\n%s\n' "$1" "$3" "$2"
     fi
 }
+# try WHAT EXPECTED COMMAND: user 7 runs a command in the mounted folder, and it prints this.
+try() {
+    expect "$1" "$2" "$(as 7 "$3")"
+}
 
+begin --segments 512
 try 'a new file is of now' young 'echo a > a; [ $(($(date +%s) - $(stat -c %Y a))) -le 2 ] && echo young'
 try 'a write is of now' newer 'sleep 0.01; touch b; sleep 0.01; echo more >> a; [ a -nt b ] && echo newer'
 try 'a read leaves no time' same 'x=$(stat -c "%X %Y %Z" a); cat a > /dev/null; [ "$x" = "$(stat -c "%X %Y %Z" a)" ] && echo same'
@@ -80,5 +99,23 @@ for _ in range(10):
     os.close(file)
 print(short)"; rm large'
 try 'the longest name' 255 'stat -f -c %l .'
+
+unmount
+begin --segments 64 --inodes 256 --journal-out "$files/journal"
+try 'one user writes' mine 'mkdir d; echo mine > d/a; chmod 600 d/a; cat d/a'
+expect 'another may not read it' 'cat: d/a: Permission denied' "$(as 8 'cat d/a')"
+expect 'nor take it away' "rm: cannot remove 'd/a': Permission denied" "$(as 8 'rm -f d/a')"
+expect 'but may write his own' theirs "$(as 8 'echo theirs > b; mv b c; cat c')"
+unmount
+expect 'the journal is legal, and tells of both' 'legal
+user 0
+user 7
+user 8' "$("$audit" --segments 64 --inodes 256 "$files/journal" | sed -n 's/^legal .*/legal/p; /^user /p')"
+expect 'and who was denied' denied "$(grep -q '^#[0-9]* 0 as 8 8 | .* | denied ' "$files/journal" && echo denied)"
+cp "$files/journal" "$files/before"
+status=0
+"$here/mount.sh" "$folder" --journal-out "$files/journal" 2> "$files/told" || status=$?
+expect 'a file that is there is not written over' '2 lfs_fuse: journal file exists' "$status $(cat "$files/told")"
+expect 'but left as it is' same "$(cmp "$files/journal" "$files/before" && echo same)"
 echo "$passed passed, $failed failed"
 [ "$failed" = 0 ]

@@ -12,7 +12,7 @@ use Rattle.lfs_fuse_wire.specs.declared.framing.Frame.{Frame}
 use Rattle.lfs_fuse_wire.specs.declared.header.Header.{Header}
 use Rattle.lfs_types.specs.StoreStates.{StoreState}
 use Rattle.lfs_staging.specs.declared.parts.Parts.{Parts as Log}
-use Rattle.lfs_mount.specs.Tending.{GoesOn}
+use Rattle.lfs_mount.specs.Runs.{GoesOn}
 use Rattle.lfs_fuse_talk.specs.Filing.{HasFile, HasLines, IsCurrent, IsFirst, IsHandedOut, IsLetGo, IsShut, MovesOn, Stays}
 use Rattle.lfs_fuse_talk.specs.Filing.{Takes, is_open, lost_reply}
 use Rattle.lfs_fuse_talk.specs.Images.{IsKept}
@@ -24,6 +24,7 @@ use Rattle.lfs_fuse_talk.specs.declared.filing.Keeping.{Keeping}
 use Rattle.lfs_fuse_talk.specs.declared.filing.Keeping.TheVariants.{Nowhere, File, Closed}
 use Rattle.lfs_fuse_talk.specs.declared.options.Options.{Options}
 use Rattle.lfs_fuse_talk.specs.declared.served.Served.{Served}
+use Rattle.lfs_fuse_talk.proofs.LedLemmas.{led_all, led_first, led_to}
 
 -- ---- a file and its entries
 
@@ -133,13 +134,14 @@ same_held passing one other nodes beside sizes outside = rw (nodes, beside, size
 -- a message was served, and its entries are kept
 pub entered_kept : {F P W : Type 0} (contents : W → Option (List ℕ)) (r : Server F P) (header : Header)
     (old mid new : Served F P W) (message made reply : List ℕ)
-    → IsServedTo r header (held old) message made (held mid) → mid.ledger ≡ old.ledger
+    → IsServedTo r header (held old) message made (held mid) → GoesOn r.state old.mount.tree.volume mid.mount.tree.volume
+    → mid.ledger ≡ old.ledger
     → held_over mid.mount.tree.volume new ≡ held mid
     → Stays mid.ledger.keeping new.ledger.keeping mid.mount.tree.volume new.mount.tree.volume
     ⊎ IsHandedOut contents mid.ledger.keeping new.ledger.keeping mid.mount.tree.volume new.mount.tree.volume
     → reply ≡ made
     → Advances contents (λ first from to. IsEntered contents first r header from message reply to) old new
-entered_kept contents r header old mid new message made reply served ledger same kept told first is_filed handed current
+entered_kept contents r header old mid new message made reply served goes ledger same kept told first is_filed handed current
     =
     let here = subst (λ l. IsCurrent contents first is_filed l.keeping handed) (sym ledger) current in
     let moved = moved_either contents first is_filed mid.ledger.keeping new.ledger.keeping mid.mount.tree.volume
@@ -149,6 +151,7 @@ entered_kept contents r header old mid new message made reply served ledger same
         passing = mid.mount.tree.volume;
         made = made;
         served = subst (λ h. IsServedTo r header (held old) message made h) (sym same) served;
+        goes_on = goes;
         kept = inl (record {
           opened = moved.1.opened ∙ ap (λ l. is_open l.keeping) ledger;
           moves = moved.1.moves;
@@ -162,12 +165,13 @@ entered_kept contents r header old mid new message made reply served ledger same
 -- the same, and the file does not take them
 pub entered_lost : {F P W : Type 0} (contents : W → Option (List ℕ)) (r : Server F P) (header : Header)
     (old mid new : Served F P W) (message made reply : List ℕ)
-    → IsServedTo r header (held old) message made (held mid) → mid.ledger ≡ old.ledger
+    → IsServedTo r header (held old) message made (held mid) → GoesOn r.state old.mount.tree.volume mid.mount.tree.volume
+    → mid.ledger ≡ old.ledger
     → held_over mid.mount.tree.volume new ≡ held mid
     → IsShut mid.ledger.keeping new.ledger.keeping mid.mount.tree.volume new.mount.tree.volume
     → reply ≡ lost_reply header.unique made
     → Advances contents (λ first from to. IsEntered contents first r header from message reply to) old new
-entered_lost contents r header old mid new message made reply served ledger same shut told first is_filed handed current
+entered_lost contents r header old mid new message made reply served goes ledger same shut told first is_filed handed current
     =
     let here = subst (λ l. IsCurrent contents first is_filed l.keeping handed) (sym ledger) current in (
       handed,
@@ -175,6 +179,7 @@ entered_lost contents r header old mid new message made reply served ledger same
         passing = mid.mount.tree.volume;
         made = made;
         served = subst (λ h. IsServedTo r header (held old) message made h) (sym same) served;
+        goes_on = goes;
         kept = inr (record {
           opened = sym (ap (λ l. is_open l.keeping) ledger) ∙ ap is_open shut.was;
           shut = ap is_open shut.is;
@@ -192,7 +197,8 @@ entered_lost contents r header old mid new message made reply served ledger same
 pub answered_of : {F P W V E : Type 0} (contents : W → Option (List ℕ)) (r : Server F P) (header : Header)
     (found : Option Header) (old mid new : Served F P W) (message made : List ℕ) (items : V → List ℕ)
     (result : Result V E) (is_kept : Bool) → found ≡ Some header
-    → IsServedTo r header (held old) message made (held mid) → mid.ledger ≡ old.ledger
+    → IsServedTo r header (held old) message made (held mid) → GoesOn r.state old.mount.tree.volume mid.mount.tree.volume
+    → mid.ledger ≡ old.ledger
     → held_over mid.mount.tree.volume new ≡ held mid
     → (is_kept ≡ true
     → Stays mid.ledger.keeping new.ledger.keeping mid.mount.tree.volume new.mount.tree.volume
@@ -202,17 +208,17 @@ pub answered_of : {F P W V E : Type 0} (contents : W → Option (List ℕ)) (r :
     → (is_kept ≡ false → IfOk result (λ told. items told ≡ lost_reply header.unique made))
     → IfOk result (λ told. Advances contents
     (λ first from to. IsServedOf contents first r found from message (items told) to) old new)
-answered_of contents r header found old mid new message made items (Ok told) true is served ledger same kept shut said lost
+answered_of contents r header found old mid new message made items (Ok told) true is served goes ledger same kept shut said lost
     =
     subst (λ (h : Option Header). Advances contents
     (λ first from to. IsServedOf contents first r h from message (items told) to) old new) (sym is)
-    (entered_kept contents r header old mid new message made (items told) served ledger same (kept refl) (said refl))
-answered_of contents r header found old mid new message made items (Ok told) false is served ledger same kept shut said
+    (entered_kept contents r header old mid new message made (items told) served goes ledger same (kept refl) (said refl))
+answered_of contents r header found old mid new message made items (Ok told) false is served goes ledger same kept shut said
     lost =
     subst (λ (h : Option Header). Advances contents
     (λ first from to. IsServedOf contents first r h from message (items told) to) old new) (sym is)
-    (entered_lost contents r header old mid new message made (items told) served ledger same (shut refl) (lost refl))
-answered_of contents r header found old mid new message made items (Err fault) is_kept is served ledger same kept shut
+    (entered_lost contents r header old mid new message made (items told) served goes ledger same (shut refl) (lost refl))
+answered_of contents r header found old mid new message made items (Err fault) is_kept is served goes ledger same kept shut
     said lost = tt
 
 -- of bytes without a header nothing comes
@@ -226,7 +232,7 @@ advances_none contents Does old nothing first is_filed handed current = (handed,
 pub rested_on : {F P W : Type 0} (contents : W → Option (List ℕ)) (state : F → StoreState)
     (old new : Served F P W) (passed : Seen F)
     → (state passed.store).content ≡ (state old.mount.tree.volume.store).content
-    → passed.level ≡ old.mount.tree.volume.level → GoesOn old.mount.tree.volume passed
+    → passed.level ≡ old.mount.tree.volume.level → GoesOn state old.mount.tree.volume passed
     → held_over passed new ≡ held_over passed old
     → GoesOrShuts contents old.ledger.keeping new.ledger.keeping passed new.mount.tree.volume
     → Advances contents (λ first from to. HasRested contents first state from to) old new
@@ -417,6 +423,10 @@ served_all contents options r first old new known left start out left_over is_wh
       new = course_of new course.0;
       begun = begun;
       talked = course.1;
+      legal = led_to r.state old.mount.tree.volume new.mount.tree.volume course.0
+          (led_all contents first r old.mount.tree.volume (course_of old []) (course_of new course.0)
+          course.1.answered.messages course.1.answered.replies course.1.answered.answered
+          (led_first r.state old.mount.tree.volume begun.volume.empty begun.volume.since begun.volume.since_level));
       kept = opened;
       filed = λ kept. file_of contents options.journal_out first old.ledger.keeping new.ledger.keeping course.0
           (course.0 ++ new.mount.tree.volume.journal) begun.file course.2.current course.2.lines (opened ∙ kept);

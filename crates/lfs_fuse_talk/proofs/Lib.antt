@@ -1,5 +1,6 @@
 pub mod CourseLemmas
 pub mod EndLemmas
 pub mod FrontLemmas
+pub mod LedLemmas
 pub mod TalkLemmas
 pub mod VolumeLemmas

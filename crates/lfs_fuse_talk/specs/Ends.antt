@@ -3,8 +3,6 @@ use Rattle.std.specs.Prelude.{◌≡◌, ◌≢◌, ◌≤◌, ◌⊎◌, ⊤, �
 use Rattle.std.specs.Prelude.{IfErr, IfOk, IsSome}
 use Rattle.clap.specs.Values.{kind_of}
 use Rattle.clap.specs.declared.error.Error.{Error}
-use Rattle.clap.specs.declared.error.kind.ErrorKind.{ErrorKind}
-use Rattle.clap.specs.declared.error.kind.ErrorKind.TheVariants.{DisplayHelp, OutOfMemory}
 use Rattle.lfs_types.specs.declared.fault.FormatFault.{FormatFault}
 use Rattle.lfs_types.specs.declared.fault.FormatFault.TheVariants as format
 use Rattle.lfs_types.specs.declared.store.Params.{Params}
@@ -12,6 +10,7 @@ use Rattle.lfs_staging.specs.Opening.{IsTooFew, IsTooMany}
 use Rattle.lfs_staging.specs.declared.parts.Parts.{Parts as Log}
 use Rattle.lfs_fuse_wire.specs.declared.framing.Frame.{Frame}
 use Rattle.lfs_fuse_wire.specs.declared.framing.Frame.TheVariants.{Partial, Bad}
+use Rattle.lfs_command.specs.Ends.{EndsUnasked}
 use Rattle.lfs_fuse_talk.specs.Ranges.{IsInRange}
 use Rattle.lfs_fuse_talk.specs.Serving.{HasServed, Server, log_server}
 use Rattle.lfs_fuse_talk.specs.Worlds.{any_groups, any_time, no_groups, recorded_time}
@@ -81,15 +80,8 @@ IsBroken options IsUnread Serves Reply = ⊥
 
 -- the status of a mount that ended in a fault
 abbrev pub status_of : TalkFault → ℕ
-status_of (Format fault) = 1
-status_of (Read fault) = 1
-status_of (Image fault) = 1
 status_of (Open fault) = 2
-status_of Journal = 1
-status_of Save = 1
-status_of Message = 1
-status_of Reply = 1
-status_of Memory = 1
+status_of fault = 1
 
 -- A program that was asked for a mount ends with this status: 0 where all messages that were read, up to the end or to a
 -- read that failed, are served, a file of the journal that is asked for has the line of each entry, and the volume is
@@ -115,16 +107,6 @@ pub record EndsMount {F R W D : Type 0} (S Dir : Type 0) (contents : F → Optio
       known left start out status in_before in_after out_before out_after err_before err_after
   pub live : options.recorded ≡ false → EndsServing contents options (kernel S F Dir)
       known left start out status in_before in_after out_before out_after err_before err_after
-
--- Of words of this kind nothing is mounted, and the program ends with this status: the help goes to the first writer, of
--- which the second hears nothing unless it was not written; words that are refused are told on the second alone, with
--- status 2; and so is want of memory, with status 1.
-pub record EndsUnasked {W D : Type 0} (kind : ErrorKind) (status : ℕ) (out_before out_after : W)
-    (err_before err_after : D) : Type 0 where
-  pub help : kind ≡ DisplayHelp → status ≤ 1
-  pub helped : kind ≡ DisplayHelp → status ≡ 0 → err_after ≡ err_before
-  pub refused : kind ≢ DisplayHelp → kind ≢ OutOfMemory → (status ≡ 2) × (out_after ≡ out_before)
-  pub lacking : kind ≡ OutOfMemory → (status ≡ 1) × (out_after ≡ out_before)
 
 -- `lfs_fuse` ends with this status by what it was asked for: options whose numbers are in their ranges, as a mount ends,
 -- or else nothing is read

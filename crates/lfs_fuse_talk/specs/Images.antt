@@ -1,5 +1,6 @@
 -- The volume that a mount begins with, and the file in which it is kept.
 use Rattle.std.specs.Prelude.{◌≡◌, ◌⊎◌, ℕ, List, [], Option, IsSome}
+use Rattle.lfs_types.specs.Tree.{opening_world}
 use Rattle.lfs_types.specs.declared.level.Level.{Level}
 use Rattle.lfs_types.specs.declared.level.Level.TheVariants.{Insecure}
 use Rattle.lfs_staging.specs.Opening.{IsOpening}
@@ -11,11 +12,12 @@ use Rattle.lfs_checking.specs.Files.{IsLoaded, IsSaved}
 use Rattle.lfs_fuse_talk.specs.declared.options.Options.{Options}
 
 -- what a mount begins with: a fresh log of the segments, inode numbers and frames that are asked for, as it is laid
--- out, at securelevel 0; or, where an image is asked for, it may be the volume of one
+-- out, at securelevel 0, which shows the opening world; or, where an image is asked for, it may be the volume of one
 abbrev pub BeginsWith : Options → Parts → Level → Type 0
 BeginsWith options store level =
     let p = options.params in
-    (IsOpening p.segments p.inodes p.frames store × (level ≡ Insecure))
+    (IsOpening p.segments p.inodes p.frames store × (level ≡ Insecure)
+    × Begins (state_of store) level opening_world)
     ⊎ (IsSome options.image × IsLoaded p.frames store level)
 
 -- a volume that begins so, without entries

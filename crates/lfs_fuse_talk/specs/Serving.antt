@@ -19,7 +19,8 @@ use Rattle.lfs_mount.specs.Answered.{IsAnswered}
 use Rattle.lfs_mount.specs.declared.mount.Beside.{Beside}
 use Rattle.lfs_mount.specs.declared.mount.Sizes.{Sizes}
 use Rattle.lfs_fuse_wire.specs.declared.framing.Frame.{Frame}
-use Rattle.lfs_mount.specs.Tending.{GoesOn, closed}
+use Rattle.lfs_mount.specs.Runs.{GoesOn, LeadTo}
+use Rattle.lfs_mount.specs.Tending.{closed}
 use Rattle.lfs_fuse_talk.specs.Filing.{HasFile, HasLines, IsCurrent, IsFirst, MovesOn, is_open}
 use Rattle.lfs_fuse_talk.specs.Filing.{lost_reply}
 use Rattle.lfs_fuse_talk.specs.Images.{HasBegun, IsKept}
@@ -140,14 +141,16 @@ pub record IsLostWith {F P W : Type 0} (unique : ℕ) (old : Course F P W) (pass
   pub volume : new.served.mount.tree.volume ≡ closed passing
   pub told : reply ≡ lost_reply unique made
 
--- The message of a header was served. Before its reply is written, a file of the journal that takes more has the line of
--- each entry since the mount began, in order, each once, numbered from 1 on, behind what it held at first.
+-- The message of a header was served, and the journal went on, a legal run still. Before its reply is written, a file of
+-- the journal that takes more has the line of each entry since the mount began, in order, each once, numbered from 1 on,
+-- behind what it held at first.
 pub record IsEntered {F P W : Type 0} (contents : W → Option (List ℕ)) (first : Option (List ℕ))
     (r : Server F P) (header : Header) (old : Course F P W) (message reply : List ℕ)
     (new : Course F P W) : Type 0 where
   pub passing : Seen F
   pub made : List ℕ
   pub served : IsServedTo r header (held old.served) message made (held_over passing new.served)
+  pub goes_on : GoesOn r.state old.served.mount.tree.volume passing
   pub kept : IsKeptWith old passing made reply new
       ⊎ IsLostWith header.unique old passing made reply new
   pub lines : HasLines contents first new.served.ledger.keeping (entered new)
@@ -171,7 +174,7 @@ pub record HasRested {F P W : Type 0} (contents : W → Option (List ℕ)) (firs
   pub passed : Seen F
   pub content : (state passed.store).content ≡ (state old.served.mount.tree.volume.store).content
   pub level : passed.level ≡ old.served.mount.tree.volume.level
-  pub goes_on : GoesOn old.served.mount.tree.volume passed
+  pub goes_on : GoesOn state old.served.mount.tree.volume passed
   pub moves : MovesOn old.handed passed new.handed new.served.mount.tree.volume
       ⊎ ((new.handed ≡ old.handed) × (new.served.mount.tree.volume ≡ closed passed))
   pub beside : held_over passed new.served ≡ held_over passed old.served
@@ -200,8 +203,9 @@ pub record BeginsServing {F P : Type 0} (contents : F → Option (List ℕ)) (op
   pub file : IsFirst contents first (is_some options.journal_out) old.ledger.keeping
 
 -- A mount that began as was asked served the messages that were read, up to the end of the input, to a read that failed,
--- or to what is no message, and their replies were written. Where the file of its journal took all, it has the line of
--- each entry; and the volume that the messages left is kept in a file, where an image is asked for.
+-- or to what is no message, and their replies were written. All entries since it began are a legal run from the tree and
+-- the level that it began with to those that the messages left. Where the file of its journal took all, it has the line
+-- of each entry; and the volume that the messages left is kept in a file, where an image is asked for.
 pub record HasServed {F P : Type 0} (contents : F → Option (List ℕ)) (options : Options)
     (r : Server Log P) (known left start out : Option (List ℕ)) (left_over : Frame)
     (is_whole is_kept is_saved : Bool) : Type 0 where
@@ -211,6 +215,7 @@ pub record HasServed {F P : Type 0} (contents : F → Option (List ℕ)) (option
   pub begun : BeginsServing contents options first old
   pub talked : HasTalked (serving contents first r) left_over (course_of old []) new is_whole
       known left start out
+  pub legal : LeadTo r.state old.mount.tree.volume (entered new) new.served.mount.tree.volume
   pub kept : is_served new ≡ is_kept
   pub filed : is_kept ≡ true → IfSome options.journal_out (λ _. HasFile contents (entered new))
   pub saved : is_saved ≡ true

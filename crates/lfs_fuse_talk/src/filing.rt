@@ -104,7 +104,8 @@ impl<W: Write + Drop> Ledger<W> {
     /// The entries go to this file from now on, where there is one.
     pub(crate) fn new(alloc: Global, file: Option<W>) -> Ledger<W>
         ensures asked { is_some file ≡ false → IsFirst W.contents None false result.keeping }
-        ensures first { IfSome file (λ file. IsFirst W.contents (W.contents file) true result.keeping) }
+        ensures first { IfSome file (λ file.
+            IsFirst W.contents (W.contents file) true result.keeping) }
     {
         let keeping = match file {
             Some(file) => Keeping::File(LineSink::new(alloc, file)),
@@ -172,8 +173,10 @@ impl<W: Write + Drop> Ledger<W> {
             (Stays self.old.keeping self.new.keeping mount.old.tree.volume mount.new.tree.volume
             ⊎ IsHandedOut W.contents self.old.keeping self.new.keeping
             mount.old.tree.volume mount.new.tree.volume)
-            ⊎ (IsLetGo self.old.keeping self.new.keeping mount.old.tree.volume mount.new.tree.volume
-            ⊎ IsShut self.old.keeping self.new.keeping mount.old.tree.volume mount.new.tree.volume)) }
+            ⊎ (IsLetGo self.old.keeping self.new.keeping
+            mount.old.tree.volume mount.new.tree.volume
+            ⊎ IsShut self.old.keeping self.new.keeping
+            mount.old.tree.volume mount.new.tree.volume)) }
         ensures silent { OnOk result (is_open self.new.keeping ≡ true
             → (is_open self.old.keeping ≡ true) × (teller.new ≡ teller.old)) }
         ensures nodes { mount.new.tree.nodes ≡ mount.old.tree.nodes }
@@ -198,7 +201,8 @@ pub(crate) fn told_or_lost(
     reply: Vec<u8>,
 ) -> Result<Vec<u8>, AllocError>
     ensures kept { is_kept ≡ true → IfOk result (λ told. told.items ≡ reply.items) }
-    ensures lost { is_kept ≡ false → IfOk result (λ told. told.items ≡ lost_reply unique reply.items) }
+    ensures lost { is_kept ≡ false → IfOk result (λ told.
+        told.items ≡ lost_reply unique reply.items) }
 {
     if is_kept || reply.is_empty() {
         return Ok(reply);

@@ -8,8 +8,6 @@ mod inbox;
 pub mod options;
 pub mod outside;
 pub mod program;
-mod refusing;
 pub mod served;
 pub mod talk;
 mod volume;
-mod words;

@@ -1,31 +1,14 @@
 //! What the arguments of `lfs_fuse` ask for.
 
 ghost use Rattle.std.specs.Prelude.{IfOk};
-ghost use Rattle.lfs_fuse_talk.specs.Ranges.{IsBetween, IsInRange};
+ghost use Rattle.lfs_fuse_talk.specs.Ranges.{IsInRange};
 
-use clap::builder::ValueParser;
-use clap::error::ErrorKind;
 use clap::{Arg, ArgAction, ArgMatches, Command, Error};
+use lfs_command::numbers::NumberOption;
+use lfs_command::refusing::{self, wrong_value};
 use lfs_types::store::Params;
 use std::alloc::{AllocError, Global};
 use std::convert::AsStr;
-
-/// An option that takes a number.
-#[derive(Clone, Copy)]
-struct NumberOption {
-    /// Its name.
-    name: &'static str,
-    /// The least number that it takes.
-    least: u32,
-    /// The greatest number that it takes.
-    most: u32,
-    /// The number where it is not given.
-    default: u32,
-    /// What `--help` tells of it.
-    help: &'static str,
-    /// What is told of a number that is not in its range.
-    refusal: &'static str,
-}
 
 const SEGMENTS: NumberOption = NumberOption {
     name: "segments",
@@ -33,7 +16,7 @@ const SEGMENTS: NumberOption = NumberOption {
     most: 1024,
     default: 1024,
     help: "How many segments of 32,768 bytes the log has, 6 to 1024; by default 1024",
-    refusal: "--segments takes a number from 6 to 1024",
+    refusal: "--segments takes a number of decimal digits alone, from 6 to 1024",
 };
 
 const INODES: NumberOption = NumberOption {
@@ -42,7 +25,7 @@ const INODES: NumberOption = NumberOption {
     most: 4096,
     default: 4096,
     help: "How many inode numbers the volume has, 16 to 4096; by default 4096",
-    refusal: "--inodes takes a number from 16 to 4096",
+    refusal: "--inodes takes a number of decimal digits alone, from 16 to 4096",
 };
 
 const FRAMES: NumberOption = NumberOption {
@@ -51,7 +34,7 @@ const FRAMES: NumberOption = NumberOption {
     most: 1024,
     default: 1024,
     help: "How many blocks of 512 bytes the cache holds, 32 to 1024; by default 1024",
-    refusal: "--frames takes a number from 32 to 1024",
+    refusal: "--frames takes a number of decimal digits alone, from 32 to 1024",
 };
 
 const JOURNAL: NumberOption = NumberOption {
@@ -60,7 +43,7 @@ const JOURNAL: NumberOption = NumberOption {
     most: 100_000,
     default: 4096,
     help: "How many entries the journal may have in memory, 512 to 100000; by default 4096",
-    refusal: "--journal takes a number from 512 to 100000",
+    refusal: "--journal takes a number of decimal digits alone, from 512 to 100000",
 };
 
 /// The name of the option for an image.
@@ -101,7 +84,7 @@ pub fn options_of<'a, S: AsStr>(alloc: Global, words: &'a [S]) -> Result<Options
     let matches = command.try_get_matches_from_mut(words)?;
     let params = match params_in(&matches) {
         Ok(params) => params,
-        Err(refusal) => return Err(refused(alloc, refusal)),
+        Err(refusal) => return Err(wrong_value(&mut command, refusal)),
     };
     let image = matches.get_str(IMAGE);
     let journal_out = matches.get_str(JOURNAL_OUT);
@@ -114,53 +97,25 @@ pub fn options_of<'a, S: AsStr>(alloc: Global, words: &'a [S]) -> Result<Options
     })
 }
 
-/// The fault of arguments that are no text.
-///
-/// # Errors
-///
-/// It is itself one; or want of memory.
+/// The error of arguments that are no text, with exit code 2; or want of memory.
 pub fn not_utf8(alloc: Global) -> Error {
-    refused(alloc, "the arguments must be UTF-8")
-}
-
-/// The fault of arguments of which this is told; or want of memory.
-fn refused(alloc: Global, message: &str) -> Error {
-    match command(alloc) {
-        Ok(mut command) => match command.error(ErrorKind::ValueValidation, message) {
-            Ok(error) => error,
-            Err(error) => Error::from(error),
-        },
-        Err(error) => Error::from(error),
-    }
+    refusing::not_utf8(command(alloc))
 }
 
 /// The parameters that the matches ask for, or what is told of the first that is refused.
 fn params_in(matches: &ArgMatches<'_>) -> Result<Params, &'static str>
     ensures { IfOk result IsInRange }
 {
-    let segments = number(matches, &SEGMENTS)?;
-    let inodes = number(matches, &INODES)?;
-    let frames = number(matches, &FRAMES)?;
-    let journal = number(matches, &JOURNAL)?;
+    let segments = SEGMENTS.number(matches)?;
+    let inodes = INODES.number(matches)?;
+    let frames = FRAMES.number(matches)?;
+    let journal = JOURNAL.number(matches)?;
     Ok(Params {
         segments,
         inodes,
         frames,
         journal,
     })
-}
-
-/// The number that the matches ask for by an option, its default where it is not given, or what is told where it is refused.
-/// The parser has read it as a number in its range, which no clause of its says.
-fn number(matches: &ArgMatches<'_>, option: &NumberOption) -> Result<u32, &'static str>
-    requires { IsBetween option.now.least option.now.most option.now.default }
-    ensures { IfOk result (IsBetween option.now.least option.now.most) }
-{
-    match matches.get_one::<u32>(option.name) {
-        None => Ok(option.default),
-        Some(number) if option.least <= number && number <= option.most => Ok(number),
-        Some(_) => Err(option.refusal),
-    }
 }
 
 /// The options of `lfs_fuse`.
@@ -205,15 +160,4 @@ fn recorded<'a>(alloc: Global) -> Arg<'a> {
         .help(
             "The messages are a recording: a caller has the group of his message alone, each message a second",
         )
-}
-
-impl NumberOption {
-    /// The option for the command line.
-    fn arg<'a>(self, alloc: Global) -> Arg<'a> {
-        Arg::new(alloc, self.name)
-            .long(self.name)
-            .value_name("N")
-            .value_parser(ValueParser::Unsigned(u64::from(self.least), u64::from(self.most)))
-            .help(self.help)
-    }
 }

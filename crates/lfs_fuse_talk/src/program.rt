@@ -3,7 +3,8 @@
 ghost use Rattle.std.specs.Prelude.{◌≡◌, ℕ, List, Option, true, IfErr, IfOk, MatchResult, OnOk};
 ghost use Rattle.clap.specs.Values.{kind_of};
 ghost use Rattle.lfs_fuse_wire.specs.declared.framing.Frame.TheVariants.{Partial};
-ghost use Rattle.lfs_fuse_talk.specs.Ends.{EndsMount, EndsServing, EndsUnasked, IsBroken, IsFuseEnd, IsUnserved, status_of};
+ghost use Rattle.lfs_command.specs.Ends.{EndsUnasked};
+ghost use Rattle.lfs_fuse_talk.specs.Ends.{EndsMount, EndsServing, IsBroken, IsFuseEnd, IsUnserved, status_of};
 ghost use Rattle.lfs_fuse_talk.specs.Ranges.{IsInRange};
 ghost use Rattle.lfs_fuse_talk.specs.Serving.{BeginsServing, HasServed, log_server};
 
@@ -11,12 +12,12 @@ use crate::fault::TalkFault;
 use crate::filing::{Ledger, NAME, open_journal};
 use crate::options::{Options, not_utf8, options_of};
 use crate::outside::{Outside, Recording, System};
-use crate::refusing::refuse;
 use crate::served::Served;
 use crate::talk::{Talked, talk};
 use crate::volume::{keep, mounted};
-use crate::words::{NoWords, words};
 use clap::Error;
+use lfs_command::refusing::refuse;
+use lfs_command::words::{NoWords, words};
 use lfs_io::tell::tell;
 use lfs_logstore::LogStore;
 use std::alloc::{AllocError, Global};

@@ -1,7 +1,8 @@
 //! A mount that answers messages, as the world outside tells.
 
-ghost use Rattle.std.specs.Prelude.{◌≡◌, IfOk};
+ghost use Rattle.std.specs.Prelude.{◌≡◌, IfOk, OnOk};
 ghost use Rattle.std.specs.Option.{option_map};
+ghost use Rattle.lfs_mount.specs.Runs.{GoesOn};
 ghost use Rattle.lfs_fuse_talk.specs.Filing.{is_open};
 ghost use Rattle.lfs_fuse_talk.specs.Serving.{Advances, AreGroups, HasRested, IsServed, IsServedTo, are_wanted, held, server_of};
 
@@ -75,6 +76,7 @@ fn groups_of<P: Outside>(
 }
 
 impl<F: CleanedStore + Drop, P: Outside + Drop, W: Write + Drop> Served<F, P, W> {
+    #[tactic(auto, using(lfs_mount::proofs::TendingLemmas::goes_on_none))]
     /// The reply to a message of this header.
     fn reply(
         &mut self,
@@ -85,6 +87,8 @@ impl<F: CleanedStore + Drop, P: Outside + Drop, W: Write + Drop> Served<F, P, W>
         ensures served { IfOk result (λ reply. IsServedTo
             (server_of F.state F.is_settled P.time P.groups)
             header.now (held self.old) message.now reply.items (held self.new)) }
+        ensures journal { OnOk result (GoesOn F.state self.old.mount.tree.volume
+            self.new.mount.tree.volume) }
         ensures ledger { self.new.ledger ≡ self.old.ledger }
     {
         let mut out = Vec::new(alloc);

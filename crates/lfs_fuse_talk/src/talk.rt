@@ -29,7 +29,8 @@ pub trait Answerer {
         message: &[u8],
         teller: &mut D,
     ) -> Result<Vec<u8>, AllocError>
-        ensures answered { IfOk result (λ reply. answers self.old message.now reply.items self.new) }
+        ensures answered { IfOk result (λ reply.
+            answers self.old message.now reply.items self.new) }
         ensures silent { OnOk result (is_well self.new ≡ true
             → (is_well self.old ≡ true) × (teller.new ≡ teller.old)) };
 

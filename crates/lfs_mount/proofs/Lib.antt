@@ -1,3 +1,4 @@
+pub mod GoingLemmas
 pub mod HandledLemmas
 pub mod JudgedLemmas
 pub mod MakingLemmas

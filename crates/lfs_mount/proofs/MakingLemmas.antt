@@ -15,6 +15,7 @@ use Rattle.lfs_volume.specs.Seen.{Seen}
 use Rattle.lfs_volume.proofs.CallLemmas.{AreAnswers-append}
 use Rattle.lfs_fuse_calls.specs.Shown.{is_full, wanted_by}
 use Rattle.lfs_mount.specs.Making.{AreMade, EndsOr, GoUpTo, OnAny, call_as, calls_as}
+use Rattle.lfs_mount.specs.Runs.{IsRun}
 
 pub calls_as-append : (caller : Caller) (requests : List Request) (request : Request)
     → calls_as caller (requests ++ request ∷ []) ≡ calls_as caller requests ++ call_as caller request ∷ []
@@ -130,9 +131,10 @@ pub are_made : {F : Type 0} (state : F → StoreState) (is_settled : F → Type 
     → OnAny answers (Since (state old.since) old.since_level (λ from. length new.journal ≤ new.limit))
     → GoUpTo requests answers
     → new.since ≡ old.since → new.since_level ≡ old.since_level → new.limit ≡ old.limit
+    → (state new.store).shape ≡ (state old.store).shape → (IsRun state old → IsRun state new)
     → AreMade state is_settled caller requests answers old new
 are_made state is_settled caller requests done rest answers old new all count each entered within up_to since
-    since_level limit =
+    since_level limit shape legal =
     let made : take (length answers) requests ≡ done =
     ap (λ n. take n requests) count ∙ ap (take (length done)) (sym all) ∙ take-append_seam done rest in
     record {
@@ -145,4 +147,6 @@ are_made state is_settled caller requests done rest answers old new all count ea
       since = since;
       since_level = since_level;
       limit = limit;
+      shape = shape;
+      legal = legal;
     }

@@ -17,8 +17,9 @@ use Rattle.lfs_nodes.specs.declared.node.Node.{Node}
 use Rattle.lfs_nodes.specs.declared.parts.Parts.{Parts}
 use Rattle.lfs_nodes.specs.Nodes.{AreNodes, known}
 use Rattle.lfs_nodes.proofs.LawLemmas.{nodes_kept}
-use Rattle.lfs_mount.specs.Tending.{GoesOn, let_go}
-use Rattle.lfs_mount.specs.Trees.{IsRun, StayTrue}
+use Rattle.lfs_mount.specs.Runs.{GoesOn, IsRun}
+use Rattle.lfs_mount.specs.Tending.{let_go}
+use Rattle.lfs_mount.specs.Trees.{StayTrue}
 
 -- a directory's file
 record DirectoryFile (o : Option File) : Type 0 where
@@ -61,7 +62,7 @@ shown_on state old new nodes shows run begun = λ are from begins.
 module _ {F : Type 0} (state : F → StoreState) (old : Seen F) (nodes : Parts) (run : IsRun state old) where
   -- a journal went on, and no content changed
   pub gone_on : (new : Seen F) → IsRun state new → (state new.store).content ≡ (state old.store).content
-      → GoesOn old new → StayTrue state old nodes new nodes
+      → GoesOn state old new → StayTrue state old nodes new nodes
   gone_on new later content goes = λ are from begins.
       let here : Begins (state old.since) old.since_level from =
       subst (λ (s : F). Begins (state s) old.since_level from) goes.since

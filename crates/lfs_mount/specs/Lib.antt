@@ -4,5 +4,6 @@ pub mod Handled
 pub mod Loans
 pub mod Making
 pub mod Room
+pub mod Runs
 pub mod Tending
 pub mod Trees

@@ -10,6 +10,7 @@ use Rattle.lfs_volume.specs.CallRuns.{AreAnswers}
 use Rattle.lfs_volume.specs.Journals.{Since}
 use Rattle.lfs_volume.specs.Seen.{Seen}
 use Rattle.lfs_fuse_calls.specs.Shown.{is_full, wanted_by}
+use Rattle.lfs_mount.specs.Runs.{IsRun}
 
 -- a call of session 0 as a caller
 abbrev pub call_as : Caller → Request → Call
@@ -38,8 +39,8 @@ OnAny [] P = Unit {0}
 OnAny (answer ∷ answers) P = P
 
 -- The calls that were made of those that were asked for: as many as have answers, all as one caller, each answered as a
--- call of the volume is, on the store that the one before it left, and each entered, for which the journal had room; up
--- to the first that isn't served in full.
+-- call of the volume is, on the store that the one before it left, and each entered, for which the journal had room, and
+-- which stays a legal run; up to the first that isn't served in full.
 pub record AreMade {F : Type 0} (state : F → StoreState) (is_settled : F → Type 0) (caller : Caller)
     (requests : List Request) (answers : List Answer) (old new : Seen F) : Type 0 where
   pub each : Since (state old.since) old.since_level
@@ -53,3 +54,5 @@ pub record AreMade {F : Type 0} (state : F → StoreState) (is_settled : F → T
   pub since : new.since ≡ old.since
   pub since_level : new.since_level ≡ old.since_level
   pub limit : new.limit ≡ old.limit
+  pub shape : (state new.store).shape ≡ (state old.store).shape
+  pub legal : IsRun state old → IsRun state new

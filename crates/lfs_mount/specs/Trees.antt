@@ -7,7 +7,7 @@ use Rattle.lfs_types.specs.Tree.{World}
 use Rattle.lfs_types.specs.declared.answer.Answer.{Answer}
 use Rattle.lfs_model.specs.World.{Rows, IsChild, IsTree, child, children}
 use Rattle.lfs_model.specs.Effects.{after_rename}
-use Rattle.lfs_volume.specs.Journals.{AtPresent, IsJournal, Since}
+use Rattle.lfs_volume.specs.Journals.{AtPresent}
 use Rattle.lfs_volume.specs.Seen.{Seen}
 use Rattle.lfs_nodes.specs.declared.parts.Parts.{Parts}
 use Rattle.lfs_nodes.specs.Nodes.{AreNodes, known, live_row}
@@ -26,12 +26,6 @@ AreTrue state volume nodes = AtPresent state volume (λ w. AreNodes w.rows (know
 -- where nodes were true of the tree that a volume showed, those that there are now are true of the one that it shows now
 abbrev pub StayTrue : {F : Type 0} → (F → StoreState) → Seen F → Parts → Seen F → Parts → Type 0
 StayTrue state old before new after = AreTrue state old before → AreTrue state new after
-
--- The journal of a volume is a legal run to the tree that store and level show: what `Volume::journal` says.
-abbrev pub IsRun : {F : Type 0} → (F → StoreState) → Seen F → Type 0
-IsRun state v =
-    Since (state v.since) v.since_level (λ from. IsJournal from
-    (state v.store) v.level v.journal v.limit)
 
 -- The calls that a message asks for were made, of a path that leads to its node's row, or to the name that it tells
 -- there, in each tree that nodes are true of.

@@ -4,6 +4,7 @@ ghost use Rattle.std.specs.Prelude.{◌≡◌, OnOk};
 ghost use Rattle.lfs_fuse_wire.specs.Said.{said};
 ghost use Rattle.lfs_fuse_wire.specs.Views.{view};
 ghost use Rattle.lfs_mount.specs.Answered.{IsAnswered, IsHeard, IsToldDated, live_in, replied};
+ghost use Rattle.lfs_mount.specs.Runs.{GoesOn};
 ghost use Rattle.lfs_mount.specs.Trees.{StayTrue};
 
 use crate::loans::with_handle;
@@ -98,9 +99,11 @@ impl<F: FileStore + Drop> Mount<F> {
         }
     }
 
+    #[tactic(auto, using(crate::proofs::GoingLemmas::heard_goes, crate::proofs::TendingLemmas::goes_on_none))]
     /// Answers one message, which comes now: its calls are made as the caller that its header tells, with the other
     /// groups of its process, and its reply is added, if it wants one. Nothing is done of bytes that have no header.
-    /// Nodes that were true of the tree that the volume showed are true of the one that it shows then.
+    /// Nodes that were true of the tree that the volume showed are true of the one that it shows then. The journal goes
+    /// on, and stays a legal run.
     ///
     /// # Errors
     ///
@@ -118,6 +121,7 @@ impl<F: FileStore + Drop> Mount<F> {
             others.now bytes.now out.old.items out.new.items self.old.tree.volume
             self.new.tree.volume
             self.old.beside self.new.beside) }
+        ensures journal { GoesOn F.state self.old.tree.volume self.new.tree.volume }
         ensures stay { StayTrue F.state self.old.tree.volume self.old.tree.nodes
             self.new.tree.volume self.new.tree.nodes }
         ensures sizes { self.new.sizes ≡ self.old.sizes }

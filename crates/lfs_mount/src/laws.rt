@@ -4,8 +4,9 @@ ghost use Rattle.std.specs.Prelude.{◌≡◌};
 ghost use Rattle.lfs_volume.specs.Journals.{AtPresent, Begins, HasBegun};
 ghost use Rattle.lfs_volume.specs.Seen.{Seen};
 ghost use Rattle.lfs_nodes.specs.declared.parts.Parts.{Parts};
-ghost use Rattle.lfs_mount.specs.Tending.{GoesOn, let_go};
-ghost use Rattle.lfs_mount.specs.Trees.{IsRun, StayTrue};
+ghost use Rattle.lfs_mount.specs.Runs.{GoesOn, IsRun};
+ghost use Rattle.lfs_mount.specs.Tending.{let_go};
+ghost use Rattle.lfs_mount.specs.Trees.{StayTrue};
 
 use crate::mount::Mount;
 use lfs_types::store::FileStore;
@@ -14,7 +15,7 @@ use lfs_types::store::FileStore;
 /// are let go, and where the tree is shown still that its journal led to. It does nothing.
 pub fn stay_true<F: FileStore + Drop>(_mount: &Mount<F>)
     ensures tended { (old new : Seen F) (nodes : Parts) → IsRun F.state old → IsRun F.state new
-        → (F.state new.store).content ≡ (F.state old.store).content → GoesOn old new
+        → (F.state new.store).content ≡ (F.state old.store).content → GoesOn F.state old new
         → StayTrue F.state old nodes new nodes }
     ensures let_go { (old : Seen F) (nodes : Parts) → IsRun F.state old
         → HasBegun (F.state old.since) old.since_level

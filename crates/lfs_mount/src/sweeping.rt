@@ -1,7 +1,7 @@
 //! Room that the cleaner finds: dead segments become clean at once, others by passes.
 
 ghost use Rattle.std.specs.Prelude.{◌≡◌};
-ghost use Rattle.lfs_mount.specs.Tending.{GoesOn};
+ghost use Rattle.lfs_mount.specs.Runs.{GoesOn};
 
 use crate::mount::Mount;
 use crate::tending::CLEANER;
@@ -37,12 +37,13 @@ fn is_dead(bytes: &[u8], segment: u32) -> bool {
 }
 
 impl<F: CleanedStore + Drop> Mount<F> {
+    #[tactic(auto, using(crate::proofs::TendingLemmas::cleaned_goes, crate::proofs::TendingLemmas::goes_on_none))]
     /// Makes a segment clean that has no live bytes, by an ifile's bytes. Whether it was asked for. No file changes.
     fn reclaim(&mut self, bytes: &[u8], segment: u32) -> bool
         ensures content { (F.state self.new.tree.volume.store).content
             ≡ (F.state self.old.tree.volume.store).content }
         ensures level { self.new.tree.volume.level ≡ self.old.tree.volume.level }
-        ensures journal { GoesOn self.old.tree.volume self.new.tree.volume }
+        ensures journal { GoesOn F.state self.old.tree.volume self.new.tree.volume }
         ensures nodes { self.new.tree.nodes ≡ self.old.tree.nodes }
         ensures beside { self.new.beside ≡ self.old.beside }
         ensures sizes { self.new.sizes ≡ self.old.sizes }
@@ -55,13 +56,13 @@ impl<F: CleanedStore + Drop> Mount<F> {
         true
     }
 
-    #[tactic(auto, using(crate::proofs::TendingLemmas::goes_on_again))]
+    #[tactic(auto, using(crate::proofs::TendingLemmas::cleaned_goes, crate::proofs::TendingLemmas::goes_on_again))]
     /// Makes dirty segments clean that have no live bytes, at most 64. No file changes.
     fn sweep(&mut self)
         ensures content { (F.state self.new.tree.volume.store).content
             ≡ (F.state self.old.tree.volume.store).content }
         ensures level { self.new.tree.volume.level ≡ self.old.tree.volume.level }
-        ensures journal { GoesOn self.old.tree.volume self.new.tree.volume }
+        ensures journal { GoesOn F.state self.old.tree.volume self.new.tree.volume }
         ensures nodes { self.new.tree.nodes ≡ self.old.tree.nodes }
         ensures beside { self.new.beside ≡ self.old.beside }
         ensures sizes { self.new.sizes ≡ self.old.sizes }
@@ -85,12 +86,13 @@ impl<F: CleanedStore + Drop> Mount<F> {
         }
     }
 
+    #[tactic(auto, using(crate::proofs::TendingLemmas::goes_on_none))]
     /// Makes a pass of the cleaner where few segments are clean. Whether more are clean then. No file changes.
     fn gain(&mut self) -> bool
         ensures content { (F.state self.new.tree.volume.store).content
             ≡ (F.state self.old.tree.volume.store).content }
         ensures level { self.new.tree.volume.level ≡ self.old.tree.volume.level }
-        ensures journal { GoesOn self.old.tree.volume self.new.tree.volume }
+        ensures journal { GoesOn F.state self.old.tree.volume self.new.tree.volume }
         ensures nodes { self.new.tree.nodes ≡ self.old.tree.nodes }
         ensures beside { self.new.beside ≡ self.old.beside }
         ensures sizes { self.new.sizes ≡ self.old.sizes }
@@ -110,7 +112,7 @@ impl<F: CleanedStore + Drop> Mount<F> {
         ensures content { (F.state self.new.tree.volume.store).content
             ≡ (F.state self.old.tree.volume.store).content }
         ensures level { self.new.tree.volume.level ≡ self.old.tree.volume.level }
-        ensures journal { GoesOn self.old.tree.volume self.new.tree.volume }
+        ensures journal { GoesOn F.state self.old.tree.volume self.new.tree.volume }
         ensures nodes { self.new.tree.nodes ≡ self.old.tree.nodes }
         ensures beside { self.new.beside ≡ self.old.beside }
         ensures sizes { self.new.sizes ≡ self.old.sizes }

@@ -3,7 +3,8 @@
 ghost use Rattle.std.specs.Prelude.{◌≡◌, ◌≤◌, [], if◌then◌else◌, IfOk, OnErr};
 ghost use Rattle.std.specs.Vec.{vec_capacity};
 ghost use Rattle.lfs_volume.specs.Journals.{AtPresent, Begins};
-ghost use Rattle.lfs_mount.specs.Tending.{GoesOn, closed, let_go};
+ghost use Rattle.lfs_mount.specs.Runs.{GoesOn, IsRun, LeadTo};
+ghost use Rattle.lfs_mount.specs.Tending.{closed, let_go};
 
 use crate::mount::Mount;
 use crate::sweeping::few_of;
@@ -31,9 +32,11 @@ impl<F: FileStore + Drop> Mount<F> {
         self.tree.volume.clean_segments()
     }
 
-    /// The entries of the journal, since they were let go last.
+    /// The entries of the journal, since they were let go last: a legal run from the tree that was shown then to the one
+    /// that is shown now.
     pub fn journal(&self) -> &[Entry]
-        ensures { result.now ≡ self.now.tree.volume.journal }
+        ensures entries { result.now ≡ self.now.tree.volume.journal }
+        ensures legal { IsRun F.state self.now.tree.volume }
     {
         self.tree.volume.journal()
     }
@@ -56,11 +59,12 @@ impl<F: FileStore + Drop> Mount<F> {
     }
 
     /// Hands the entries of the journal out, which goes on without them from the present tree, with the room that is handed
-    /// in. Store and level show the tree that the journal led to.
+    /// in. They are a legal run from where their journal began to the tree that store and level show.
     pub fn hand_out(&mut self, room: Vec<Entry>) -> Vec<Entry>
         requires empty { room.items ≡ [] }
         requires room { self.old.tree.volume.limit ≤ vec_capacity room }
         ensures handed { result.items ≡ self.old.tree.volume.journal }
+        ensures legal { LeadTo F.state self.old.tree.volume result.items self.old.tree.volume }
         ensures let_go { self.new.tree.volume ≡ let_go self.old.tree.volume }
         ensures shown { AtPresent F.state self.old.tree.volume
             (Begins (F.state self.old.tree.volume.store) self.old.tree.volume.level) }
@@ -110,12 +114,13 @@ impl<F: FileStore + Drop> Mount<F> {
 }
 
 impl<F: CleanedStore + Drop> Mount<F> {
+    #[tactic(auto, using(crate::proofs::TendingLemmas::cleaned_goes, crate::proofs::TendingLemmas::goes_on_again))]
     /// Makes a pass of the cleaner. No file changes.
     pub(crate) fn pass(&mut self)
         ensures content { (F.state self.new.tree.volume.store).content
             ≡ (F.state self.old.tree.volume.store).content }
         ensures level { self.new.tree.volume.level ≡ self.old.tree.volume.level }
-        ensures journal { GoesOn self.old.tree.volume self.new.tree.volume }
+        ensures journal { GoesOn F.state self.old.tree.volume self.new.tree.volume }
         ensures nodes { self.new.tree.nodes ≡ self.old.tree.nodes }
         ensures beside { self.new.beside ≡ self.old.beside }
         ensures sizes { self.new.sizes ≡ self.old.sizes }
@@ -128,13 +133,14 @@ impl<F: CleanedStore + Drop> Mount<F> {
         }
     }
 
+    #[tactic(auto, using(crate::proofs::TendingLemmas::goes_on_none))]
     /// Has the cleaner look for room where fewer than three segments are clean, so that room that was given back is
     /// found, or few and more than that before. No file changes.
     pub fn tend(&mut self, before: u32)
         ensures content { (F.state self.new.tree.volume.store).content
             ≡ (F.state self.old.tree.volume.store).content }
         ensures level { self.new.tree.volume.level ≡ self.old.tree.volume.level }
-        ensures journal { GoesOn self.old.tree.volume self.new.tree.volume }
+        ensures journal { GoesOn F.state self.old.tree.volume self.new.tree.volume }
         ensures nodes { self.new.tree.nodes ≡ self.old.tree.nodes }
         ensures beside { self.new.beside ≡ self.old.beside }
         ensures sizes { self.new.sizes ≡ self.old.sizes }

@@ -54,6 +54,8 @@ loop-request-preserved g c =
       since = made.since ∙ i.since;
       since_level = made.since_level ∙ i.since_level;
       limit = made.limit ∙ i.limit;
+      shape = made.follows.shape ∙ i.shape;
+      legal = λ _. made.legal;
     }
 
 pub push_within-requires : goal.push_within-requires
@@ -101,6 +103,8 @@ returns-then-not-goes_on-clause-made g c =
     (made.since ∙ i.since)
     (made.since_level ∙ i.since_level)
     (made.limit ∙ i.limit)
+    (made.follows.shape ∙ i.shape)
+    (λ _. made.legal)
 
 pub returns-clause-made : goal.returns-clause-made
 returns-clause-made g c =
@@ -113,4 +117,4 @@ returns-clause-made g c =
     all i.count i.each i.entered i.within
     (subst (λ l. GoUpTo l c.loop-request.answers.items) (sym (append-nil done) ∙ all)
     (up_to_all done c.loop-request.answers.items i.full))
-    i.since i.since_level i.limit
+    i.since i.since_level i.limit i.shape i.legal

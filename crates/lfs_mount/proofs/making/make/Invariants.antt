@@ -3,6 +3,7 @@ use Rattle.lfs_model.specs.Runs.{kept}
 use Rattle.lfs_volume.specs.CallRuns.{AreAnswers}
 use Rattle.lfs_volume.specs.Journals.{Since}
 use Rattle.lfs_mount.specs.Making.{OnAny, calls_as}
+use Rattle.lfs_mount.specs.Runs.{IsRun}
 use Rattle.lfs_mount.proofs.MakingLemmas.{AllFull}
 use Rattle.lfs_mount.proofs.making.make.Given as goal
 
@@ -21,4 +22,6 @@ invariant-loop-request g l = record {
   since : l.volume.since ≡ l.fn.volume.since;
   since_level : l.volume.since_level ≡ l.fn.volume.since_level;
   limit : l.volume.limit ≡ l.fn.volume.limit;
+  shape : (g.F.FileStore.state l.volume.store).shape ≡ (g.F.FileStore.state l.fn.volume.store).shape;
+  legal : IsRun g.F.FileStore.state l.fn.volume → IsRun g.F.FileStore.state l.volume;
 }

@@ -9,7 +9,7 @@ returns-then-is_empty-clause-taken g c =
     λ _. inl (record {
       same = refl;
       volume = refl;
-      none = λ _ _. sym c.journal.ensures ∙ nil_from_length c.journal.result.now empty;
+      none = λ _ _. sym c.journal.ensures.entries ∙ nil_from_length c.journal.result.now empty;
     })
 
 pub returns-in-Ok-clause-taken : goal.returns-in-Ok-clause-taken

@@ -15,7 +15,7 @@ returns-clause-answered g c =
     answered_of g.W.Write.contents (server_of g.F.FileStore.state g.F.FileStore.is_settled g.P.Outside.time
     g.P.Outside.groups) c.in-Some.header _ c.args.self.now c.reply.new.self new c.args.message.now
     c.in_ok-reply.reply.items (λ v. v.items) c.told_or_lost.result c.give-is_kept.result (search rules)
-    c.in_ok-reply.ensures.served c.reply.ensures.ledger
+    c.in_ok-reply.ensures.served c.in_ok-reply.ensures.journal c.reply.ensures.ledger
     (same_held c.reply.new.self.mount.tree.volume c.reply.new.self new c.give-is_kept.ensures.nodes
     c.give-is_kept.ensures.beside c.give-is_kept.ensures.sizes refl)
     c.give-is_kept.ensures.taken c.give-is_kept.ensures.lost c.told_or_lost.ensures.kept c.told_or_lost.ensures.lost
