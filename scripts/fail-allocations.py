@@ -152,7 +152,6 @@ NAMED = {
     "split": ["Memory"],
     "print": ["AllocError"],
     "cleaner": ["AllocError"],
-    "report": ["AllocError"],
     "counts": ["AllocError"],
 }
 # The changes of the plain store; over a log they take no memory.

@@ -10,6 +10,7 @@ mod owners;
 pub mod page;
 pub mod quoting;
 pub mod script;
+pub mod sizes;
 pub mod states;
 pub mod style;
 pub mod tree;

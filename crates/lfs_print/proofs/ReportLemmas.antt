@@ -1,8 +1,7 @@
--- A report grows line by line to what the specification says of the journal: `report_added`, `rule_more` and
--- `rules_all` for `append_report` and `push_rules`, `denials_more` for `push_denials`; `report_same` says that counts
--- give the same report. Each loop appends one rule's line to those of the rules before it; a rule that denied nothing
--- has no line (`rule_none`). The entries are served, denied, refused or the cleaner's, just one of them (`four`), so
--- their count is the sum of the four counts (`sum_of`); a fifth kind of answer would break that sum.
+-- The lines of the rules grow one by one to those that the specification names (`denials_more` and `denials_all` for
+-- `push_denials`), and counts give the report over their journal (`report_same`). A rule that denied nothing has no line
+-- (`rule_none`). The entries are served, denied, refused or the cleaner's, just one of them (`four`), so their count is
+-- the sum of the four counts (`sum_of`); a fifth kind of answer would break that sum.
 use Rattle.std.proofs.Common.{◌≡◌, ℕ, ◌+◌, ◌<◌, ◌≤◌, List, [], ◌∷◌, ◌++◌, length, take, get_or, map, codes, refl, ap}
 use Rattle.std.proofs.Common.{sym, ◌∙◌, append_assoc, arith}
 use Rattle.std.specs.Prelude.{◌≢◌, cond, count_by, decimal}
@@ -18,30 +17,7 @@ use Rattle.lfs_model.specs.declared.journal.Event.TheVariants.{User, Cleaner}
 use Rattle.lfs_types.specs.RuleCodes.{rule_code, rules}
 use Rattle.lfs_types.specs.declared.answer.Answer.TheVariants as answer
 use Rattle.lfs_types.specs.declared.rule.Rule.{Rule}
-use Rattle.lfs_print.specs.ReportText.{count_line, counts_text, denials_line, report_text, rule_line, users_lines}
-
--- the lines of the report, part by part
-pub report_added : (out a b d e : List ℕ) (cleaner : ℕ) (entries : List Entry) → a ≡ out
-    ++ count_line (codes "entries") (length entries)
-    → b ≡ a ++ users_lines entries → cleaner ≡ count_by (λ entry. is_cleaner entry.event) entries → d ≡ b
-    ++ count_line (codes "cleaner") cleaner
-    → e ≡ d ++ flat_map (rule_line entries) rules
-    → e ≡ out ++ report_text entries
-report_added out a b d e cleaner entries one two made three four =
-    rw (four, three, made, two, one) (simp append_assoc)
-
--- one more rule
-pub rule_more : (out done new : List ℕ) (entries : List Entry) (all : List Rule) (i : ℕ) (d : Rule) → i < length all
-    → done ≡ out ++ flat_map (rule_line entries) (take i all) → new ≡ done ++ rule_line entries (get_or all i d)
-    → new ≡ out ++ flat_map (rule_line entries) (take (i + 1) all)
-rule_more out done new entries all i d lt so_far grown =
-    rw (grown, so_far, take_more all i d lt) (flat_map_more (rule_line entries) out (take i all) (get_or all i d))
-
--- all rules
-pub rules_all : (out done : List ℕ) (entries : List Entry) (all : List Rule) (i : ℕ) → length all ≤ i
-    → done ≡ out ++ flat_map (rule_line entries) (take i all) → done ≡ out ++ flat_map (rule_line entries) all
-rules_all out done entries all i le so_far = so_far
-    ∙ ap (λ xs. out ++ flat_map (rule_line entries) xs) (take_all i all le)
+use Rattle.lfs_print.specs.ReportText.{count_line, counts_text, denials_line, report_text, rule_line}
 
 -- a rule that denied no call
 pub rule_none : (out : List ℕ) (rule : Rule) (number : ℕ) → number ≡ 0 → out ≡ out ++ denials_line (rule, number)

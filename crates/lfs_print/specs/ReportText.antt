@@ -1,22 +1,11 @@
 -- The report over a journal.
-use Rattle.std.specs.Prelude.{ℕ, ◌+◌, ◌==◌, Bool, List, [], ◌∷◌, ◌++◌, codes, count_by, decimal, length, if◌then◌else◌}
+use Rattle.std.specs.Prelude.{ℕ, ◌+◌, ◌==◌, List, [], ◌∷◌, ◌++◌, codes, count_by, decimal, length, if◌then◌else◌}
 use Rattle.std.specs.List.{flat_map, zip}
-use Rattle.lfs_model.specs.Counts.{denials, is_cleaner, is_denied, is_denied_by, is_refused, is_served}
+use Rattle.lfs_model.specs.Counts.{denials, is_cleaner, is_denied, is_refused, is_served}
 use Rattle.lfs_model.specs.declared.counts.Counts.{Counts}
 use Rattle.lfs_model.specs.declared.journal.Entry.{Entry}
-use Rattle.lfs_model.specs.declared.journal.Event.{Event}
-use Rattle.lfs_print.specs.declared.report.Counted.{Counted}
-use Rattle.lfs_print.specs.declared.report.Counted.TheVariants as counted
 use Rattle.lfs_types.specs.RuleCodes.{rule_code, rules}
 use Rattle.lfs_types.specs.declared.rule.Rule.{Rule}
-
--- whether a number of the report counts an event
-abbrev pub is_counted : Counted → Event → Bool
-is_counted counted.Served event = is_served event
-is_counted counted.Denied event = is_denied event
-is_counted counted.Refused event = is_refused event
-is_counted counted.Cleaner event = is_cleaner event
-is_counted (counted.DeniedBy rule) event = is_denied_by rule event
 
 -- a line of a word and a number
 unfoldable pub count_line : List ℕ → ℕ → List ℕ

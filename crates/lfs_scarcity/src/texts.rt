@@ -5,7 +5,7 @@ use crate::told::{on_the_way, told};
 use crate::volumes::log;
 use lfs_audit::plan::Plan;
 use lfs_audit::print::{print_answer, print_cleaner};
-use lfs_audit::report::{report, report_counts};
+use lfs_audit::report::report_counts;
 use lfs_audit::script::parse_script;
 use lfs_logstore::LogStore;
 use lfs_model::journal::{CleanerAnswer, CleanerKind, Entry, Event};
@@ -94,7 +94,7 @@ fn copy_answer<W: Write>(alloc: Global, writer: &mut W, answer: &Answer) {
     }
 }
 
-/// A plan is split, answers and a cleaner's are printed, and reports.
+/// A plan is split, answers and a cleaner's are printed, and a report.
 pub fn texts<W: Write>(alloc: Global, writer: &mut W) {
     split(alloc, writer);
     let Some(asked) = calls(alloc, writer, LINES) else {
@@ -111,7 +111,7 @@ pub fn texts<W: Write>(alloc: Global, writer: &mut W) {
     }
     print_of_cleaner(alloc, writer, &CleanerAnswer::Infos(InfoList::empty()));
     print_of_cleaner(alloc, writer, &CleanerAnswer::Marked(1_048_576));
-    reports(alloc, writer, &looked.volume);
+    report(alloc, writer, &looked.volume);
 }
 
 /// Lines of two sessions.
@@ -153,11 +153,8 @@ fn print_of_cleaner<W: Write>(alloc: Global, writer: &mut W, answer: &CleanerAns
     }
 }
 
-/// Both reports on a volume; once more where memory was refused.
-fn reports<W: Write>(alloc: Global, writer: &mut W, volume: &Volume<LogStore>) {
-    if told(writer, "report", report(alloc, volume.journal())) {
-        told(writer, "report", report(alloc, volume.journal()));
-    }
+/// The report on a volume; once more where memory was refused.
+fn report<W: Write>(alloc: Global, writer: &mut W, volume: &Volume<LogStore>) {
     if told(writer, "counts", report_counts(alloc, volume.counts())) {
         told(writer, "counts", report_counts(alloc, volume.counts()));
     }

@@ -31,7 +31,7 @@ pub enum Word {
     Shows,
     /// Files of the plain store are changed.
     Plain,
-    /// Plans are split, and answers, a cleaner's and reports are printed.
+    /// Plans are split, and answers, a cleaner's and a report are printed.
     Texts,
 }
 

@@ -1,19 +1,17 @@
 //! The texts of answers and of the report.
 
 use crate::tests::expect_eq;
-use lfs_model::asking::CleanerAct;
-use lfs_model::journal::{CleanerAnswer, CleanerKind, CleanerOutcome, Entry, Event};
+use lfs_model::counts::Counts;
+use lfs_model::journal::{CleanerAnswer, CleanerKind};
 use lfs_script::print::{print_answer, print_cleaner};
-use lfs_script::report::report;
+use lfs_script::report::report_counts;
 use lfs_types::answer::{Answer, Resource, Served};
 use lfs_types::attrs::{Attrs, Kind};
 use lfs_types::cleaner::{BlockInfo, CleanFault, InfoList};
-use lfs_types::cred::Cred;
 use lfs_types::file_flags::FileFlags;
 use lfs_types::mode::Mode;
 use lfs_types::name::Name;
 use lfs_types::payload::{Bytes, Names};
-use lfs_types::request::Request;
 use lfs_types::rule::{Denial, Rule};
 use std::alloc::Global;
 use std::process::Abort;
@@ -225,56 +223,35 @@ fn cleaner_refusals(rt: HostRuntime) {
     }
 }
 
-/// How many entries there are below.
-const ENTRIES: u32 = 7;
-
-/// What happened in the entry of this number, from 0.
-fn event(number: u32) -> Event {
-    match number {
-        1 => Event::User(Request::Sync, Answer::Denied(DENIAL)),
-        2 => Event::Cleaner(CleanerAct::Ifile, CleanerOutcome::Denied),
-        3 => Event::Cleaner(CleanerAct::Ifile, CleanerOutcome::Done(252)),
-        4 => Event::Cleaner(
-            CleanerAct::Infos(0),
-            CleanerOutcome::Fault(CleanFault::Active),
-        ),
-        5 => Event::User(Request::Sync, Answer::Refused(Resource::NoSpace)),
-        _ => Event::User(Request::Sync, Answer::Served(Served::Done)),
-    }
-}
-
-/// A denial by the rule that is the last of the report.
-const DENIAL: Denial = Denial {
-    rule: Rule::FitsFile,
-    path: 0,
-    at: 1,
+/// The counts of no call.
+const NONE: Counts = Counts {
+    served: 0,
+    denied: 0,
+    refused: 0,
+    cleaner: 0,
+    rules: [0; 20],
 };
 
-/// Asserts the lines of the report of these entries.
-fn expect_report(rt: &impl Abort, alloc: Global, entries: &[Entry], wanted: &str) {
-    let lines = report(alloc, entries).expect(rt, "memory");
-    expect_eq(rt, lines.as_slice(), wanted.as_bytes());
-}
+/// Two calls were served, one was denied by the last rule of the report, one was refused, and of three of the cleaner one was
+/// denied.
+const SOME: Counts = Counts {
+    served: 2,
+    denied: 1,
+    refused: 1,
+    cleaner: 3,
+    rules: [0, 0, 0, 0, 0, 0, 0, 0, 0, 0, 0, 0, 0, 0, 0, 1, 0, 0, 0, 1],
+};
 
-/// The entries.
-fn entries(rt: &impl Abort, alloc: Global) -> Vec<Entry> {
-    let cred = Cred::new(0, &[0], false).expect(rt, "a credential");
-    let mut entries = Vec::new(alloc);
-    for number in 0..ENTRIES {
-        let entry = Entry {
-            session: 0,
-            cred,
-            event: event(number),
-        };
-        entries.push(entry).expect(rt, "memory");
-    }
-    entries
+/// Asserts the lines of the report of counts.
+fn expect_report(rt: &impl Abort, alloc: Global, counts: &Counts, wanted: &str) {
+    let lines = report_counts(alloc, counts).expect(rt, "memory");
+    expect_eq(rt, lines.as_slice(), wanted.as_bytes());
 }
 
 #[test]
 fn reports(rt: HostRuntime) {
     let empty = "entries 0\nserved 0\ndenied 0\nrefused 0\ncleaner 0\n";
-    expect_report(&rt, rt.alloc(), &[], empty);
+    expect_report(&rt, rt.alloc(), &NONE, empty);
     let text = "entries 7\nserved 2\ndenied 1\nrefused 1\ncleaner 3\nrule U1 1\nrule Z1 1\n";
-    expect_report(&rt, rt.alloc(), &entries(&rt, rt.alloc()), text);
+    expect_report(&rt, rt.alloc(), &SOME, text);
 }

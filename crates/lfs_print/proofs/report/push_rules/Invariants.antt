@@ -1,7 +1,0 @@
-use Rattle.std.proofs.Common.{◌≡◌, ◌++◌, take}
-use Rattle.std.specs.List.{flat_map}
-use Rattle.lfs_print.specs.ReportText.{rule_line}
-use Rattle.lfs_print.proofs.report.push_rules.Given as goal
-
-abbrev pub invariant-loop-rule : goal.invariant-loop-rule
-invariant-loop-rule l = l.out.items ≡ l.fn.out.items ++ flat_map (rule_line l.entries) (take l.rule-index l.rules)
