@@ -1,7 +1,6 @@
 //! What no clause says of volumes, sessions, passes and whole runs: that they are made, and answered as they must be.
 
 mod film;
-mod passes;
 mod programs;
 mod scripts;
 mod sessions;

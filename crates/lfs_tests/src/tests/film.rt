@@ -1,45 +1,9 @@
 //! Films: the frames of short talks, worked out by hand, and texts in quotation marks.
 
-use super::scripts::log::SIX_SEGMENTS;
 use super::{expect_eq, push};
-use lfs_film::film::Film;
 use lfs_film::quoting::{push_quoted, short_line, short_told};
-use lfs_live::start::run_watched;
-use lfs_live::watch::Watch;
-use lfs_logstore::LogStore;
-use std::alloc::{AllocError, Global};
+use std::alloc::Global;
 use std::process::Abort;
-
-/// A film that is shown each line that was answered.
-#[derive(Drop)]
-struct Filming {
-    film: Film,
-}
-
-impl Watch<LogStore> for Filming {
-    fn watch(
-        &mut self,
-        alloc: Global,
-        line: &[u8],
-        told: &[u8],
-        store: &LogStore,
-    ) -> Result<(), AllocError> {
-        self.film.show(alloc, line, told, store)
-    }
-}
-
-/// The page of the film of a talk.
-fn page_of(rt: &impl Abort, alloc: Global, mut talk: &[u8]) -> Vec<u8> {
-    let filming = Filming {
-        film: Film::new(alloc),
-    };
-    let mut told = Vec::new(alloc);
-    let filming = run_watched(alloc, &mut talk, &mut told, filming, SIX_SEGMENTS, false);
-    let filming = filming.expect(rt, "a talk");
-    let mut page = Vec::new(alloc);
-    filming.film.write_page(&mut page).expect(rt, "a page");
-    page
-}
 
 /// Asserts that a page has these frames behind that of the fresh log, and no other.
 pub(super) fn expect_frames(rt: &impl Abort, alloc: Global, page: &[u8], frames: &str) {
@@ -84,28 +48,16 @@ pub(super) const FRAMES: &str =
 [6,\"write /a end 78\",\"0 ok\\u000a\",\"waiting 1 blocks 1 records\\u000a\"]
 ";
 
-#[test]
-fn short_talk(rt: HostRuntime) {
-    let alloc = rt.alloc();
-    let page = page_of(&rt, alloc, TALK);
-    expect_frames(&rt, alloc, page.as_slice(), FRAMES);
-}
+/// A name with each mark that is escaped, as a script spells it, and a line with a fault.
+pub(super) const MARKED: &[u8] = b"create /<script>\"\\&%25~ 0644\nnonsense\n";
 
-/// A name with each mark that is escaped, as a script spells it.
-const MARKED: &[u8] = b"create /<script>\"\\&%25~ 0644\n";
-
-/// Its frame.
-const MARKED_FRAME: &str =
+/// Their frames.
+pub(super) const MARKED_FRAMES: &str =
     "[1,\"create /\\u003cscript\\u003e\\u0022\\u005c\\u0026%25~ 0644\",\"0 ok\\u000a\"\
     ,\"waiting 1 blocks 2 records\\u000a\"]
+[2,\"nonsense\",\"fault Words 'nonsense' at 1: no line begins so\\u000a\"\
+    ,\"waiting 1 blocks 2 records\\u000a\"]
 ";
-
-#[test]
-fn marks_in_a_name(rt: HostRuntime) {
-    let alloc = rt.alloc();
-    let page = page_of(&rt, alloc, MARKED);
-    expect_frames(&rt, alloc, page.as_slice(), MARKED_FRAME);
-}
 
 /// Texts, and what stands for them between quotation marks.
 const QUOTED: [(&[u8], &[u8]); 5] = [

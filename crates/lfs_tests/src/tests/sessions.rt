@@ -12,10 +12,9 @@ use crate::tests::{append_answers, expect_eq, expect_lines, plan_of};
 use lfs_logstore::LogStore;
 use lfs_server::gate::Gate;
 use lfs_server::serve::serve;
-use lfs_server::serving::{Closed, ServeFault, serve_over};
+use lfs_server::serving::Closed;
 use lfs_server::settle::{Unsettled, settle};
 use lfs_types::answer::{Answer, Served};
-use lfs_types::cleaned::CleanedStore;
 use lfs_types::payload::Bytes;
 use lfs_types::script::Script;
 use lfs_types::store::{FileStore, Params};
@@ -28,10 +27,7 @@ use std::thread::Threads;
 /// The session of the cleaner.
 const CLEANER: u8 = 255;
 
-/// The setup of two users' sessions makes a file for each.
-const BOTH_FILES: &str = "create /x 0666\ncreate /y 0666\n";
-
-/// That setup, and the sessions: each user writes two bytes into his file and reads it.
+/// The setup makes a file for each of two users, who write two bytes into theirs and read it.
 const BOTH_USERS: &str = "\
 create /x 0666
 create /y 0666
@@ -62,18 +58,6 @@ fn serve_log<R: Abort + Threads + Wait + Sync, G: Gate>(
     let (setup, sessions) = split(rt, alloc, script);
     let closed = serve(rt, alloc, params, setup, sessions, gate);
     Box::new(alloc, closed.expect(rt, "a run")).expect(rt, "memory")
-}
-
-/// Asserts that a script without a session is not run.
-fn assert_no_run<R: Abort + Threads + Wait + Sync, F: CleanedStore + Send + Drop>(
-    rt: &R,
-    alloc: Global,
-    volume: Volume<F>,
-    script: &str,
-) {
-    let (setup, sessions) = split(rt, alloc, script);
-    let fault = serve_over(rt, alloc, volume, setup, sessions, &()).err();
-    expect_eq(rt, fault, Some(ServeFault::Sessions));
 }
 
 /// Asserts that sessions were answered so, session 1's lines first.

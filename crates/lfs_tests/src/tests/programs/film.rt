@@ -3,7 +3,7 @@
 use super::Words;
 use super::files::Disk;
 use crate::tests::expect_eq;
-use crate::tests::film::{FRAMES, TALK, expect_frames};
+use crate::tests::film::{FRAMES, MARKED, MARKED_FRAMES, TALK, expect_frames};
 use crate::tests::scripts::fakes::Failing;
 use lfs_programs::shell::lfs_shell;
 use std::alloc::Global;
@@ -45,6 +45,22 @@ fn film_is_written_to_its_file(rt: HostRuntime) {
     expect_eq(&rt, disk.made(), 1);
     expect_eq(&rt, disk.is_renamed(), true);
     expect_frames(&rt, alloc, disk.into_page().as_slice(), FRAMES);
+}
+
+/// What is told of a talk that makes a file and has a line with a fault.
+const MADE: (u8, &str, &str) = (
+    0,
+    "0 ok\nfault Words 'nonsense' at 1: no line begins so\nentries 1\nserved 1\ndenied 0\nrefused 0\ncleaner 0\n",
+    "",
+);
+
+#[test]
+fn film_shows_marks_and_a_fault(rt: HostRuntime) {
+    let alloc = rt.alloc();
+    let disk = Disk::new(alloc);
+    let mut talk = MARKED;
+    expect_end(&rt, alloc, (&disk, false), FILMED, &mut talk, MADE);
+    expect_frames(&rt, alloc, disk.into_page().as_slice(), MARKED_FRAMES);
 }
 
 #[test]

@@ -114,8 +114,10 @@ fn shell_refuses_words(rt: HostRuntime) {
 /// What its help tells of, among others.
 const HELP: &[&str] = &[
     "lfs_shell",
-    "6 to 1024",
-    "1 to 1000000",
+    "6 to 1024; by default 64",
+    "16 to 4096; by default 256",
+    "32 to 1024; by default 64",
+    "1 to 1000000; by default 100000",
     "--film",
     "--strict",
     "--version",

@@ -4,9 +4,7 @@ use super::expect_parts;
 use crate::tests::expect_eq;
 use clap::Error;
 use clap::error::ErrorKind;
-use lfs_programs::options::{
-    DEFAULTS, Options, SHELL_DEFAULTS, not_utf8, options_of, shell_options_of,
-};
+use lfs_programs::options::{Options, not_utf8, options_of, shell_options_of};
 use lfs_types::store::Params;
 use std::alloc::Global;
 use std::process::Abort;
@@ -16,7 +14,12 @@ const TAKEN: [(&[&str], Options<'static>); 3] = [
     (
         &["lfsd"],
         Options {
-            params: DEFAULTS,
+            params: Params {
+                segments: 64,
+                inodes: 256,
+                frames: 64,
+                journal: 4096,
+            },
             threads: false,
             journal_out: None,
             script: None,
@@ -79,21 +82,41 @@ fn parameters(rt: HostRuntime) {
     }
 }
 
-/// Words of a command line of `lfs_shell`, and the file of the film that they ask for.
-const FILMS: [(&[&str], Option<&str>); 3] = [
-    (&["lfs_shell"], None),
-    (&["lfs_shell", "--film", "page.html"], Some("page.html")),
+/// The numbers of `lfs_shell` where no word says otherwise.
+const SHELL_NUMBERS: Params = Params {
+    segments: 64,
+    inodes: 256,
+    frames: 64,
+    journal: 100_000,
+};
+
+/// Words of a command line of `lfs_shell`, the numbers and the file of the film that they ask for.
+const FILMS: [(&[&str], Params, Option<&str>); 3] = [
+    (&["lfs_shell"], SHELL_NUMBERS, None),
     (
-        &["lfs_shell", "--film=a b", "--segments", "64"],
+        &["lfs_shell", "--film", "page.html", "--inodes=16"],
+        Params {
+            inodes: 16,
+            ..SHELL_NUMBERS
+        },
+        Some("page.html"),
+    ),
+    (
+        &["lfs_shell", "--film=a b", "--segments", "6", "--frames=32"],
+        Params {
+            segments: 6,
+            frames: 32,
+            ..SHELL_NUMBERS
+        },
         Some("a b"),
     ),
 ];
 
 #[test]
-fn film_of_the_shell(rt: HostRuntime) {
-    for (words, film) in FILMS {
+fn numbers_and_film_of_the_shell(rt: HostRuntime) {
+    for (words, params, film) in FILMS {
         let found = shell_options_of(rt.alloc(), words).expect(&rt, "options");
-        expect_eq(&rt, found.params, SHELL_DEFAULTS);
+        expect_eq(&rt, found.params, params);
         expect_eq(&rt, found.film, film);
     }
 }
@@ -178,13 +201,13 @@ fn arguments_that_are_no_text_are_a_usage_fault(rt: HostRuntime) {
 const HELP: &[&str] = &[
     "--threads",
     "--segments",
-    "6 to 1024",
+    "6 to 1024; by default 64",
     "--frames",
-    "32 to 1024",
+    "32 to 1024; by default 64",
     "--inodes",
-    "16 to 4096",
+    "16 to 4096; by default 256",
     "--journal",
-    "1 to 100000",
+    "1 to 100000; by default 4096",
     "Example: ",
     "docs/FORMATS.md",
 ];

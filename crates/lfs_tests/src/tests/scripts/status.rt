@@ -1,6 +1,5 @@
-//! The status of a run, and faults that can't be told.
+//! The status of a run, and what is told of it.
 
-use super::fakes::Full;
 use crate::tests::expect_eq;
 use lfs_audit::fault::{RunFault, ThreadsFault};
 use lfs_audit::tell::end;
@@ -21,17 +20,5 @@ fn status_of_a_run(rt: HostRuntime) {
         let mut told = Vec::new(rt.alloc());
         expect_eq(&rt, end(&mut told, "lfsd", outcome), status);
         expect_eq(&rt, told.as_slice(), text);
-    }
-}
-
-#[test]
-fn tell_to_a_writer_that_fails(rt: HostRuntime) {
-    for writes in 0..3 {
-        let mut writer = Full {
-            writes,
-            flushes: false,
-        };
-        let outcome = Err(ThreadsFault::Run(RunFault::Read));
-        expect_eq(&rt, end(&mut writer, "lfsd", outcome), 1);
     }
 }

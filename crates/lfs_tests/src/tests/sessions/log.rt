@@ -1,7 +1,7 @@
 //! Runs of two users' sessions over the log store.
 
-use super::{assert_answers, assert_no_run, expect_run_settled, expect_settled, serve_log};
-use crate::tests::{SMALL, fresh, push};
+use super::{assert_answers, expect_run_settled, expect_settled, serve_log};
+use crate::tests::{SMALL, push};
 use lfs_logstore::LogStore;
 use lfs_server::gate::Gate;
 use lfs_server::serving::Closed;
@@ -123,11 +123,4 @@ fn two_sessions_run_over_a_log(rt: HostRuntime) {
     assert_served(&rt, rt.alloc(), &closed);
     let other = serve_users(&rt, rt.alloc(), WRITES, OTHERWISE, &());
     assert_unsettled(&rt, rt.alloc(), &closed, &other);
-}
-
-#[test]
-fn no_session_is_no_run_over_a_log(rt: HostRuntime) {
-    let script = script(&rt, rt.alloc(), WRITES, "");
-    let volume = Box::into_inner(fresh(&rt, rt.alloc(), SMALL));
-    assert_no_run(&rt, rt.alloc(), volume, script.as_str());
 }

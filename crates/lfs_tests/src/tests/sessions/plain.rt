@@ -2,9 +2,7 @@
 
 use super::gates::assert_in_turn;
 use super::watch::Watch;
-use super::{
-    BOTH_FILES, BOTH_USERS, CLEANER, assert_answers, assert_no_run, expect_run_settled, split,
-};
+use super::{BOTH_USERS, CLEANER, assert_answers, expect_run_settled, split};
 use crate::tests::expect_eq;
 use crate::tests::unswept::Unswept;
 use lfs_server::gate::Gate;
@@ -47,12 +45,6 @@ fn sizes(closed: &Closed<Unswept>) -> [usize; 3] {
 fn sessions_run_on_threads(rt: HostRuntime) {
     let closed = serve_plain(&rt, rt.alloc(), BOTH_USERS, &());
     expect_eq(&rt, sizes(&closed), [2, 2, 6]);
-}
-
-#[test]
-fn no_session_is_no_run(rt: HostRuntime) {
-    let volume = plain_volume(&rt, rt.alloc(), 64);
-    assert_no_run(&rt, rt.alloc(), volume, BOTH_FILES);
 }
 
 /// Notes each call that is begun, and each that is made.
