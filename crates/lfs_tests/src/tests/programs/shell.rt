@@ -7,7 +7,7 @@ const LINES: &[u8] = b"create /a 0644\nnonsense\n.quit\nstat /a\n";
 
 /// What is told of them.
 const TOLD: &str =
-    "0 ok\nfault Words 'nonsense' at 1: no line begins so\nentries 1\nserved 1\ndenied 0\nrefused 0\ncleaner 0\n";
+    "0 ok\nfault Words line 2 'nonsense' at 1: no line begins so\nentries 1\nserved 1\ndenied 0\nrefused 0\ncleaner 0\n";
 
 #[test]
 fn shell_talks(rt: HostRuntime) {
