@@ -55,7 +55,7 @@ pub(super) const MARKED: &[u8] = b"create /<script>\"\\&%25~ 0644\nnonsense\n";
 pub(super) const MARKED_FRAMES: &str =
     "[1,\"create /\\u003cscript\\u003e\\u0022\\u005c\\u0026%25~ 0644\",\"0 ok\\u000a\"\
     ,\"waiting 1 blocks 2 records\\u000a\"]
-[2,\"nonsense\",\"fault Words 'nonsense' at 1: no line begins so\\u000a\"\
+[2,\"nonsense\",\"fault Words line 2 'nonsense' at 1: no line begins so\\u000a\"\
     ,\"waiting 1 blocks 2 records\\u000a\"]
 ";
 

@@ -50,7 +50,7 @@ fn film_is_written_to_its_file(rt: HostRuntime) {
 /// What is told of a talk that makes a file and has a line with a fault.
 const MADE: (u8, &str, &str) = (
     0,
-    "0 ok\nfault Words 'nonsense' at 1: no line begins so\nentries 1\nserved 1\ndenied 0\nrefused 0\ncleaner 0\n",
+    "0 ok\nfault Words line 2 'nonsense' at 1: no line begins so\nentries 1\nserved 1\ndenied 0\nrefused 0\ncleaner 0\n",
     "",
 );
 
