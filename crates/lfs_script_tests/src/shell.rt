@@ -1,4 +1,5 @@
-//! Runs of `lfs_shell` over the files of the folder where the program runs: an image, passes unasked, a film.
+//! Runs of `lfs_shell` over the files of the folder where the program runs: an image, passes unasked, a film, faults and
+//! frames.
 
 use lfs_programs::shell::lfs_shell;
 use std::env::{Env, FillError};
@@ -160,11 +161,74 @@ fn is_film_of_no_file_refused<R: Files + AllocGlobal>(rt: &R) -> bool {
         && ended.err.as_slice() == b"lfs_shell: film not written: not a file\n".as_slice()
 }
 
+/// Words that ask for status 1 by a fault.
+const STRICT: [&str; 3] = ["lfs_shell", "--segments=6", "--strict"];
+
+/// Talks of which one line has a fault: the first, one behind `.why`, a segment that there is not, the last without its
+/// line feed.
+const FAULTY: [&str; 4] = [
+    "nonsense\nstat /\n",
+    "stat /\n.why nonsense\nstat /\n",
+    ".segment 6\n.quit\n",
+    "stat /\nstat /",
+];
+
+/// A talk of which no line has a fault, though a call is denied, and a file's text begins as the line of one does.
+const FAULTLESS: &str = "stat /nothing\n\n# fault\n.segment 5\n\
+    create /a 0644\nwrite /a at 0 6661756c7420\n.cat /a\n.quit\nnonsense\n";
+
 /// Whether a line with a fault ends a run with status 1 where that is asked for, and with 0 else.
 fn is_strict_where_asked<R: Files + AllocGlobal>(rt: &R) -> bool {
-    let strictly = run(rt, &["lfs_shell", "--segments=6", "--strict"], "nonsense\n");
-    let else_so = run(rt, &ALONE, "nonsense\n");
-    strictly.status == 1 && else_so.is_done()
+    let mut all = run(rt, &STRICT, FAULTLESS).is_done();
+    for talk in FAULTY {
+        let strictly = run(rt, &STRICT, talk);
+        let is_told = strictly.err.as_slice() == b"lfs_shell: a line has a fault\n".as_slice();
+        let else_so = run(rt, &ALONE, talk);
+        all = all && strictly.status == 1 && is_told && else_so.is_done();
+    }
+    all
+}
+
+/// Lines that tell nothing, one line, more and a fault, and the start of another.
+const TO_FRAME: &str = "as 8 8\nunlink /a\n.why unlink /a\n\n.why as 0 0\n.segment 6\nstat /";
+
+/// What is written of them in frames: of each line, of what is behind the last line feed, and of the report.
+const IN_FRAMES: &str = "0
+1
+0 denied N2 ENOENT 0 1
+4
+N1 directory       path 0 at 0 yes 2 dir 0 0 0755 00000000
+S1 search          path 0 at 0 yes 2 dir 0 0 0755 00000000 others r-x
+N2 name there      path 0 at 1 no  a
+denied N2 ENOENT 0 1
+0
+1
+fault Words line 5 at 6: a user's call stands here
+1
+fault NoSuchSegment
+1
+fault Cut line 7
+6
+entries 1
+served 0
+denied 1
+refused 0
+cleaner 0
+rule N2 1
+";
+
+/// What is written in frames of a talk that quits: the report is the answer to its last line.
+const QUIT_IN_FRAMES: &str = "5\nentries 0\nserved 0\ndenied 0\nrefused 0\ncleaner 0\n";
+
+/// Whether the count of its lines stands before each answer where that is asked for.
+fn is_framed_where_asked<R: Files + AllocGlobal>(rt: &R) -> bool {
+    let words = ["lfs_shell", "--segments=6", "--framed"];
+    let ended = run(rt, &words, TO_FRAME);
+    let quits = run(rt, &words, ".quit\nstat /\n");
+    ended.is_done()
+        && ended.out.as_slice() == IN_FRAMES.as_bytes()
+        && quits.is_done()
+        && quits.out.as_slice() == QUIT_IN_FRAMES.as_bytes()
 }
 
 /// Tells of each of these whether it is so. Whether all are.
@@ -177,5 +241,7 @@ pub fn is_as_told<R: Files + AllocGlobal + Print>(rt: &R) -> anyhow::Result<bool
     println!(rt; "lfs_shell --film of no file: refused, {film}")?;
     let strict = is_strict_where_asked(rt);
     println!(rt; "lfs_shell --strict: by a line's fault, {strict}")?;
-    Ok(image && clean && film && strict)
+    let framed = is_framed_where_asked(rt);
+    println!(rt; "lfs_shell --framed: each answer behind the count of its lines, {framed}")?;
+    Ok(image && clean && film && strict && framed)
 }
