@@ -107,7 +107,7 @@ fn longest_line_of_a_talk(rt: HostRuntime) {
     expect_lines(&rt, &told(&rt, alloc, lines.as_bytes(), PARAMS), ONE);
     let lines = long_comment(&rt, alloc, 65_537);
     let out = told(&rt, alloc, lines.as_bytes(), PARAMS);
-    let rest = out.strip_prefix(b"fault TooLong\n").expect(&rt, "a fault");
+    let rest = out.strip_prefix(b"fault TooLong line 1\n").expect(&rt, "a fault");
     expect_eq(&rt, rest, ONE.as_bytes());
 }
 
@@ -194,7 +194,7 @@ impl Write for Flushed<'_> {
 const LINES: &[u8] = b"create /a 0644\nnonsense\n.journal\nsync\n";
 
 const TOLD: &[u8] =
-    b"0 ok\nfault Words 'nonsense' at 1: no line begins so\n0 as 0 0 | create /a 0644 | ok\n0 ok\n\
+    b"0 ok\nfault Words line 2 'nonsense' at 1: no line begins so\n0 as 0 0 | create /a 0644 | ok\n0 ok\n\
     entries 2\nserved 2\ndenied 0\nrefused 0\ncleaner 0\n";
 
 #[test]
