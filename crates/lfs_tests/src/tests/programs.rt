@@ -127,7 +127,15 @@ fn has_part(bytes: &[u8], part: &str) -> bool {
     }
 }
 
-/// Asserts that a program refuses these words with status 2, whatever it might read, tells so with this part on
+/// Whether bytes are text with one line that begins as the fault of words does.
+fn tells_once(bytes: &[u8]) -> bool {
+    match str::from_utf8(bytes) {
+        Ok(text) => text.starts_with("error: ") && !text.contains("\nerror: "),
+        Err(_) => false,
+    }
+}
+
+/// Asserts that a program refuses these words with status 2, whatever it might read, tells so once with this part on
 /// standard error, and writes nothing else.
 fn expect_refused<S: Abort + Threads + Wait + Sync>(
     rt: &S,
@@ -140,6 +148,7 @@ fn expect_refused<S: Abort + Threads + Wait + Sync>(
     expect_eq(rt, status, 2);
     expect_eq(rt, out.len(), 0);
     expect_eq(rt, has_part(err.as_slice(), part), true);
+    expect_eq(rt, tells_once(err.as_slice()), true);
 }
 
 /// Asserts that a program writes its help with these parts to standard output, and ends with status 0.

@@ -4,7 +4,7 @@
 mod arguments;
 mod counts;
 pub(super) mod fakes;
-mod full;
+pub(super) mod full;
 mod locked;
 pub(super) mod log;
 mod passes;

@@ -1,5 +1,6 @@
 //! Runs of steps, each with the answer that it must have.
 
+mod children;
 mod cleaning;
 mod invented;
 mod large;

@@ -1,4 +1,4 @@
-//! Files in memory, of which one of two can be made, and one that is there can be read.
+//! Files in memory, of which one of two can be made, and one that is there can be read, each opened in its own way alone.
 
 use std::alloc::{Allocator, Global};
 use std::cell::{Cell, RefCell};
@@ -21,9 +21,38 @@ const LINES: &[u8] = b"create /a 0644\nstat /a\n";
 /// The path of a file that is there.
 const THERE: &str = "there.out";
 
+/// How a file is opened that is made where there is none, and cut where there is one.
+const CUT: &[u8] =
+    b"OpenOptions { read: false, write: true, append: false, truncate: true, create: true, \
+    create_new: false, mode: 438 }";
+
+/// How one is opened that may not be there.
+const NEW: &[u8] =
+    b"OpenOptions { read: false, write: true, append: false, truncate: false, create: false, \
+    create_new: true, mode: 438 }";
+
+/// How one is opened that is read.
+const READ: &[u8] =
+    b"OpenOptions { read: true, write: false, append: false, truncate: false, create: false, \
+    create_new: false, mode: 438 }";
+
+/// How the file of a path is opened, where there is such a file.
+fn way_of(path: &str) -> Option<&'static [u8]> {
+    if path == PATHS[0] {
+        Some(CUT)
+    } else if path == PATHS[1] || path == THERE {
+        Some(NEW)
+    } else if path == SCRIPT {
+        Some(READ)
+    } else {
+        None
+    }
+}
+
 /// How often the file was made, and what was written to it.
 #[derive(Drop)]
 pub struct Disk {
+    alloc: Global,
     made: Cell<u32>,
     renamed: Cell<bool>,
     page: RefCell<Vec<u8>>,
@@ -33,6 +62,7 @@ impl Disk {
     /// No file.
     pub fn new(alloc: Global) -> Disk {
         Disk {
+            alloc,
             made: Cell::new(0),
             renamed: Cell::new(false),
             page: RefCell::new(Vec::new(alloc)),
@@ -61,6 +91,7 @@ impl Disk {
     /// What was written to the file.
     pub fn into_page(self) -> Vec<u8> {
         let Disk {
+            alloc: _,
             made: _,
             renamed: _,
             page,
@@ -137,7 +168,15 @@ impl<'a> Files for Shelf<'a> {
 
     type Dir = Shelf<'a>;
 
-    fn open_file(&self, _how: &OpenOptions, path: &str) -> io::Result<Shelf<'a>> {
+    fn open_file(&self, how: &OpenOptions, path: &str) -> io::Result<Shelf<'a>> {
+        let Some(wanted) = way_of(path) else {
+            return Err(io::Error::from(ErrorKind::NotFound));
+        };
+        let mut way = Vec::new(self.disk.alloc);
+        write!(way, "{how:?}")?;
+        if way.as_slice() != wanted {
+            return Err(io::Error::from(ErrorKind::InvalidInput));
+        }
         if path == THERE {
             return Err(io::Error::from(ErrorKind::AlreadyExists));
         }
@@ -145,9 +184,6 @@ impl<'a> Files for Shelf<'a> {
             let mut script = *self;
             script.rest = LINES;
             return Ok(script);
-        }
-        if path != PATHS[0] && path != PATHS[1] {
-            return Err(io::Error::from(ErrorKind::NotFound));
         }
         self.disk.made.set(self.disk.made.get().saturating_add(1));
         Ok(*self)

@@ -3,6 +3,7 @@
 use super::log::{SIX_SEGMENTS, push_byte};
 use super::{expect_parts, output_with, text_of};
 use crate::tests::push;
+use lfs_types::store::Params;
 use std::alloc::Global;
 use std::process::Abort;
 
@@ -23,17 +24,26 @@ fn filling(rt: &impl Abort, alloc: Global) -> String {
     script
 }
 
-/// Asserts that a run of this script over six segments writes a text that begins so, has these parts and ends so.
+/// Six segments, and the fewest frames.
+const FEW_FRAMES: Params = Params {
+    frames: 32,
+    ..SIX_SEGMENTS
+};
+
+/// Asserts that a run of this script over six segments writes a text that begins so, has these parts and ends so, with the
+/// fewest frames too.
 fn expect_run(
     rt: &impl Abort,
     alloc: Global,
     script: &str,
     (first, parts, last): (&str, &[&str], &str),
 ) {
-    let written = output_with(rt, alloc, script, SIX_SEGMENTS);
-    let text = text_of(rt, written.as_slice());
-    assert!(rt; text.starts_with(first) && text.ends_with(last));
-    expect_parts(rt, text, parts);
+    for params in [SIX_SEGMENTS, FEW_FRAMES] {
+        let written = output_with(rt, alloc, script, params);
+        let text = text_of(rt, written.as_slice());
+        assert!(rt; text.starts_with(first) && text.ends_with(last));
+        expect_parts(rt, text, parts);
+    }
 }
 
 /// What is written where a pass makes room in a full volume.
@@ -42,14 +52,14 @@ const MADE_ROOM: (&str, &[&str], &str) = (
     &[
         "\n0 refused NoSpace\n",
         "\n0 cleaner segclean ok 0\n",
-        "\n0 bytes 6261\n",
+        "\n0 ok\n0 ok\n0 bytes 6261\n",
         "\ndenied 0\n",
     ],
     "",
 );
 
 /// A script that fills a volume, makes a pass, and writes and reads again.
-pub fn filled_and_passed(rt: &impl Abort, alloc: Global) -> String {
+fn filled_and_passed(rt: &impl Abort, alloc: Global) -> String {
     let mut script = filling(rt, alloc);
     push(rt, &mut script, "pass\n");
     push_write(rt, &mut script, 0x62, 4095);

@@ -1,11 +1,12 @@
 //! Tests of what no contract says: a script over a plain store whose cleaner finds nothing to do, scripts that are cut,
-//! readers and writers that fail or never end, and which of several faults a run is given.
+//! readers and writers that fail or never end, which of several faults a run is given, and talks.
 
 mod cuts;
 mod faults;
 mod lines;
 mod streams;
 mod streams_on_threads;
+mod talks;
 
 use super::{expect_told, expect_with, fakes};
 use crate::tests::expect_eq;

@@ -36,6 +36,26 @@ fn fresh(rt: &impl Abort, alloc: Global) -> Box<Volume<FlatFiles>> {
     Box::new(alloc, volume).expect(rt, "memory")
 }
 
+/// The longest file gets its last bytes.
+const LONGEST: &str = "\
+session 2
+create /f 0644
+length /f 8460288
+write /f at 8460286 6869
+read /f 8460284 9
+";
+
+/// What these calls are answered.
+const LONGEST_TOLD: &str = "2 ok\n2 ok\n2 ok\n2 bytes 00006869\n";
+
+#[test]
+fn plain_store_holds_the_longest_file(rt: HostRuntime) {
+    let mut volume = fresh(&rt, rt.alloc());
+    let calls = calls(&rt, rt.alloc(), LONGEST);
+    let answers = volume.run(calls).expect(&rt, "a run");
+    expect_answers(&rt, rt.alloc(), 2, answers.as_slice(), LONGEST_TOLD);
+}
+
 /// Asserts what a run of the calls answers.
 fn expect_run(rt: &impl Abort, alloc: Global, volume: &mut Volume<FlatFiles>) {
     let calls = calls(rt, alloc, CALLS);

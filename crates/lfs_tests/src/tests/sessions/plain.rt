@@ -3,8 +3,8 @@
 use super::gates::assert_in_turn;
 use super::watch::Watch;
 use super::{BOTH_USERS, CLEANER, assert_answers, expect_run_settled, split};
-use crate::tests::expect_eq;
 use crate::tests::unswept::Unswept;
+use crate::tests::{expect_eq, push, repeated};
 use lfs_server::gate::Gate;
 use lfs_server::serving::{Closed, serve_over};
 use lfs_volume::flat_files::FlatFiles;
@@ -45,6 +45,27 @@ fn sizes(closed: &Closed<Unswept>) -> [usize; 3] {
 fn sessions_run_on_threads(rt: HostRuntime) {
     let closed = serve_plain(&rt, rt.alloc(), BOTH_USERS, &());
     expect_eq(&rt, sizes(&closed), [2, 2, 6]);
+}
+
+#[test]
+fn session_of_five_thousand_calls(rt: HostRuntime) {
+    let mut script = String::new(rt.alloc());
+    push(&rt, &mut script, "session 1\n");
+    push(
+        &rt,
+        &mut script,
+        repeated(&rt, rt.alloc(), "sync\n", 5_000).as_str(),
+    );
+    let (setup, sessions) = split(&rt, rt.alloc(), script.as_str());
+    let volume = plain_volume(&rt, rt.alloc(), 6_000);
+    let closed = serve_over(&rt, rt.alloc(), volume, setup, sessions, &()).expect(&rt, "a run");
+    let wanted = repeated(&rt, rt.alloc(), "1 ok\n", 5_000);
+    assert_answers(
+        &rt,
+        rt.alloc(),
+        closed.transcripts.as_slice(),
+        wanted.as_str(),
+    );
 }
 
 /// Notes each call that is begun, and each that is made.

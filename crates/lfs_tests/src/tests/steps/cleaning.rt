@@ -139,7 +139,11 @@ pub(super) fn is_dirty(rt: &impl Abort, volume: &mut Volume<LogStore>, segment: 
 }
 
 /// The segments that are dirty.
-fn dirty_segments(rt: &impl Abort, alloc: Global, volume: &mut Volume<LogStore>) -> Vec<u32> {
+pub(super) fn dirty_segments(
+    rt: &impl Abort,
+    alloc: Global,
+    volume: &mut Volume<LogStore>,
+) -> Vec<u32> {
     let mut dirty = Vec::new(alloc);
     for segment in 0..ROOMY.segments {
         if is_dirty(rt, volume, segment) {

@@ -25,7 +25,7 @@ const LARGE: Params = Params {
 };
 
 /// A volume with room for a few blocks, written over and over.
-const ROOMY: Params = Params {
+pub(super) const ROOMY: Params = Params {
     segments: 16,
     inodes: 64,
     frames: 32,
@@ -169,7 +169,7 @@ const KEPT: &str = "\
 ";
 
 /// Writes `/g` over and over, until the segments that hold the blocks of `/f` are dirty.
-fn leave_segments(rt: &impl Abort, alloc: Global, volume: &mut Volume<LogStore>) {
+pub(super) fn leave_segments(rt: &impl Abort, alloc: Global, volume: &mut Volume<LogStore>) {
     let script = "session 3\ncreate /g 0644\n";
     run(rt, alloc, volume, script, "3 ok\n");
     for _ in 0..40 {
