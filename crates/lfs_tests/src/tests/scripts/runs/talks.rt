@@ -107,7 +107,9 @@ fn longest_line_of_a_talk(rt: HostRuntime) {
     expect_lines(&rt, &told(&rt, alloc, lines.as_bytes(), PARAMS), ONE);
     let lines = long_comment(&rt, alloc, 65_537);
     let out = told(&rt, alloc, lines.as_bytes(), PARAMS);
-    let rest = out.strip_prefix(b"fault TooLong line 1\n").expect(&rt, "a fault");
+    let rest = out
+        .strip_prefix(b"fault TooLong line 1\n")
+        .expect(&rt, "a fault");
     expect_eq(&rt, rest, ONE.as_bytes());
 }
 
