@@ -196,7 +196,8 @@ const TO_FRAME: &str = "as 8 8\nunlink /a\n.why unlink /a\n\n.why as 0 0\n.segme
 const IN_FRAMES: &str = "0
 1
 0 denied N2 ENOENT 0 1
-4
+5
+K3 not the root    path 0 at 0 yes 2 dir 0 0 0755 00000000
 N1 directory       path 0 at 0 yes 2 dir 0 0 0755 00000000
 S1 search          path 0 at 0 yes 2 dir 0 0 0755 00000000 others r-x
 N2 name there      path 0 at 1 no  a
