@@ -8,7 +8,7 @@ use Rattle.std.proofs.Common.{subst, inl, inr}
 use Rattle.lfs_inodes.specs.declared.inode.Inode.{Inode}
 use Rattle.lfs_cache.specs.declared.key.Key.{Key}
 use Rattle.lfs_cache.specs.Changes.{GainsOnly, IsContents, KeepsBlocks}
-use Rattle.lfs_cache.specs.Contents.{Contents, IsLocked, block_in, block_of, used}
+use Rattle.lfs_cache.specs.Contents.{Contents, IsLocked, block_in, block_of, or_else, used}
 use Rattle.lfs_segments.specs.Log.{Expects}
 use Rattle.lfs_segments.specs.Memory.{block_at}
 use Rattle.lfs_log.specs.Parts.{LogParts}
@@ -121,6 +121,30 @@ held_filled p key block s t is free keeps formed locked gains whole here = recor
         (subst (λ (c : Contents). block_in other c.lru ≡ Some bytes) is was))
   ];
 }
+
+-- a block that doesn't wait is the clean one
+clean_shown : (key : Key) (s : Contents) → block_in key s.locked ≡ None → block_of key s ≡ block_in key s.lru
+clean_shown key s free = ap (λ o. or_else o (block_in key s.lru)) free
+
+-- the block that came to the front is clean, and what the log has
+pub taken_used : (p : Parts) (key : Key) (block bytes : List ℕ) (s : Contents) → s ≡ used key p.cache
+    → block_in key p.cache.locked ≡ None → KeepsBlocks p.cache (used key p.cache)
+    → ((held : List ℕ) → block_in key p.cache.lru ≡ Some held → held ≡ block) → block_of key p.cache ≡ Some bytes
+    → block_in key s.lru ≡ Some block
+taken_used p key block bytes s is free keeps mirrors there =
+    let t = used key p.cache in
+    let was : block_in key p.cache.lru ≡ Some bytes = sym (clean_shown key p.cache free) ∙ there in
+    let unlocked = ap (block_in key) (used_locked key p.cache free) ∙ free in
+    let now : block_in key t.lru ≡ Some bytes = sym (clean_shown key t unlocked) ∙ keeps.blocks key ∙ there in
+    subst (λ (c : Contents). block_in key c.lru ≡ Some block) (sym is) (now ∙ ap Some (mirrors bytes was))
+
+-- and so is the one that took a frame
+pub taken_filled : (p : Parts) (key : Key) (block : List ℕ) (s t : Contents) → s ≡ used key p.cache
+    → block_in key p.cache.locked ≡ None → t.locked ≡ s.locked → block_of key t ≡ Some block
+    → block_in key t.lru ≡ Some block
+taken_filled p key block s t is free locked here =
+    let same = locked ∙ ap (λ (c : Contents). c.locked) is ∙ used_locked key p.cache free in
+    sym (clean_shown key t (ap (block_in key) same ∙ free)) ∙ here
 
 -- a block that is what the log has came to be held
 pub held_clean : (p q : Parts) (key : Key) (block : List ℕ) → Mirrors p → Holds key block p q → IsLogged p key block

@@ -36,5 +36,6 @@ pub mod CleanLemmas
 pub mod FilledLemmas
 pub mod HeldLemmas
 pub mod OtherBytesLemmas
+pub mod OtherNumbers
 pub mod GivenBackLemmas
 pub mod EmptiedLemmas

@@ -43,7 +43,7 @@ use Rattle.lfs_staging.specs.declared.records.TheConstants.{WAITING_LIMIT}
 use Rattle.lfs_staging.specs.Changing.{StaysInLog}
 use Rattle.lfs_staging.specs.Files.{content_of, file_at}
 use Rattle.lfs_staging.specs.Keys.{log_state}
-use Rattle.lfs_staging.specs.Making.{KeepsOthers}
+use Rattle.lfs_staging.proofs.OtherNumbers.{KeepsOthers}
 use Rattle.lfs_staging.specs.Staging.{IsStaged}
 use Rattle.lfs_staging.specs.Store.{AreFiles, IsFile, IsPresent}
 use Rattle.lfs_staging.specs.View.{record_of, root_in, tree_of, version_of, waiting_in}

@@ -27,7 +27,7 @@ module _ (p : Parts) (v : Inode) (index a : ℕ) (key : Key) (files : AreFiles p
   same_tree : tree_from p v ≡ tree_of p v.number
   same_tree = tree_from-of p v.number v here (files.files v.number (fields_of v) here)
 
-  at_tree : a ≡ address (tree_of p v.number) (way_to (Data index))
+  pub at_tree : a ≡ address (tree_of p v.number) (way_to (Data index))
   at_tree = at ∙ ap (λ t. address t (way_to (Data index))) same_tree
 
   pub address_inside : LiesIn (blocks_of p) (tree_of p v.number) → a < blocks_of p

@@ -36,7 +36,7 @@ use Rattle.lfs_staging.specs.Changing.{StaysInLog}
 use Rattle.lfs_staging.specs.Cutting.{with_length}
 use Rattle.lfs_staging.specs.Files.{content_of}
 use Rattle.lfs_staging.specs.Keys.{log_state}
-use Rattle.lfs_staging.specs.Making.{Forgets, KeepsOthers}
+use Rattle.lfs_staging.proofs.OtherNumbers.{Forgets, KeepsOthers}
 use Rattle.lfs_staging.specs.Staging.{IsStaged}
 use Rattle.lfs_staging.specs.Store.{AreFiles, IsPresent}
 use Rattle.lfs_staging.specs.View.{key_of, record_of, root_in, tree_of, version_of, waiting_in}

@@ -1,7 +1,6 @@
 pub mod Files
 pub mod Filling
 pub mod Keys
-pub mod Making
 pub mod Opening
 pub mod Store
 pub mod View

@@ -1,10 +1,12 @@
 //! The files that the parts hold.
 
-ghost use Rattle.std.specs.Prelude.{◌≡◌, length};
+ghost use Rattle.std.specs.Prelude.{◌≡◌, ◌+◌, ◌-◌, ◌/◌, ◌<◌, length};
+ghost use Rattle.lfs_types.specs.declared.block.TheConstants.{BLOCK_SIZE};
 ghost use Rattle.lfs_types.specs.Stored.{IsLeastFree, Reads, bytes_of, shown_attrs, slice_of};
 ghost use Rattle.lfs_staging.specs.Files.{content_of};
-ghost use Rattle.lfs_staging.specs.Filling.{SameButClean};
+ghost use Rattle.lfs_staging.specs.Filling.{IsCached, SameButClean};
 ghost use Rattle.lfs_staging.specs.Store.{IsStore};
+ghost use Rattle.lfs_staging.specs.View.{version_of};
 
 use crate::parts::Parts;
 use lfs_types::attrs::Attrs;
@@ -29,6 +31,9 @@ impl Parts {
             result into.old into.new }
         // Frames may be taken for clean blocks; what waits, and the log, stay.
         ensures kept { SameButClean self.old self.new }
+        // The last block that was read has a clean frame, or waits, or is a hole.
+        ensures cached { 0 < result → IsCached ino (version_of self.old ino)
+            ((off + result - 1) / BLOCK_SIZE) self.new }
     {
         if ino >= self.log.inodes() {
             return 0;

@@ -1,6 +1,7 @@
 //! Reading a file's blocks through what waits to be written.
 
-ghost use Rattle.std.specs.Prelude.{◌≡◌, ◌≢◌, ◌↔◌, ◌+◌, ◌<◌, ◌≤◌, ◌^◌, ℕ, IsTrue, List, Some, None, length};
+ghost use Rattle.std.specs.Prelude.{◌≡◌, ◌≢◌, ◌↔◌, ◌+◌, ◌-◌, ◌/◌, ◌<◌, ◌≤◌, ◌^◌, ℕ, IsTrue, List, Some, None, length};
+ghost use Rattle.lfs_types.specs.declared.block.TheConstants.{BLOCK_SIZE};
 ghost use Rattle.lfs_types.specs.declared.limits.TheConstants.{FILE_BLOCKS};
 ghost use Rattle.lfs_types.specs.Stored.{slice_of};
 ghost use Rattle.lfs_inodes.specs.Reading.{fields_of};
@@ -11,7 +12,7 @@ ghost use Rattle.lfs_bmap.specs.Blocks.{IsFileBlock, way_to};
 ghost use Rattle.lfs_bmap.specs.Pieces.{IsGot, file_bytes};
 ghost use Rattle.lfs_bmap.specs.Reading.{address, bytes_via, data_block, read};
 ghost use Rattle.lfs_staging.specs.Clean.{Holds};
-ghost use Rattle.lfs_staging.specs.Filling.{SameButClean};
+ghost use Rattle.lfs_staging.specs.Filling.{IsCached, SameButClean};
 ghost use Rattle.lfs_staging.specs.Store.{AreFiles, IsPresent};
 ghost use Rattle.lfs_staging.specs.View.{LiesIn, blocks_of, record_of, tree_from, tree_of};
 
@@ -84,6 +85,7 @@ impl Parts {
         ensures got { IsGot index off (data_block (tree_of self.old inode.now.number) index)
             into.old into.new }
         ensures kept { SameButClean self.old self.new }
+        ensures cached { IsCached inode.now.number inode.now.version index self.new }
     {
         let block = FileBlock::Data(index);
         let address = self.address_of(inode, block);
@@ -113,6 +115,7 @@ impl Parts {
         requires bounded { off + length into.old < 2 ^ 64 }
         ensures got { IsGot index off (block_at self.old.log.memory address) into.old into.new }
         ensures held { Holds key (block_at self.old.log.memory address) self.old self.new }
+        ensures taken { block_in key self.new.cache.lru ≡ Some (block_at self.old.log.memory address) }
     {
         match self.cache.get(key) {
             Some(held) => get_piece(held, index, off, into),
@@ -136,6 +139,9 @@ impl Parts {
             (file_bytes (data_block (tree_of self.old inode.now.number)) inode.now.size)
             off (length into.old) }
         ensures kept { SameButClean self.old self.new }
+        // The last block that was read may have taken the frame of one before.
+        ensures cached { 0 < length into.old → IsCached inode.now.number inode.now.version
+            ((off + length into.old - 1) / BLOCK_SIZE) self.new }
     {
         let touched = blocks_touched(off, off + into.len() as u64);
         for index in touched.start..touched.end {

@@ -7,7 +7,7 @@ use Rattle.lfs_staging.specs.View.{version_of}
 use Rattle.lfs_bmap.specs.Counting.{placed}
 use Rattle.lfs_log.specs.Parts.{record_place}
 use Rattle.lfs_staging.specs.Keys.{log_state}
-use Rattle.lfs_staging.specs.Making.{Forgets}
+use Rattle.lfs_staging.proofs.OtherNumbers.{Forgets}
 use Rattle.lfs_staging.specs.declared.parts.Parts.{Parts}
 use Rattle.lfs_staging.proofs.KeyLemmas.{place-record, unplaced}
 use Rattle.lfs_staging.proofs.TakingLemmas.{empty_no_block, last_log, last_none, last_others, may_give, released_at}

@@ -1,13 +1,15 @@
-use Rattle.std.proofs.Common.{◌≡◌, ◌++◌, length, take, drop, option_map, ap, subst, sym, ◌∙◌, arith}
+use Rattle.std.proofs.Common.{◌≡◌, ◌+◌, ◌-◌, ◌/◌, ◌++◌, length, take, drop, option_map, ap, subst, sym, ◌∙◌, arith}
 use Rattle.std.proofs.lemmas.List.{length-take}
+use Rattle.lfs_types.specs.declared.block.TheConstants.{BLOCK_SIZE}
 use Rattle.lfs_types.specs.Stored.{Reads, bytes_of, slice_of}
 use Rattle.lfs_inodes.specs.Reading.{fields_of}
 use Rattle.lfs_bmap.specs.Pieces.{file_bytes}
 use Rattle.lfs_bmap.specs.Reading.{data_block}
 use Rattle.lfs_bmap.proofs.PieceLemmas.{file_bytes-length}
 use Rattle.lfs_staging.specs.Files.{content_of}
+use Rattle.lfs_staging.specs.Filling.{IsCached}
 use Rattle.lfs_staging.specs.Store.{IsPresent}
-use Rattle.lfs_staging.specs.View.{LiesIn, blocks_of, record_of, tree_of}
+use Rattle.lfs_staging.specs.View.{LiesIn, blocks_of, record_of, tree_of, version_of}
 use Rattle.lfs_staging.proofs.FileLemmas.{bytes_of-none, bytes_of-record, given_record, record_of-past, record_used}
 use Rattle.lfs_staging.proofs.KeyLemmas.{lies_in}
 use Rattle.lfs_staging.proofs.ReadLemmas.{read_front, read_past}
@@ -80,3 +82,18 @@ returns-clause-reads c =
     (c.read_blocks.new.into ++ drop c.min-count.result c.args.into.now))
     (sym (bytes_of-record p c.args.ino (fields_of v) has))
     (read_front bytes c.args.off c.min-count.result c.args.into.now c.read_blocks.new.into (omega arith) front)
+
+pub returns-clause-cached : goal.returns-clause-cached
+returns-clause-cached c = λ some.
+    let p = c.args.self.now in
+    let q = c.read_blocks.new.self in
+    let v = c.in-Some.inode in
+    let has = given_record p c.args.ino c.record.result v c.record.ensures.shown c.in-Some.is in
+    let file = c.requires.whole.files c.args.ino (fields_of v) has in
+    let last = (c.args.off + c.min-count.result - 1) / BLOCK_SIZE in
+    let long = length-take c.min-count.result c.args.into.now in
+    let read : IsCached v.number v.version last q =
+    subst (λ k. IsCached v.number v.version ((c.args.off + k - 1) / BLOCK_SIZE) q) (omega (arith, long))
+    (c.read_blocks.ensures.cached (omega (arith, long))) in
+    subst (λ n. IsCached n (version_of p c.args.ino) last q) file.own_number
+    (subst (λ version. IsCached v.number version last q) file.own_version read)

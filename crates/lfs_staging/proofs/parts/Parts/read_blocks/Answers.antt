@@ -1,10 +1,12 @@
-use Rattle.std.proofs.Common.{ℕ, ◌+◌, ◌*◌, ◌<◌, length, ap, subst, sym, ◌∙◌, arith}
+use Rattle.std.proofs.Common.{ℕ, ◌+◌, ◌-◌, ◌*◌, ◌/◌, ◌<◌, length, refl, ap, subst, sym, ◌∙◌, arith}
+use Rattle.lfs_types.specs.declared.block.TheConstants.{BLOCK_SIZE}
 use Rattle.lfs_types.specs.Stored.{slice_of}
 use Rattle.lfs_inodes.specs.Reading.{fields_of}
 use Rattle.lfs_log.specs.Parts.{LogParts}
 use Rattle.lfs_bmap.specs.Pieces.{Touches, file_bytes}
 use Rattle.lfs_bmap.specs.Reading.{data_block}
 use Rattle.lfs_bmap.proofs.PieceLemmas.{got_slice}
+use Rattle.lfs_staging.specs.Filling.{IsCached}
 use Rattle.lfs_staging.specs.View.{LiesIn, blocks_of, tree_of}
 use Rattle.lfs_staging.proofs.FilledLemmas.{SameButClean-trans, same_files, same_records, same_trees}
 use Rattle.lfs_staging.proofs.ReadLemmas.{filled_more, filled_all}
@@ -47,6 +49,8 @@ loop-index-preserved c =
           c.loop-index.invariant.filled (ap (λ t. data_block t index) (same_trees p q kept number))
           c.read_block.ensures.got;
       kept = SameButClean-trans p q c.read_block.new.self kept c.read_block.ensures.kept;
+      cached = λ n touched last. subst (λ k. IsCached number c.args.inode.now.version k c.read_block.new.self)
+          (omega arith) c.read_block.ensures.cached;
     }
 
 pub returns-clause-filled : goal.returns-clause-filled
@@ -64,3 +68,11 @@ returns-clause-filled c =
     (c.requires.files.files v.number (fields_of v) c.requires.here).padded (omega arith)
     (filled_all (data_block t) c.args.off c.loop-index.index c.loop-index.into c.loop-index.invariant.filled last)
     ∙ ap (slice_of (file_bytes (data_block t) size) c.args.off) whole
+
+pub returns-clause-cached : goal.returns-clause-cached
+returns-clause-cached c = λ some.
+    let whole = c.loop-index.invariant.whole in
+    let end = c.blocks_touched-touched.ensures.some (omega arith) in
+    c.loop-index.invariant.cached ((c.args.off + length c.args.into.now - 1) / BLOCK_SIZE)
+    (record { byte = c.args.off + length c.args.into.now - 1; from = omega arith; below = omega arith; there = refl })
+    (omega arith)

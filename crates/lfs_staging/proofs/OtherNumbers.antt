@@ -1,4 +1,6 @@
--- A number is given out or taken back.
+-- What stays of the other numbers where one is given out or taken back: `KeepsOthers` for `Parts::make`, `Forgets` for
+-- `Parts::remove`, whose clauses say the rest. Both are of rows and waiting records, by number, as the lemmas of trees ask
+-- for them; the contracts speak of the content and the versions alone.
 use Rattle.std.specs.Prelude.{◌≡◌, ◌≢◌, ℕ, length, false}
 use Rattle.lfs_ifile.specs.Tables.{row_of}
 use Rattle.lfs_log.specs.Parts.{IsParts}
