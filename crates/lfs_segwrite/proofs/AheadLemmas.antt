@@ -315,10 +315,7 @@ room_or by changes p has = elim has [
   | inl taking ↦ elim taking [ inl more ↦ inr (omega arith) | inr both ↦ inl both.1 ]
   | inr giving ↦ elim giving.1 [
     | inl more ↦ inr (omega arith)
-    | inr behind ↦ elim behind [
-      | inl fit ↦ inl fit.0
-      | inr beyond ↦ let fits = beyond.1.1.cleanable.fits in inr (omega (arith, fits))
-    ]
+    | inr behind ↦ elim behind.1.room [ inl fits ↦ inl (omega (arith, fits)) | inr opens ↦ inr opens.0 ]
   ]
 ]
 

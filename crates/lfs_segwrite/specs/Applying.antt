@@ -1,5 +1,5 @@
 -- Changes of a store's content, made one after another, and written all together.
-use Rattle.std.specs.Prelude.{◌≡◌, ◌≢◌, ◌⊎◌, ◌||◌, ℕ, ◌+◌, ◌*◌, ◌/◌, ◌<◌, ◌≤◌, Bool, true, false, List, [], ◌∷◌, length}
+use Rattle.std.specs.Prelude.{◌≡◌, ◌≢◌, ◌⊎◌, ◌||◌, ℕ, ◌+◌, ◌/◌, ◌<◌, ◌≤◌, Bool, true, false, List, [], ◌∷◌, length}
 use Rattle.std.specs.Prelude.{max, nat_lt, if◌then◌else◌, ◌==◌, sum_by, Option, None, Some}
 use Rattle.std.specs.List.{list_any}
 use Rattle.lfs_types.specs.Changes.{applied, changed}
@@ -9,8 +9,8 @@ use Rattle.lfs_types.specs.Tree.{Content}
 use Rattle.lfs_types.specs.FlagNumbers.{is_part_of}
 use Rattle.lfs_types.specs.declared.limits.TheConstants.{FILE_BYTES, SEGMENT_BLOCKS, TRANSFER_BYTES}
 use Rattle.lfs_inodes.specs.Facts.{block_count}
-use Rattle.lfs_segwrite.specs.Room.{HasCleanable}
-use Rattle.lfs_segwrite.specs.declared.room.TheConstants.{SPARE, USERS_SPARE, WHOLE}
+use Rattle.lfs_segwrite.specs.Giving.{LeavesFinishable}
+use Rattle.lfs_segwrite.specs.declared.room.TheConstants.{SPARE, USERS_SPARE}
 use Rattle.lfs_types.specs.declared.store.Change.{Change}
 use Rattle.lfs_types.specs.declared.store.Change.TheVariants.{Make, Remove, SetAttrs, Put, SetLength}
 use Rattle.lfs_types.specs.declared.store.Reserve.{Reserve}
@@ -187,19 +187,15 @@ spare_of Users = USERS_SPARE
 spare_of Superuser = SPARE
 
 -- There is room for so many that are to be written for changes that may use what is kept back: more than one segment is
--- clean, or behind these blocks some segment can still be cleaned and leaves some to spare.
-abbrev pub HasRoomToGive : Reserve → ℕ → Parts → Type 0
-HasRoomToGive by blocks p =
-    (1 < p.log.clean)
-    ⊎ (((blocks ≤ room_of p.log.memory)
-    × ((s : ℕ) × HasCleanable p false (blocks + spare_of by) (room_of p.log.memory + WHOLE * p.log.clean) s))
-    ⊎ ((room_of p.log.memory < blocks)
-    × ((s : ℕ) × HasCleanable p true (blocks + spare_of by) (WHOLE * p.log.clean) s)))
+-- clean, or behind these blocks some segment can still be finished and leaves some to spare.
+abbrev pub HasRoomToGive : Reserve → List Change → ℕ → Parts → Type 0
+HasRoomToGive by changes blocks p =
+    (1 < p.log.clean) ⊎ ((s : ℕ) × LeavesFinishable (spare_of by) changes blocks p s)
 
 -- there is room for so many blocks that are to be written for changes
 abbrev pub HasRoomForBlocks : Reserve → List Change → ℕ → Parts → Type 0
 HasRoomForBlocks by changes blocks p =
-    HasRoomToTake blocks p ⊎ ((may_use_reserve by (content_of p) changes ≡ true) × HasRoomToGive by blocks p)
+    HasRoomToTake blocks p ⊎ ((may_use_reserve by (content_of p) changes ≡ true) × HasRoomToGive by changes blocks p)
 
 -- there is room for what waits and for changes
 abbrev pub HasRoomFor : Reserve → List Change → Parts → Type 0

@@ -8,14 +8,8 @@ use Rattle.lfs_staging.specs.declared.parts.Parts.{Parts}
 use Rattle.lfs_staging.specs.Keys.{log_state}
 use Rattle.lfs_segwrite.specs.Applying.{WritesWaiting}
 use Rattle.lfs_segwrite.specs.Gaining.{pass_blocks, widest}
+use Rattle.lfs_segwrite.specs.Giving.{HaveRoom}
 use Rattle.lfs_segwrite.specs.Marking.{AreNamed, MarksSettled, blocks_to_mark}
-use Rattle.lfs_segwrite.specs.declared.room.TheConstants.{WHOLE}
-
--- So many blocks, of which so many are written at once at most, have room where nothing waits: in what the active
--- segment has left; or there and in a clean one, though as many be left behind in the active one as are written at once.
-abbrev pub HaveRoom : ℕ → ℕ → Parts → Type 0
-HaveRoom blocks most p =
-    (blocks ≤ room_of p.log.memory) ⊎ ((0 < p.log.clean) × (blocks + most ≤ room_of p.log.memory + WHOLE))
 
 -- the blocks of all these infos lie in a segment
 abbrev pub LieIn : ℕ → List BlockInfo → Type 0

@@ -8,3 +8,4 @@ pub mod Recording
 pub mod Applying
 pub mod Gaining
 pub mod Finishing
+pub mod Giving

@@ -17,7 +17,8 @@ ghost use Rattle.lfs_staging.specs.Store.{IsStore};
 ghost use Rattle.lfs_segwrite.specs.declared.applying.TheConstants.{APPLIED_FRAMES, APPLIED_RECORDS};
 
 use crate::collecting::{blocks_to_write, inode_blocks};
-use crate::room::{NoRoom, SPARE, USERS_SPARE, WHOLE, has_cleanable};
+use crate::giving::leaves_some;
+use crate::room::{NoRoom, SPARE, USERS_SPARE};
 use crate::writing::write_waiting;
 use lfs_bmap::blocks::FileBlock;
 use lfs_bmap::pieces::blocks_touched;
@@ -319,22 +320,12 @@ fn spare_of(by: Reserve) -> u32
 }
 
 /// Whether there is room for so many blocks that are to be written for changes that may use what is kept back.
-fn has_room_to_give(parts: &Parts, by: Reserve, blocks: u32) -> bool
+fn has_room_to_give(parts: &Parts, changes: &[Change<'_>], by: Reserve, blocks: u32) -> bool
     requires store { IsStore parts.now }
     requires few { blocks ≤ 80 }
-    ensures { IsTrue result ↔ HasRoomToGive by blocks parts.now }
+    ensures { IsTrue result ↔ HasRoomToGive by changes.now blocks parts.now }
 {
-    let clean = parts.log.clean();
-    if clean > 1 {
-        return true;
-    }
-    let room = parts.log.room();
-    let behind = blocks + spare_of(by);
-    if blocks <= room {
-        has_cleanable(parts, false, behind, room + WHOLE * clean)
-    } else {
-        has_cleanable(parts, true, behind, WHOLE * clean)
-    }
+    parts.log.clean() > 1 || leaves_some(parts, changes, spare_of(by), blocks)
 }
 
 /// Whether there is room for so many blocks that are to be written for changes.
@@ -345,7 +336,7 @@ fn has_room_for(parts: &Parts, changes: &[Change<'_>], by: Reserve, blocks: u32)
     ensures many { 2 < parts.now.log.clean → result ≡ true }
 {
     has_room_to_take(parts, blocks)
-        || (may_use_reserve(parts, changes, by) && has_room_to_give(parts, by, blocks))
+        || (may_use_reserve(parts, changes, by) && has_room_to_give(parts, changes, by, blocks))
 }
 
 /// Whether there is room for what waits and for changes.

@@ -1,12 +1,13 @@
 //! Whether a dirty segment can be finished behind blocks that are written for the cleaner.
 
 ghost use Rattle.std.specs.Prelude.{◌⊎◌, ◌+◌, ◌<◌, ◌≤◌, ◌↔◌, IsTrue, max};
-ghost use Rattle.lfs_segwrite.specs.Finishing.{HaveRoom, IsFinishable, LieIn, SomeIsFinishable};
+ghost use Rattle.lfs_segwrite.specs.Finishing.{IsFinishable, LieIn, SomeIsFinishable};
 ghost use Rattle.lfs_segwrite.specs.Gaining.{pass_blocks, widest};
+ghost use Rattle.lfs_segwrite.specs.Giving.{HaveRoom};
 ghost use Rattle.lfs_staging.specs.Store.{IsStore};
 
 use crate::gaining::{is_dirty, pass_cost};
-use crate::room::WHOLE;
+use crate::giving::have_room;
 use lfs_staging::parts::Parts;
 use lfs_types::cleaner::BlockInfo;
 use lfs_types::limits::SEGMENT_BLOCKS;
@@ -18,17 +19,6 @@ fn lie_in(segment: u32, infos: &[BlockInfo]) -> bool
     infos
         .iter()
         .all(|info| info.addr / SEGMENT_BLOCKS == segment)
-}
-
-/// Whether so many blocks, of which so many are written at once at most, have room.
-fn have_room(parts: &Parts, blocks: u32, most: u32) -> bool
-    requires store { IsStore parts.now }
-    requires few { blocks ≤ 864 }
-    requires narrow { most ≤ 27 }
-    ensures { IsTrue result ↔ HaveRoom blocks most parts.now }
-{
-    let room = parts.log.room();
-    blocks <= room || (parts.log.clean() > 0 && blocks + most <= room + WHOLE)
 }
 
 /// Whether what it takes to clean a segment has room behind the blocks of some infos, so many.

@@ -29,7 +29,7 @@ pub struct PassCost {
 }
 
 /// The infos of a segment that name a block with its present address, in the log's order.
-fn live_infos(parts: &Parts, segment: u32) -> InfoList
+pub(crate) fn live_infos(parts: &Parts, segment: u32) -> InfoList
     requires store { IsStore parts.now }
     requires inside { segment < parts.now.log.memory.segments }
     ensures { result ≡ live_infos parts.now segment }
@@ -64,7 +64,7 @@ fn eight(infos: &[BlockInfo], k: usize) -> &[BlockInfo]
 }
 
 /// What it takes to write the blocks of some infos again, eight by eight.
-fn cost_by_eights(infos: &[BlockInfo]) -> PassCost
+pub(crate) fn cost_by_eights(infos: &[BlockInfo]) -> PassCost
     requires { length infos.now ≤ INFO_LIMIT }
     ensures blocks { result.blocks ≡ blocks_by_eights infos.now }
     ensures widest { result.widest ≡ widest_eight infos.now }

@@ -8,6 +8,7 @@ mod counting;
 mod finishing;
 pub mod flushing;
 pub mod gaining;
+mod giving;
 pub mod landing;
 pub mod marking;
 pub mod records;

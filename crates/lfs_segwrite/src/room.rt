@@ -1,24 +1,21 @@
 //! Room in the log for what is to be written.
 
-ghost use Rattle.std.specs.Prelude.{◌≡◌, ◌+◌, ◌<◌, ◌≤◌, ◌↔◌, ℕ, IsTrue, MatchOption, OnErr, OnOk};
+ghost use Rattle.std.specs.Prelude.{◌≡◌, ◌+◌, ◌<◌, ◌≤◌, OnErr, OnOk};
 ghost use Rattle.lfs_types.specs.declared.limits.TheConstants.{SEGMENT_BLOCKS};
 ghost use Rattle.lfs_ifile.specs.declared.segment.SegState.TheVariants.{Clean};
 ghost use Rattle.lfs_log.specs.Parts.{state_of};
 ghost use Rattle.lfs_segments.specs.Memory.{room_of};
-ghost use Rattle.lfs_log.specs.Parts.{live_of};
-ghost use Rattle.lfs_segwrite.specs.Room.{HasCleanable, HasNoCleanable, IsCleanable, KeepsFiles, OpensSegment, work_of};
+ghost use Rattle.lfs_segwrite.specs.Room.{KeepsFiles, OpensSegment};
 ghost use Rattle.lfs_staging.specs.Store.{IsStore};
 
-use lfs_ifile::SegState;
 use lfs_staging::parts::Parts;
-use lfs_types::block::BLOCK_SIZE;
 use lfs_types::limits::SEGMENT_BLOCKS;
 
 /// The blocks that a segment has behind its label at least.
 pub const WHOLE: u32 = SEGMENT_BLOCKS - 1;
 
-/// The blocks that stay when room is kept for a segment to be cleaned, beside those that this takes.
-pub const SPARE: u32 = 8;
+/// The blocks that stay when room is kept for a segment to be finished, beside those that this takes.
+pub const SPARE: u32 = 12;
 
 /// Those that stay behind what users give back, so that the cleaner and the superuser have some.
 pub const USERS_SPARE: u32 = 32;
@@ -65,59 +62,4 @@ fn open_segment(parts: &mut Parts)
         Some(_) => {}
         None => unreachable!(),
     }
-}
-
-/// How many blocks it takes to write so many live bytes again, as they are reckoned: a quarter more than they fill.
-fn work_of(live: u32) -> u64
-    ensures blocks { result ≡ work_of live }
-    ensures few { result ≤ 20000000 }
-{
-    (5 * u64::from(live)).div_ceil(4 * BLOCK_SIZE as u64)
-}
-
-/// Whether a segment of this state with so many live bytes could be cleaned in so many blocks, besides others: it is
-/// dirty, or, where another one is to be opened, active, and what is live in it could be written again.
-fn is_cleanable(state: SegState, live: u32, opens: bool, besides: u32, blocks: u32) -> bool
-    ensures { IsTrue result ↔ IsCleanable state live opens besides blocks }
-{
-    let to_clean = match state {
-        SegState::Dirty => true,
-        SegState::Active => opens,
-        SegState::Clean => false,
-    };
-    to_clean && work_of(live) + u64::from(besides) <= u64::from(blocks)
-}
-
-/// Whether this segment could be.
-fn can_clean(parts: &Parts, segment: u32, opens: bool, besides: u32, blocks: u32) -> bool
-    requires store { IsStore parts.now }
-    requires inside { segment < parts.now.log.memory.segments }
-    ensures { IsTrue result ↔ IsCleanable (state_of parts.now.log.tables segment)
-        (live_of parts.now.log.tables segment) opens besides blocks }
-{
-    let usage = parts.log.usage(segment);
-    is_cleanable(usage.state, usage.live, opens, besides, blocks)
-}
-
-/// A segment that could be cleaned in so many blocks, besides others.
-fn cleanable(parts: &Parts, opens: bool, besides: u32, blocks: u32) -> Option<u32>
-    requires { IsStore parts.now }
-    ensures { MatchOption result
-        (HasNoCleanable parts.now opens besides blocks)
-        (λ segment. HasCleanable parts.now opens besides blocks segment) }
-{
-    for segment in 0..parts.log.segments() {
-        if can_clean(parts, segment, opens, besides, blocks) {
-            return Some(segment);
-        }
-    }
-    None
-}
-
-/// Whether some segment could be cleaned in so many blocks, besides others.
-pub(crate) fn has_cleanable(parts: &Parts, opens: bool, besides: u32, blocks: u32) -> bool
-    requires { IsStore parts.now }
-    ensures { IsTrue result ↔ ((s : ℕ) × HasCleanable parts.now opens besides blocks s) }
-{
-    cleanable(parts, opens, besides, blocks).is_some()
 }

@@ -9,6 +9,6 @@ pub fn sizes()
     ensures frames { APPLIED_FRAMES ≡ 20 }
     ensures records { APPLIED_RECORDS ≡ 4 }
     ensures whole { WHOLE ≡ 63 }
-    ensures spare { SPARE ≡ 8 }
+    ensures spare { SPARE ≡ 12 }
     ensures users { USERS_SPARE ≡ 32 }
 {}
