@@ -3,8 +3,8 @@
 
 greatest-talks.py [--write] says whether the talks in `crates/lfs_script_tests/data` are those that it makes, or writes them. What
 is told is worked out here, by the forms of `docs/FORMATS.md` and of the crates' pages: a map of 1,024 segments of a fresh
-volume, and why a call may be made at the end of a path of 512 names. No clause refuses a body that gives up for want of memory
-above some size, so these stand at the greatest.
+volume, why a call may be made at the end of a path of 512 names, and a tree of more names than a line may ask for. No clause
+refuses a body that gives up for want of memory above some size, so these stand at the greatest.
 """
 import pathlib
 import sys
@@ -12,6 +12,7 @@ import sys
 DATA = pathlib.Path(__file__).resolve().parent.parent / "crates/lfs_script_tests/data"
 SEGMENTS, BLOCKS = 1024, 64
 NAMES = 512
+MOST_CALLS = 107
 FIRST_NUMBER = 4
 SIGNS = "L label  S summary  D data  I indirect  R records  p partly live  d i r dead  . not yet written"
 
@@ -44,9 +45,22 @@ def why_at_the_end_of_the_longest_path():
     return [*lines, *asked], ["0 ok"] * len(lines) + told + ["allowed", *report(len(lines))]
 
 
+def tree_of_more_than_may_be_asked():
+    """A List of the root, whose first name is a directory with a file: the calls of these come before those of the others."""
+    files = [f"n{number:03}" for number in range(MOST_CALLS + 2)]
+    made = ["mkdir /a 0755", "create /a/b 0644", *(f"create /{name} 0644" for name in files)]
+    unlooked = 1 + len(files) - (MOST_CALLS - 1)
+    first = ["list /", "stat /a", "list /a", "stat /a/b"]
+    rows = [f" {unlooked} not looked at, which list tells", " dir 0 0 0755 00000000 0 a", "   file 0 0 0644 00000000 0 b"]
+    rows += [f" file 0 0 0644 00000000 0 {name}" for name in files[: MOST_CALLS - len(first)]]
+    cut = f" cut short behind {MOST_CALLS} calls; .tree of a directory below tells more"
+    return [*made, ".tree"], [*["0 ok"] * len(made), *rows, cut, *report(len(made) + MOST_CALLS)]
+
+
 TALKS = {
     "map-of-1024-segments": map_of_all_segments,
     "why-at-the-end-of-512-names": why_at_the_end_of_the_longest_path,
+    "tree-of-more-than-107-calls": tree_of_more_than_may_be_asked,
 }
 
 

@@ -1,3 +1,4 @@
 pub mod AskLemmas
 pub mod ContentLemmas
 pub mod ListingLemmas
+pub mod WalkLemmas

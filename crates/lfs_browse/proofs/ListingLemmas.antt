@@ -42,7 +42,7 @@ filter_few : {X : Type 0} (p : X → Bool) (xs : List X) → length (filter p xs
 filter_few p [] = omega arith
 filter_few p (x ∷ xs) = cond_few (p x) x (filter p xs) (length xs) (filter_few p xs)
 
-take_next : {X : Type 0} (xs : List X) (i : ℕ) (x : X) → i < length xs → x ≡ get_or xs i x
+pub take_next : {X : Type 0} (xs : List X) (i : ℕ) (x : X) → i < length xs → x ≡ get_or xs i x
     → take (i + 1) xs ≡ take i xs ++ x ∷ []
 take_next xs i x lt is = take_more xs i x lt ∙ ap (λ y. take i xs ++ y ∷ []) (sym is)
 

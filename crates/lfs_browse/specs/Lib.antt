@@ -4,3 +4,5 @@ pub mod Listing
 pub mod Looks
 pub mod Spelled
 pub mod Steps
+pub mod Trees
+pub mod Walking

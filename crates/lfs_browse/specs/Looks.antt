@@ -7,14 +7,16 @@ use Rattle.lfs_volume.specs.Seen.{Seen}
 use Rattle.lfs_browse.specs.Asking.{Asks}
 use Rattle.lfs_browse.specs.Content.{IsContent}
 use Rattle.lfs_browse.specs.Listing.{IsListed}
+use Rattle.lfs_browse.specs.Trees.{IsTree}
 use Rattle.lfs_browse.specs.declared.asker.Asker.{Asker}
 use Rattle.lfs_browse.specs.declared.look.Look.{Look}
-use Rattle.lfs_browse.specs.declared.look.Look.TheVariants.{Listing, Content}
+use Rattle.lfs_browse.specs.declared.look.Look.TheVariants.{Listing, Content, Tree}
 
 -- the calls of a look at a path that were answered so, and what is told of them
 abbrev pub IsLooked : Look → ℕ → List (List ℕ) → List Request → List Answer → List ℕ → Type 0
 IsLooked Listing session path calls answers told = IsListed session path calls answers told
 IsLooked Content session path calls answers told = IsContent session path calls answers told
+IsLooked Tree session path calls answers told = IsTree path calls answers told
 
 -- A volume became this one by the calls of a look at a path, at most 107, and what is told of their answers was added
 -- to a text.

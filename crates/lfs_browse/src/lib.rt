@@ -1,4 +1,4 @@
-//! What a directory has and what a file holds, for people: calls of one caller, each entered as any, and their answers as text.
+//! What directories have and a file holds, for people: calls of one caller, each entered as any, and their answers as text.
 #![tactic(auto)]
 
 pub mod asker;
@@ -8,3 +8,5 @@ pub mod listing;
 pub mod look;
 pub mod rows;
 pub mod spelling;
+pub mod visit;
+pub mod walk;

@@ -63,7 +63,7 @@ fn tell_listed<F: CleanedStore + Drop>(
 }
 
 /// The names that a List served.
-fn names_served(answer: &Answer) -> Option<&Names>
+pub(crate) fn names_served(answer: &Answer) -> Option<&Names>
     ensures { MatchOption result (names_served answer.now ≡ None)
         (λ names. names_served answer.now ≡ Some names.now) }
 {
@@ -90,7 +90,7 @@ fn tell_names<F: CleanedStore + Drop>(
 }
 
 /// The names of which a Stat may be made.
-fn first_of(names: &[Name]) -> &[Name]
+pub(crate) fn first_of(names: &[Name]) -> &[Name]
     ensures first { result.now ≡ take 106 names.now }
     ensures few { length result.now ≤ length names.now }
 {

@@ -7,6 +7,7 @@ ghost use Rattle.lfs_browse.specs.Looks.{TellsLook};
 use crate::asker::Asker;
 use crate::content::tell_content;
 use crate::listing::tell_listing;
+use crate::walk::tell_tree;
 use lfs_types::cleaned::CleanedStore;
 use lfs_types::path::Path;
 use lfs_volume::volume::Volume;
@@ -19,6 +20,8 @@ pub enum Look {
     Listing,
     /// The bytes of a file.
     Content,
+    /// The tree below a directory, each name with what a Stat of it shows.
+    Tree,
 }
 
 /// Looks at a path by calls of one caller, at most 107, each judged by the rules and entered as any, and gives what is told
@@ -56,5 +59,6 @@ fn push_look<F: CleanedStore + Drop>(
     match look {
         Look::Listing => tell_listing(volume, asker, path, text),
         Look::Content => tell_content(volume, asker, path, text),
+        Look::Tree => tell_tree(volume, asker, path, text),
     }
 }

@@ -13,9 +13,9 @@ use Rattle.lfs_words.specs.Lines.{is_printable}
 use Rattle.lfs_words.specs.Wording.{words_of}
 use Rattle.lfs_words.specs.declared.fault.FaultKind.{FaultKind}
 use Rattle.lfs_words.specs.declared.fault.FaultKind.TheVariants.{Words}
-use Rattle.lfs_browse.specs.declared.look.Look.TheVariants.{Listing, Content}
-use Rattle.lfs_live.specs.Hearing.{asked_heard, call_heard, dot_heard, dot_of, dot_said, dot_with, dotted_heard}
-use Rattle.lfs_live.specs.Hearing.{heard_of, is_dotted, lone_dot, look_heard, path_said, word_heard}
+use Rattle.lfs_browse.specs.declared.look.Look.TheVariants.{Listing, Content, Tree}
+use Rattle.lfs_live.specs.Hearing.{asked_heard, asks_tree, call_heard, dot_heard, dot_of, dot_said, dot_with, dotted_heard}
+use Rattle.lfs_live.specs.Hearing.{heard_of, is_dotted, lone_dot, look_heard, path_said, tree_heard, word_heard}
 use Rattle.lfs_live.specs.declared.fault.LineFault.TheVariants.{TooLong}
 use Rattle.lfs_live.specs.declared.hearing.Dot.{Dot}
 use Rattle.lfs_live.specs.declared.hearing.Heard.TheVariants.{Fault}
@@ -105,9 +105,24 @@ pub heard_cat : (line : List ℕ) → starts_with nat_eq line (codes ".ls ") ≡
     → starts_with nat_eq line (codes ".cat ") ≡ true → look_heard Content (path_said (drop 5 line)) ≡ word_heard line
 heard_cat line other cat = rw (other, cat) refl
 
--- or is a word of the server's own
-pub heard_lone : (line : List ℕ) → starts_with nat_eq line (codes ".ls ") ≡ false
-    → starts_with nat_eq line (codes ".cat ") ≡ false → dot_heard (dot_said line) ≡ word_heard line
+-- or with another word
+pub heard_other : (line : List ℕ) → starts_with nat_eq line (codes ".ls ") ≡ false
+    → starts_with nat_eq line (codes ".cat ") ≡ false → tree_heard line ≡ word_heard line
+heard_other line other none = rw (other, none) refl
+
+-- a line begins with `.tree `
+pub heard_tree : (line : List ℕ) → starts_with nat_eq line (codes ".tree ") ≡ true
+    → look_heard Tree (path_said (drop 6 line)) ≡ tree_heard line
+heard_tree line tree = rw tree refl
+
+-- or is that word
+pub heard_root : (line : List ℕ) → starts_with nat_eq line (codes ".tree ") ≡ false
+    → asks_tree line ≡ true → look_heard Tree (path_said (codes "/")) ≡ tree_heard line
+heard_root line other root = rw (other, root) refl
+
+-- or a word of the server's own
+pub heard_lone : (line : List ℕ) → starts_with nat_eq line (codes ".tree ") ≡ false
+    → asks_tree line ≡ false → dot_heard (dot_said line) ≡ tree_heard line
 heard_lone line other none = rw (other, none) refl
 
 -- three words and more are no word of the server's own

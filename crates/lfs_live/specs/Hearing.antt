@@ -17,7 +17,7 @@ use Rattle.lfs_words.specs.Wording.{words_of}
 use Rattle.lfs_words.specs.declared.fault.FaultKind.{FaultKind}
 use Rattle.lfs_words.specs.declared.fault.FaultKind.TheVariants.{Bytes, Words}
 use Rattle.lfs_browse.specs.declared.look.Look.{Look}
-use Rattle.lfs_browse.specs.declared.look.Look.TheVariants.{Listing, Content}
+use Rattle.lfs_browse.specs.declared.look.Look.TheVariants.{Listing, Content, Tree}
 use Rattle.lfs_live.specs.declared.fault.LineFault.TheVariants.{TooLong, Kind}
 use Rattle.lfs_live.specs.declared.hearing.Dot.{Dot as Word}
 use Rattle.lfs_live.specs.declared.hearing.Dot.TheVariants.{Journal, Map, Segment, Space, Report, Help, Quit}
@@ -125,19 +125,30 @@ path_said line = if is_printable line then lone_path (words_of line) else Err By
 abbrev pub look_place : Look → List ℕ
 look_place Listing = codes " at 5: a path stands here"
 look_place Content = codes " at 6: a path stands here"
+look_place Tree = codes " at 7: a path stands here"
 
 -- a look at a path
 abbrev pub look_heard : Look → Result (List (List ℕ)) FaultKind → Heard
 look_heard look (Ok path) = Looks look path
 look_heard look (Err kind) = Fault (Kind kind) (look_place look)
 
+-- whether a line asks for the tree below the root
+abbrev pub asks_tree : List ℕ → Bool
+asks_tree line = bytes_eq line (codes ".tree")
+
+-- a look at the tree below the path behind `.tree `, or below the root, as `.tree /`, or a word of the server's own
+abbrev pub tree_heard : List ℕ → Heard
+tree_heard line =
+    if starts_with nat_eq line (codes ".tree ") then look_heard Tree (path_said (drop 6 line)) else
+    if asks_tree line then look_heard Tree (path_said (codes "/")) else dot_heard (dot_said line)
+
 -- what a line says that begins with a dot and asks nothing about a call: a look at the path behind `.ls ` or `.cat `, or
--- a word of the server's own
+-- one of these
 abbrev pub word_heard : List ℕ → Heard
 word_heard line =
     if starts_with nat_eq line (codes ".ls ") then look_heard Listing (path_said (drop 4 line)) else
     if starts_with nat_eq line (codes ".cat ") then look_heard Content (path_said (drop 5 line)) else
-    dot_heard (dot_said line)
+    tree_heard line
 
 -- what a line says that begins with a dot: what is asked about the call behind `.why ` or `.who `, or one of these
 abbrev pub dotted_heard : List ℕ → Heard

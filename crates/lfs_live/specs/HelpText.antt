@@ -34,6 +34,7 @@ help_lines =
     ∷ codes ".why CALL  the checks by which a call would be allowed or denied now, without making it: .why unlink /a"
     ∷ codes ".who CALL  who could make a call now, over all callers, without making it: .who write /a end 21"
     ∷ codes ".ls PATH  the names in a directory, each with kind, owner, group, mode, flags and length: .ls /"
+    ∷ codes ".tree [PATH]  what is below a directory, else below the root: rows as .ls tells them, indented: .tree /d"
     ∷ codes ".cat PATH  the bytes of a file as text: .cat /a"
     ∷ codes ".journal [K]  what was asked and answered so far, or the last K of it: .journal 5"
     ∷ codes ".map  what stands in each segment of the log: .map"

@@ -4,7 +4,7 @@ ghost use Rattle.std.specs.Prelude.{◌≡◌, map, IfOk};
 ghost use Rattle.lfs_script.specs.Plans.{line_said};
 ghost use Rattle.lfs_script.specs.Requests.{lone_path};
 ghost use Rattle.lfs_words.specs.Faults.{ReadsAs};
-ghost use Rattle.lfs_live.specs.Hearing.{asked_act, asked_heard, asked_line, asks_help, call_heard, dot_alone, dot_heard, dot_of, dot_said, dot_with, dot_word, dotted_heard, heard_of, is_dotted, is_long, lone_dot, look_heard, look_place, no_call, other_heard, path_said, word_heard};
+ghost use Rattle.lfs_live.specs.Hearing.{asked_act, asked_heard, asked_line, asks_help, asks_tree, call_heard, dot_alone, dot_heard, dot_of, dot_said, dot_with, dot_word, dotted_heard, heard_of, is_dotted, is_long, lone_dot, look_heard, look_place, no_call, other_heard, path_said, tree_heard, word_heard};
 
 use crate::fault::{LineFault, Place};
 use lfs_browse::look::Look;
@@ -179,7 +179,27 @@ fn hear_word(alloc: Global, line: &[u8]) -> Result<Heard, AllocError>
     if line.starts_with(b".cat ") {
         return hear_look(alloc, Look::Content, &line[5..]);
     }
+    hear_tree(alloc, line)
+}
+
+/// What a line says that begins with a dot, asks nothing about a call, and neither lists nor shows.
+fn hear_tree(alloc: Global, line: &[u8]) -> Result<Heard, AllocError>
+    ensures { IfOk result (λ heard. heard ≡ tree_heard line.now) }
+{
+    if line.starts_with(b".tree ") {
+        return hear_look(alloc, Look::Tree, &line[6..]);
+    }
+    if asks_tree(line) {
+        return hear_look(alloc, Look::Tree, b"/");
+    }
     hear_dot(alloc, line)
+}
+
+/// Whether a line asks for the tree below the root.
+fn asks_tree(line: &[u8]) -> bool
+    ensures { result ≡ asks_tree line.now }
+{
+    line == b".tree".as_slice()
 }
 
 /// A look at the path that a word is.
@@ -203,6 +223,7 @@ fn look_place(look: Look) -> &'static str
     match look {
         Look::Listing => " at 5: a path stands here",
         Look::Content => " at 6: a path stands here",
+        Look::Tree => " at 7: a path stands here",
     }
 }
 

@@ -8,7 +8,7 @@ ghost use Rattle.lfs_live.specs.Pieces.{ended_line};
 use std::alloc::AllocError;
 
 /// Its lines: each call and each word of the server's own, with an example.
-const HELP: [&str; 36] = [
+const HELP: [&str; 37] = [
     "A line is a call, `as`, `session`, `#` and a comment, or a word with a dot. Behind each its example:",
     "as USER GROUPS [init]  who makes the calls from here on: as 7 20,30",
     "session N  the session of the calls from here on, 0 to 8: session 1",
@@ -37,6 +37,7 @@ const HELP: [&str; 36] = [
     ".why CALL  the checks by which a call would be allowed or denied now, without making it: .why unlink /a",
     ".who CALL  who could make a call now, over all callers, without making it: .who write /a end 21",
     ".ls PATH  the names in a directory, each with kind, owner, group, mode, flags and length: .ls /",
+    ".tree [PATH]  what is below a directory, else below the root: rows as .ls tells them, indented: .tree /d",
     ".cat PATH  the bytes of a file as text: .cat /a",
     ".journal [K]  what was asked and answered so far, or the last K of it: .journal 5",
     ".map  what stands in each segment of the log: .map",

@@ -2,7 +2,7 @@ use Rattle.std.proofs.Common.{◌≡◌, ℕ, List, IfOk, subst, sym, ap, ◌∙
 use Rattle.lfs_browse.specs.declared.look.Look.TheVariants.{Listing, Content}
 use Rattle.lfs_live.specs.Hearing.{look_heard, path_said}
 use Rattle.lfs_live.specs.declared.hearing.Heard.{Heard}
-use Rattle.lfs_live.proofs.HearingLemmas.{heard_cat, heard_lone, heard_ls, rest_behind}
+use Rattle.lfs_live.proofs.HearingLemmas.{heard_cat, heard_ls, heard_other, rest_behind}
 use Rattle.lfs_live.proofs.hearing.hear_word.Goals as goal
 
 pub returns-then-starts_with : goal.returns-then-starts_with
@@ -20,6 +20,6 @@ returns-then-starts_with-2 c =
 
 pub returns : goal.returns
 returns c =
-    subst (λ (said : Heard). IfOk c.hear_dot.result (λ heard. heard ≡ said))
-    (heard_lone c.args.line.now (sym c.starts_with.ensures.value ∙ c.if-starts_with.false)
-    (sym c.starts_with-2.ensures.value ∙ c.if-starts_with-2.false)) c.hear_dot.ensures
+    subst (λ (said : Heard). IfOk c.hear_tree.result (λ heard. heard ≡ said))
+    (heard_other c.args.line.now (sym c.starts_with.ensures.value ∙ c.if-starts_with.false)
+    (sym c.starts_with-2.ensures.value ∙ c.if-starts_with-2.false)) c.hear_tree.ensures
