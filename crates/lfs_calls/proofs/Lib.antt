@@ -35,6 +35,7 @@ pub mod RenameEffects
 pub mod RenameLemmas
 pub mod RenameOutcomes
 pub mod RowLemmas
+pub mod SearchLemmas
 pub mod ShrunkStore
 pub mod StateLemmas
 pub mod StepLemmas

@@ -10,6 +10,8 @@ use Rattle.lfs_known.specs.declared.hints.Hint.{Hint}
 use Rattle.lfs_dirs.specs.Directory.{number_in}
 use Rattle.lfs_known.specs.NamesSaid.{says}
 use Rattle.lfs_known.specs.declared.names.NameCache.{NameCache}
+use Rattle.lfs_known.specs.declared.name_table.NameTable.{NameTable}
+use Rattle.lfs_known.specs.Spots.{ArePlacedIn}
 use Rattle.lfs_calls.specs.Content.{IsDirectoryAt, all_entries}
 
 -- a directory lists a number under a name
@@ -27,11 +29,14 @@ abbrev pub AreTrue : NameCache → Content → Type 0
 AreTrue names c = (dir : ℕ) (name : List ℕ) (found : Option ℕ) → says names dir name ≡ Some found
     → IsFound c dir name found
 
--- what is known: what caches say of names and of attributes is what a content has, and what hints say of room is so
-pub record IsTrueOf (names : NameCache) (attributes : Slots Attrs) (hints : Slots Hint) (c : Content) : Type 0 where
+-- what is known: what caches say of names and of attributes is what a content has, what hints say of room is so, and
+-- in a directory that a table knows names stand only where it says that they may
+pub record IsTrueOf (names : NameCache) (attributes : Slots Attrs) (hints : Slots Hint) (table : Option NameTable)
+    (c : Content) : Type 0 where
   pub listed : AreTrue names c
   pub shown : AreShown attributes c
   pub full : AreFull hints c
+  pub placed : ArePlacedIn table c
 
 -- what was found is found still
 abbrev pub KeepsNames : Content → Content → Type 0

@@ -22,6 +22,9 @@ use lfs_types::name::{BadName, NAME_MAX, Name};
 use lfs_types::store::FileStore;
 use std::alloc::{AllocError, Global};
 
+/// How many bytes a directory has at least whose names are entered into a table when one is searched for.
+const LARGE_DIRECTORY: u64 = 16 * BLOCK_SIZE as u64;
+
 /// A block of a directory with an entry more or less than the stored one, and where it goes.
 #[derive(Clone, Copy)]
 pub(crate) struct Room {
@@ -69,14 +72,38 @@ fn search<F: FileStore>(store: &mut Tree<F>, dir: u32, size: u64, name: &Name) -
         (bytes_of (F.state store.old).content dir)) }
     ensures state { F.state store.new ≡ F.state store.old }
 {
+    learn_names(store, dir, size);
     let block_size = BLOCK_SIZE as u64;
-    for k in 0..size / block_size {
+    let mut k = store.next_block(dir, name, 0);
+    while k < size / block_size {
         let block = read_block(store, dir, block_size * k);
         if let Some(number) = lfs_dirs::find(&block, name) {
             return Some(number);
         }
+        k = store.next_block(dir, name, k + 1);
     }
     None
+}
+
+/// Enters the names of all blocks of a large directory into the tree's table, unless it knows the directory, or there is
+/// no memory for a table.
+fn learn_names<F: FileStore>(store: &mut Tree<F>, dir: u32, size: u64)
+    requires { HasBlocks (F.state store.old).content dir size }
+    ensures { F.state store.new ≡ F.state store.old }
+{
+    if size < LARGE_DIRECTORY {
+        return;
+    }
+    let Some(mut table) = store.take_table(dir) else {
+        return;
+    };
+    let block_size = BLOCK_SIZE as u64;
+    for k in 0..size / block_size {
+        let block = read_block(store, dir, block_size * k);
+        table.enter_block(dir, k, &block);
+    }
+    table.know(dir, size / block_size);
+    store.keep_table(table);
 }
 
 /// The names that a directory of this size lists, as they stand in its blocks; an error where a growth was refused.
@@ -255,10 +282,12 @@ pub(crate) fn take_name<F: FileStore>(store: &mut Tree<F>, dir: u32, size: u64, 
     if let Some(room) = take_hinted(store, dir, size, name) {
         return room;
     }
-    for k in 0..size / BLOCK_SIZE as u64 {
+    let mut k = store.next_block(dir, name, 0);
+    while k < size / BLOCK_SIZE as u64 {
         if let Some(room) = take_from(store, dir, k, name) {
             return room;
         }
+        k = store.next_block(dir, name, k + 1);
     }
     unreachable!()
 }

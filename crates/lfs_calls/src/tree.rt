@@ -1,36 +1,43 @@
-//! A store with a cache of the names that its directories list, one of the attributes that its files show, and hints of
-//! where its directories have room.
+//! A store with a cache of the names that its directories list, one of the attributes that its files show, hints of
+//! where its directories have room, and a table of where the names of large ones stand.
 
-ghost use Rattle.std.specs.Prelude.{◌≡◌, [], length, IsSome, IfOk, IfSome, OnOk};
+ghost use Rattle.std.specs.Prelude.{◌≡◌, ◌≤◌, ◌<◌, ℕ, [], None, length, IsSome, IfOk, IfSome, OnOk};
 ghost use Rattle.std.specs.FinMap.{get};
 ghost use Rattle.lfs_types.specs.Changes.{CanApply, applied};
 ghost use Rattle.lfs_types.specs.StoreStates.{Applies};
 ghost use Rattle.lfs_types.specs.Stored.{shown_attrs, bytes_of, slice_of, Reads, IsLeastFree};
 ghost use Rattle.lfs_known.specs.Shown.{AreShown};
 ghost use Rattle.lfs_known.specs.Full.{AreFull, IsFullBefore};
+ghost use Rattle.lfs_known.specs.Spots.{ArePlaced, ArePlacedIn};
 ghost use Rattle.lfs_model.specs.World.{child};
 ghost use Rattle.lfs_dirs.specs.Directory.{number_in};
-ghost use Rattle.lfs_calls.specs.Content.{IsDirectoryAt, all_entries};
+ghost use Rattle.lfs_dirs.specs.Reading.{entries_of};
+ghost use Rattle.lfs_calls.specs.Content.{IsDirectoryAt, all_entries, block_at};
 ghost use Rattle.lfs_calls.specs.Names.{FindsNew, IsFound, KeepsNames, MovesName};
 ghost use Rattle.lfs_calls.specs.Volumes.{InWorld};
 
-use lfs_known::{AttrCache, DirHints, Hint, NameCache, follow_attributes, follow_hints};
+use lfs_known::{
+    AttrCache, DirHints, Hint, NameCache, NameTable, follow_attributes, follow_hints, follow_names,
+};
 use lfs_types::attrs::Attrs;
 use lfs_types::name::Name;
 use lfs_types::store::{Change, FileStore, Reserve, StoreRefusal};
 use std::alloc::{AllocError, Global};
 use std::marker::Model;
 
-/// A store, caches of names and of attributes, and hints of directories. Contracts see the store alone. The type keeps
-/// that what is said of a name of a directory is what the directory lists, and so, in each world that the store shows,
-/// the row that hangs there; that what is said of a number is what the store shows; and that a directory has no room
-/// before the block of its hint.
+/// A store, caches of names and of attributes, hints of directories, and a table of where names stand, if there was memory
+/// for one. Contracts see the store alone. The type keeps that what is said of a name of a directory is what the
+/// directory lists, and so, in each world that the store shows, the row that hangs there; that what is said of a number
+/// is what the store shows; that a directory has no room before the block of its hint; and that in a directory that the
+/// table knows names stand only where it says that they may.
 #[derive(Drop)]
 pub struct Tree<F: FileStore> {
     pub(crate) store: F,
     names: NameCache,
     attributes: AttrCache,
     hints: DirHints,
+    table: Option<NameTable>,
+    alloc: Global,
 }
 
 impl<F: FileStore> Model for Tree<F> {
@@ -40,7 +47,7 @@ impl<F: FileStore> Model for Tree<F> {
 
     ghost view = { λ t. t.store };
 
-    ghost invariant = { λ t. IsTrueOf t.names t.attributes t.hints (F.state t.store).content };
+    ghost invariant = { λ t. IsTrueOf t.names t.attributes t.hints t.table (F.state t.store).content };
 }
 
 impl<F: FileStore + Drop> Tree<F> {
@@ -56,6 +63,8 @@ impl<F: FileStore + Drop> Tree<F> {
             names,
             attributes,
             hints,
+            table: None,
+            alloc,
         })
     }
 }
@@ -170,6 +179,42 @@ impl<F: FileStore> Tree<F> {
         self.hints.enter(dir, hint);
     }
 
+    /// The first block from `from` on in which a directory may list a name; `from` itself where nothing is known of it.
+    pub(crate) fn next_block(&self, dir: u32, name: &Name, from: u64) -> u64
+        ensures from { from ≤ result }
+        ensures absent { (k : ℕ) → from ≤ k → k < result → number_in name.now
+            (entries_of (block_at (bytes_of (F.state self.now).content dir) k)) ≡ None }
+    {
+        match &self.table {
+            Some(table) => table.next_block(dir, name, from),
+            None => from,
+        }
+    }
+
+    /// The table to which the names of a directory are to be added, unless it knows the directory, or there is no memory
+    /// for one. It is the tree's no more.
+    pub(crate) fn take_table(&mut self, dir: u32) -> Option<NameTable>
+        ensures placed { IfSome result (λ table. ArePlaced table (F.state self.old).content) }
+        ensures same { self.new ≡ self.old }
+    {
+        match self.table.take() {
+            Some(table) if table.knows(dir) => {
+                self.table = Some(table);
+                None
+            }
+            Some(table) => Some(table),
+            None => NameTable::new(self.alloc).ok(),
+        }
+    }
+
+    /// Keeps a table of where names stand.
+    pub(crate) fn keep_table(&mut self, table: NameTable)
+        requires { ArePlaced table (F.state self.old).content }
+        ensures { self.new ≡ self.old }
+    {
+        self.table = Some(table);
+    }
+
     /// Makes all the changes, in order, or none of them. They leave each name that a directory lists.
     pub(crate) fn apply(&mut self, changes: &[Change<'_>], by: Reserve) -> Result<(), StoreRefusal>
         requires can { CanApply (F.state self.old).shape.numbers changes.now
@@ -183,6 +228,7 @@ impl<F: FileStore> Tree<F> {
             &mut self.store,
             &mut self.attributes,
             &mut self.hints,
+            &mut self.table,
             changes,
             by,
         )
@@ -208,6 +254,7 @@ impl<F: FileStore> Tree<F> {
             &mut self.store,
             &mut self.attributes,
             &mut self.hints,
+            &mut self.table,
             changes,
             by,
         )?;
@@ -237,6 +284,7 @@ impl<F: FileStore> Tree<F> {
             &mut self.store,
             &mut self.attributes,
             &mut self.hints,
+            &mut self.table,
             changes,
             by,
         )?;
@@ -246,12 +294,13 @@ impl<F: FileStore> Tree<F> {
     }
 }
 
-/// Makes changes as a store does, and follows them where they were made: what was known of attributes and of room is so
-/// still.
+/// Makes changes as a store does, and follows them where they were made: what was known of attributes, of room and of
+/// names is so still.
 fn apply_followed<F: FileStore>(
     store: &mut F,
     attributes: &mut AttrCache,
     hints: &mut DirHints,
+    table: &mut Option<NameTable>,
     changes: &[Change<'_>],
     by: Reserve,
 ) -> Result<(), StoreRefusal>
@@ -263,9 +312,12 @@ fn apply_followed<F: FileStore>(
         → AreShown attributes.new (F.state store.new).content }
     ensures full { AreFull hints.old (F.state store.old).content
         → AreFull hints.new (F.state store.new).content }
+    ensures placed { ArePlacedIn table.old (F.state store.old).content
+        → ArePlacedIn table.new (F.state store.new).content }
 {
     store.apply(changes, by)?;
     follow_attributes(attributes, changes);
     follow_hints(hints, changes);
+    follow_names(table, changes);
     Ok(())
 }

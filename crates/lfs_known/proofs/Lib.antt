@@ -2,3 +2,4 @@ pub mod FollowLemmas
 mod ShownLemmas
 pub mod FullLemmas
 pub mod SlotLemmas
+pub mod SpotLemmas

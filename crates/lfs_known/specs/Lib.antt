@@ -4,3 +4,4 @@ pub mod Full
 pub mod Places
 pub mod NameSlots
 pub mod NamesSaid
+pub mod Spots

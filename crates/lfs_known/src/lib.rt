@@ -5,13 +5,18 @@
 mod attributes;
 mod hint_changes;
 mod hints;
+mod name_changes;
+mod name_table;
 mod names;
 mod pair;
 mod slots;
+mod spot;
 
 pub use attributes::{AttrCache, follow_attributes};
 pub use hint_changes::follow_hints;
 pub use hints::{DirHints, Hint};
+pub use name_changes::follow_names;
+pub use name_table::NameTable;
 pub use names::NameCache;
 pub use pair::KEPT_BYTES;
 pub use slots::Slots;

@@ -1,11 +1,14 @@
-use Rattle.std.proofs.Common.{◌≡◌, None}
+use Rattle.std.proofs.Common.{◌≡◌, ◌-◌, ◌/◌}
 use Rattle.lfs_types.specs.Stored.{bytes_of}
-use Rattle.lfs_dirs.specs.Directory.{number_in}
-use Rattle.lfs_calls.specs.Content.{entries_below}
+use Rattle.lfs_calls.proofs.SearchLemmas.{IsAbsentBefore}
 use Rattle.lfs_calls.proofs.directory.search.Given as goal
 
+-- the name is in none of the blocks so far
 abbrev pub invariant-loop-k : goal.invariant-loop-k
 invariant-loop-k g l = record {
-  absent : number_in l.name (entries_below (bytes_of (g.F.FileStore.state l.fn.store).content l.dir) l.k) ≡ None;
+  absent : IsAbsentBefore l.name (bytes_of (g.F.FileStore.state l.fn.store).content l.dir) l.k;
   state : g.F.FileStore.state l.store ≡ g.F.FileStore.state l.fn.store;
 }
+
+abbrev pub decreases-loop-k : goal.decreases-loop-k
+decreases-loop-k g l = l.size / 512 - l.k

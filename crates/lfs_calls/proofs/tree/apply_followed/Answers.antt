@@ -1,6 +1,7 @@
 use Rattle.std.proofs.Common.{sym, subst}
 use Rattle.lfs_known.specs.Shown.{AreShown}
 use Rattle.lfs_known.specs.Full.{AreFull}
+use Rattle.lfs_known.specs.Spots.{ArePlacedIn}
 use Rattle.lfs_calls.proofs.tree.apply_followed.Goals as goal
 
 pub returns-clause-shown : goal.returns-clause-shown
@@ -10,3 +11,7 @@ returns-clause-shown g c shown = subst (AreShown c.follow_attributes.new.cache) 
 pub returns-clause-full : goal.returns-clause-full
 returns-clause-full g c full = subst (AreFull c.follow_hints.new.hints) (sym c.in_ok-apply.ensures.applies.ok)
     (c.follow_hints.ensures _ full)
+
+pub returns-clause-placed : goal.returns-clause-placed
+returns-clause-placed g c placed = subst (ArePlacedIn c.follow_names.new.table) (sym c.in_ok-apply.ensures.applies.ok)
+    (c.follow_names.ensures _ placed)

@@ -22,4 +22,5 @@ invariant_of-self-2 g c =
           c.self.invariant.listed;
       shown = c.in_ok-apply_followed.ensures.shown c.self.invariant.shown;
       full = c.in_ok-apply_followed.ensures.full c.self.invariant.full;
+      placed = c.in_ok-apply_followed.ensures.placed c.self.invariant.placed;
     }

@@ -13,4 +13,5 @@ invariant_of-self g c =
           c.enter.ensures.entered c.enter.ensures.others is c.self.invariant.listed;
       shown = c.self.invariant.shown;
       full = c.self.invariant.full;
+      placed = c.self.invariant.placed;
     }

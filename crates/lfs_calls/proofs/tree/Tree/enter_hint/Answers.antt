@@ -14,4 +14,5 @@ invariant_of-self g c =
       shown = c.self.invariant.shown;
       full = full_entered c.self.inside.hints c.enter.new.self s c.args.dir c.args.hint c.enter.ensures.entered
           c.enter.ensures.others is c.self.invariant.full;
+      placed = c.self.invariant.placed;
     }
