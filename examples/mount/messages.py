@@ -29,6 +29,18 @@ class Talk:
     def __init__(self):
         self.messages, self.replies, self.unique = b"", b"", 0
         self.times = {2: [(0, 0)] * 3}  # of each inode: seconds and nanoseconds of the access, the bytes and the change
+        self.slots = set()  # of files that are open to be read
+
+    def handle(self):
+        """The handle of a file that is opened to be read: twice the place of the first free slot, counted from 1."""
+        slot = next(it for it in range(1, 129) if it not in self.slots)
+        self.slots.add(slot)
+        return 2 * slot
+
+    def release(self, node, handle, user=0):
+        """RELEASE of a handle, whose slot is free again."""
+        self.slots.discard(handle // 2)
+        self.say(RELEASE, node, release_in(handle), user, reply=b"")
 
     def mark(self, made, written, restated, dated):
         """What a message changes, at its time: the file that it makes, those whose bytes or names it changes, those whose
@@ -44,17 +56,18 @@ class Talk:
             inode, accessed, modified = dated
             self.times[inode] = [accessed, modified, now]
 
-    def date(self, opcode, reply):
-        """A reply, with the times of the file whose attributes it tells."""
+    def date(self, opcode, reply, times):
+        """A reply, with the times of the file whose attributes it tells, or those that are given."""
         at = ATTRIBUTES_AT.get(opcode)
         if at is None:
             return reply
         inode, = struct.unpack_from("<Q", reply, at)
-        times = self.times[inode]
+        times = times or self.times[inode]
         dates = struct.pack("<QQQIII", *(it[0] for it in times), *(it[1] for it in times))
         return reply[:at + 24] + dates + reply[at + 24 + len(dates):]
 
-    def say(self, opcode, node, body=b"", user=0, reply=None, error=0, length=None, made=None, written=(), restated=(), dated=None):
+    def say(self, opcode, node, body=b"", user=0, reply=None, error=0, length=None, made=None, written=(), restated=(), dated=None,
+            times=None):
         """A message of a user and the group of his number; its reply's body, its error, or None and 0 for no reply; and what it
         changes."""
         self.unique += 2
@@ -64,7 +77,7 @@ class Talk:
         if error:
             self.replies += struct.pack("<IiQ", 16, -error, self.unique)
         elif reply is not None:
-            self.replies += struct.pack("<IiQ", 16 + len(reply), 0, self.unique) + self.date(opcode, reply)
+            self.replies += struct.pack("<IiQ", 16 + len(reply), 0, self.unique) + self.date(opcode, reply, times)
 
 
 def attr(inode, mode, user=0, group=0, size=0, links=1):
@@ -102,6 +115,10 @@ def written(count):
     return struct.pack("<II", count, 0)
 
 
+def release_in(handle):
+    return struct.pack("<QIIQ", handle, 0, 0, 0)
+
+
 def setattr_in(valid, size=0, mode=0, user=0, group=0, accessed=(0, 0), modified=(0, 0)):
     return struct.pack("<IIQQQQQQIIIIIIII", valid, 0, 0, size, 0, accessed[0], modified[0], 0, accessed[1], modified[1], 0,
                        mode, 0, user, group, 0)
@@ -129,13 +146,13 @@ def files(talk):
     talk.say(MKDIR, ROOT, struct.pack("<II", 0o777, 0) + b"pub\0", error=errno.EEXIST)
     talk.say(MKDIR, ROOT, struct.pack("<II", 0o777, 0) + b"mine\0", 7, error=errno.EACCES)
     talk.say(CREATE, 2, create_in(O_RDWR, REGULAR | 0o644, b"a"), 7,
-             reply=entry(3, attr(5, REGULAR | 0o644, 7, 0)) + opened(), made=5, written=[4])
+             reply=entry(3, attr(5, REGULAR | 0o644, 7, 0)) + opened(talk.handle()), made=5, written=[4])
     talk.say(WRITE, 3, write_in(0, b"hello"), 7, reply=written(5), written=[5])
     talk.say(READ, 3, read_in(0, 4096), 8, reply=b"hello")
     talk.say(READ, 3, read_in(1, 2), 8, reply=b"el")
     talk.say(READ, 3, read_in(5, 4096), 8, reply=b"")
     talk.say(WRITE, 3, write_in(0, b"bad"), 8, error=errno.EACCES)
-    talk.say(OPEN, 3, struct.pack("<II", O_RDONLY, 0), 8, reply=opened())
+    talk.say(OPEN, 3, struct.pack("<II", O_RDONLY, 0), 8, reply=opened(talk.handle()))
     talk.say(OPEN, 3, struct.pack("<II", O_WRONLY, 0), 8, error=errno.EACCES)
     talk.say(OPEN, 3, struct.pack("<II", O_RDWR | O_TRUNC, 0), 8, error=errno.EACCES)
     talk.say(LOOKUP, 2, b"a\0", 8, reply=entry(3, attr(5, REGULAR | 0o644, 7, 0, 5)))
@@ -189,21 +206,48 @@ def names(talk):
     talk.say(RELEASEDIR, 2, bytes(24), 8, reply=b"")
     talk.say(RMDIR, ROOT, b"pub\0", error=errno.ENOTEMPTY)
     talk.say(RENAME, 2, struct.pack("<Q", 2) + b"free\0line\nfeed\0", 7, reply=b"", written=[4])
-    talk.say(GETATTR, 3, bytes(16), 8, error=errno.ESTALE)
+    replaced(talk)
     talk.say(GETATTR, 4, bytes(16), 8, reply=attr_out(attr(6, REGULAR | 0o640, 7, 0)))
     talk.say(UNLINK, 2, b"line\nfeed\0", 8, reply=b"", written=[4])
     talk.say(GETATTR, 2, bytes(16), 8, reply=attr_out(attr(4, DIRECTORY | 0o777, links=2)))
     talk.say(READ, 4, read_in(0, 1), 7, error=errno.ESTALE)
     talk.say(FORGET, 4, struct.pack("<Q", 1))
-    talk.say(BATCH_FORGET, 0, struct.pack("<IIQQ", 1, 0, 3, 3))
     talk.say(LOOKUP, 2, bytes([120]) * 256 + b"\0", 7, error=errno.ENAMETOOLONG)
+
+
+def replaced(talk):
+    """User 8 has the file open that was replaced, by handle 4, and goes on with it; user 7 opened it by handle 2, and might
+    not read it any more when it was replaced."""
+    gone = attr(5, REGULAR | 0o600, 8, 0, 3, links=0)
+    talk.say(GETATTR, 3, bytes(16), 8, reply=attr_out(gone))
+    talk.say(GETATTR, 3, bytes(16), 7, error=errno.ESTALE)
+    talk.say(READ, 3, read_in(0, 100, 4), 8, reply=bytes(3))
+    talk.say(READ, 3, read_in(2, 100, 4), 8, reply=bytes(1))
+    talk.say(READ, 3, read_in(3, 100, 4), 8, reply=b"")
+    for handle, user in ((2, 7), (2, 8), (4, 7), (4, 0), (0, 8), (6, 8), (1024, 8)):
+        talk.say(READ, 3, read_in(0, 100, handle), user, error=errno.ESTALE)
+    talk.say(WRITE, 3, write_in(0, b"x"), 8, error=errno.ESTALE)
+    talk.gone = (gone, talk.times[5])
+
+
+def number_again(talk):
+    """The number of the file that user 8 has open still is another's now, and so are that one's times."""
+    gone, times = talk.gone
+    talk.say(GETATTR, 3, bytes(16), 8, reply=attr_out(gone), times=times)
+    talk.say(READ, 3, read_in(0, 100, 4), 8, reply=bytes(3))
+    talk.release(3, 4)
+    talk.say(READ, 3, read_in(0, 100, 4), 8, error=errno.ESTALE)
+    talk.say(GETATTR, 3, bytes(16), 8, error=errno.ESTALE)
+    talk.release(3, 2)
+    talk.say(BATCH_FORGET, 0, struct.pack("<IIQQ", 1, 0, 3, 3))
 
 
 def pieces(talk):
     """More bytes than a call carries: three calls, and the part before a refusal."""
     data = bytes(it * it % 251 for it in range(10000))
     talk.say(CREATE, 2, create_in(O_RDWR, REGULAR | 0o600, b"big"), 7,
-             reply=entry(5, attr(5, REGULAR | 0o600, 7, 0)) + opened(), made=5, written=[4])
+             reply=entry(5, attr(5, REGULAR | 0o600, 7, 0)) + opened(talk.handle()), made=5, written=[4])
+    number_again(talk)
     talk.say(WRITE, 5, write_in(0, data), 7, reply=written(10000), written=[5])
     talk.say(READ, 5, read_in(0, 16384), 7, reply=data)
     talk.say(READ, 5, read_in(4095, 4098), 7, reply=data[4095:8193])
@@ -222,10 +266,6 @@ def flags(talk):
     talk.say(ACCESS, 5, struct.pack("<II", 2, 0), 7, error=errno.EPERM)
     talk.say(ACCESS, 5, struct.pack("<II", 4, 0), 7, reply=b"")
     talk.say(IOCTL, 5, struct.pack("<QIIQII", 0, 0, 0x5401, 0, 0, 0), 7, error=errno.ENOTTY)
-
-
-def release_in(handle):
-    return struct.pack("<QIIQ", handle, 0, 0, 0)
 
 
 def closed(talk):
@@ -252,9 +292,28 @@ def run(talk):
         talk.say(SETATTR, 6, setattr_in(1, mode=mode), 7, reply=attr_out(attr(6, REGULAR | mode, 7, 0, 2)), restated=[6])
         for user in (7, 8, 0):
             error = 0 if user in granted else errno.EACCES
-            talk.say(OPEN, 6, to_run, user, reply=opened(), error=error)
+            talk.say(OPEN, 6, to_run, user, reply=None if error else opened(talk.handle()), error=error)
             talk.say(ACCESS, 6, may_run, user, reply=b"", error=error)
     talk.say(ACCESS, 2, may_run, 8, reply=b"")
+
+
+def removed(talk):
+    """A file that is removed as soon as it is made, as temporary files are: it is read, and not written."""
+    data = bytes(it * it % 251 for it in range(5000))
+    handle = talk.handle()
+    talk.say(CREATE, 2, create_in(O_RDWR, REGULAR | 0o600, b"temporary"), 7,
+             reply=entry(8, attr(8, REGULAR | 0o600, 7, 0)) + opened(handle), made=8, written=[4])
+    talk.say(WRITE, 8, write_in(0, data), 7, reply=written(5000), written=[8])
+    talk.say(RENAME, ROOT, struct.pack("<Q", 2) + b"pub\0temporary\0", 7, error=errno.EACCES)
+    talk.say(READ, 8, read_in(4095, 2, handle), 7, reply=data[4095:4097])
+    talk.say(UNLINK, 2, b"temporary\0", 7, reply=b"", written=[4])
+    talk.say(READ, 8, read_in(0, 8192, handle), 7, reply=data)
+    talk.say(READ, 8, read_in(4095, 2, handle), 7, reply=data[4095:4097])
+    talk.say(READ, 5, read_in(0, 3, handle), 8, error=errno.EACCES)
+    talk.say(GETATTR, 8, bytes(16), 7, reply=attr_out(attr(8, REGULAR | 0o600, 7, 0, 5000, links=0)))
+    talk.say(WRITE, 8, write_in(0, b"x"), 7, error=errno.ESTALE)
+    talk.release(8, handle)
+    talk.say(READ, 8, read_in(0, 8192, handle), 7, error=errno.ESTALE)
 
 
 def rest(talk):
@@ -280,7 +339,7 @@ def main():
     if len(sys.argv) != 2:
         sys.exit(__doc__)
     talk = Talk()
-    for part in (beginning, files, attributes, names, pieces, flags, closed, run, rest):
+    for part in (beginning, files, attributes, names, pieces, flags, closed, run, removed, rest):
         part(talk)
     folder = Path(sys.argv[1])
     (folder / "stdin").write_bytes(talk.messages)

@@ -30,14 +30,17 @@ use Rattle.lfs_fuse_wire.specs.Said.{Said, init, destroy, lookup, forget, batch_
 use Rattle.lfs_fuse_wire.specs.Said.{setattr, access, mknod, mkdir, create, unlink, rmdir, rename, opening, read}
 use Rattle.lfs_fuse_wire.specs.Said.{write, flush, release, fsync, opendir, readdir, readdirplus, releasedir}
 use Rattle.lfs_fuse_wire.specs.Said.{fsyncdir, statfs, ioctl, unserved, unknown}
-use Rattle.lfs_mount.specs.Answered.{IsHeard}
+use Rattle.lfs_mount.specs.Answered.{IsHeard, IsToldDated, IsToldKept}
 use Rattle.lfs_mount.specs.Handled.{Behind, BehindFree, BehindMissing, GoesOnFlags, IsCalledOnce, IsDone, IsFlagged}
 use Rattle.lfs_mount.specs.Handled.{IsHandled, IsIdle, IsLookedAt, IsMade, IsReleased, IsRename, IsRenamed}
 use Rattle.lfs_mount.specs.Handled.{IsRenamedToFree, IsSet, IsSetAttr, IsSetJudged, IsTold, Unless, is_missing}
 use Rattle.lfs_mount.specs.Making.{AreMade, calls_as}
+use Rattle.lfs_mount.specs.Opens.{OnKept, kept_for}
 use Rattle.lfs_mount.specs.Runs.{GoesOn}
 use Rattle.lfs_mount.specs.declared.mount.Beside.{Beside}
 use Rattle.lfs_mount.specs.declared.mount.Sizes.{Sizes}
+use Rattle.lfs_mount.specs.declared.kept.Kept.{Kept}
+use Rattle.lfs_mount.proofs.LookedLemmas.{look_goes}
 use Rattle.lfs_mount.proofs.TendingLemmas.{goes_on_again, goes_on_none}
 
 module _ {F : Type 0} (state : F → StoreState) (is_settled : F → Type 0) (caller : Caller) where
@@ -216,6 +219,25 @@ module _ {F : Type 0} (state : F → StoreState) (is_settled : F → Type 0) (ca
     told_goes sizes due (unserved kind) old new h = idle_goes _ reply old new h
     told_goes sizes due (unknown number) old new h = idle_goes _ reply old new h
 
+  dated_goes : (sizes : Sizes) (now : Time) (nodes : Parts) (node : ℕ) (message : Said) (reply : Told)
+      (old new : Seen F) (before after : Beside)
+      → IsToldDated state is_settled sizes now caller nodes node message reply old new before after
+      → GoesOn state old new
+  dated_goes sizes now nodes node message reply old new before after h =
+      goes_on_again state old h.between new (look_goes state old h.between h.looked)
+      (told_goes _ node h.told sizes _ message h.between new h.is)
+
+  -- what is kept is told without a call
+  kept_goes : (sizes : Sizes) (now : Time) (nodes : Parts) (node : ℕ) (message : Said) (reply : Told)
+      (old new : Seen F) (before after : Beside) (o : Option Kept)
+      → OnKept o (IsToldKept message reply old new before after)
+      (IsToldDated state is_settled sizes now caller nodes node message reply old new before after)
+      → GoesOn state old new
+  kept_goes sizes now nodes node message reply old new before after (Some kept) h =
+      goes_on_none state old new h.none
+  kept_goes sizes now nodes node message reply old new before after None h =
+      dated_goes sizes now nodes node message reply old new before after h
+
 -- what comes of bytes, by whether they are a message
 pub heard_goes : {F : Type 0} (state : F → StoreState) (is_settled : F → Type 0) (sizes : Sizes) (now : Time)
     (caller : Caller) (nodes : Parts) (node : ℕ) (message : Option Said) (reply : Told) (wanted : Bool)
@@ -225,4 +247,5 @@ pub heard_goes : {F : Type 0} (state : F → StoreState) (is_settled : F → Typ
 heard_goes state is_settled sizes now caller nodes node None reply wanted old new before after h =
     goes_on_none state old new h.2
 heard_goes state is_settled sizes now caller nodes node (Some message) reply wanted old new before after h =
-    told_goes state is_settled caller _ node h.0.told sizes _ message old new h.0.is
+    kept_goes state is_settled caller sizes now nodes node message reply old new before after
+    (kept_for nodes message before.opens.files.items node caller) h.0

@@ -1,7 +1,11 @@
 pub mod GoingLemmas
 pub mod HandledLemmas
 pub mod JudgedLemmas
+pub mod KeptLemmas
+pub mod LookedLemmas
 pub mod MakingLemmas
+pub mod OpensLemmas
+pub mod PartLemmas
 pub mod RoomLemmas
 pub mod SettleLemmas
 pub mod ShownLemmas

@@ -1,5 +1,5 @@
 -- What comes of the bytes of a message.
-use Rattle.std.specs.Prelude.{◌≡◌, ℕ, Bool, true, false, List, ◌++◌, Option, None, Some}
+use Rattle.std.specs.Prelude.{◌≡◌, ℕ, Bool, true, false, List, ◌++◌, Option, None, Some, IfSome, IsSome}
 use Rattle.lfs_types.specs.Caller.{Caller}
 use Rattle.lfs_types.specs.StoreStates.{StoreState}
 use Rattle.lfs_volume.specs.Seen.{Seen}
@@ -21,8 +21,12 @@ use Rattle.lfs_stamps.specs.Change.{change_of, other_node}
 use Rattle.lfs_stamps.specs.Times.{dated, stamped}
 use Rattle.lfs_mount.specs.Handled.{IsTold, hangs_in}
 use Rattle.lfs_mount.specs.Loans.{due, noted, with_handle}
+use Rattle.lfs_mount.specs.Opens.{AreLeft, ArePreparedFor, IsFree, IsLastLook, IsLeaving, IsLooked, OnKept, TellsKept}
+use Rattle.lfs_mount.specs.Opens.{kept_for, opened_on}
 use Rattle.lfs_mount.specs.declared.mount.Beside.{Beside}
 use Rattle.lfs_mount.specs.declared.mount.Sizes.{Sizes}
+use Rattle.lfs_mount.specs.declared.kept.Kept.{Kept}
+use Rattle.lfs_mount.specs.declared.kept.OpenFile.{OpenFile}
 
 -- the inode number of each node of a mount
 abbrev pub rows_in : Parts → ℕ → Option ℕ
@@ -37,21 +41,47 @@ abbrev pub live_in : Parts → ℕ → Option ℕ
 live_in parts node = live_of (hang_in (known parts node)) (rows_in parts node)
 
 -- What comes of a message that comes now: its calls; the files that it changed, as what is told of it says, have the
--- present time, all others keep theirs, and attributes are told with their times; and what is put down of files that
--- are made with more than their mode.
+-- present time, all others keep theirs, and attributes are told with their times; what is put down of files that are
+-- made with more than their mode; and which files are open then. Before a node is taken from its place, its file may be
+-- looked at as each who opened it, which changes nothing that the store shows.
 pub record IsToldDated {F : Type 0} (state : F → StoreState) (is_settled : F → Type 0)
     (sizes : Sizes) (now : Time)
     (caller : Caller) (nodes : Parts) (node : ℕ) (message : Said) (reply : Told) (old new : Seen F)
     (before after : Beside) : Type 0 where
   pub told : Told
+  pub between : Seen F
+  pub left : Option ℕ
+  pub leaves : IfSome left (IsLeaving nodes node message)
+  pub looked : IsLooked state old between
+  pub prepared : List (Option OpenFile)
+  pub kept : ArePreparedFor (IsLastLook state before.times.stamps.items nodes old) left
+      before.opens.files.items prepared
   pub is : IsTold state is_settled sizes (due message before.loans.modes.items (live_in nodes node))
       caller
-      (hangs_in nodes) node message told old new
+      (hangs_in nodes) node message told between new
   pub times : after.times.stamps.items ≡ stamped now (rows_in nodes node)
       (rows_in nodes (other_node message))
       (change_of message told) before.times.stamps.items
   pub loans : after.loans.modes.items ≡ noted message told before.loans.modes.items
-  pub shown : reply ≡ dated after.times.stamps.items (with_handle message told)
+  pub slot : Option ℕ
+  pub free : IfSome slot (λ s. IsFree prepared s × IsSome (opened_on message node told))
+  pub opens : AreLeft message node caller told left slot prepared after.opens.files.items
+  pub shown : reply ≡ dated after.times.stamps.items (with_handle slot message told)
+
+-- A message about a file that was removed while it was open: what is kept of that is told, and no call is made.
+pub record IsToldKept {F : Type 0} (message : Said) (reply : Told) (old new : Seen F)
+    (before after : Beside) (kept : Kept) : Type 0 where
+  pub tells : TellsKept message kept reply
+  pub none : new ≡ old
+  pub beside : after ≡ before
+
+-- what comes of a message: what is kept that answers it, or its calls
+abbrev pub IsToldKeptOrDated : {F : Type 0} → (F → StoreState) → (F → Type 0) → Sizes → Time
+    → Caller → Parts → ℕ → Said → Told → Seen F → Seen F → Beside → Beside → Type 0
+IsToldKeptOrDated state is_settled sizes now caller nodes node message reply old new before after =
+    OnKept (kept_for nodes message before.opens.files.items node caller)
+    (IsToldKept message reply old new before after)
+    (IsToldDated state is_settled sizes now caller nodes node message reply old new before after)
 
 -- what comes of a message, or of bytes that are none: those are EINVAL, and no call is made; and whether a reply is
 -- wanted
@@ -62,7 +92,7 @@ IsHeard state is_settled sizes now caller nodes node None reply wanted old new b
     (reply ≡ Error EINVAL) × (wanted ≡ true) × (new ≡ old) × (after ≡ before)
 IsHeard state is_settled sizes now caller nodes node
     (Some message) reply wanted old new before after =
-    IsToldDated state is_settled sizes now caller nodes node message reply old new before after
+    IsToldKeptOrDated state is_settled sizes now caller nodes node message reply old new before after
     × (wanted ≡ has_reply message)
 
 -- bytes, with the reply to the message of this number behind them, or with none

@@ -3,6 +3,7 @@ pub mod Flags
 pub mod Handled
 pub mod Loans
 pub mod Making
+pub mod Opens
 pub mod Room
 pub mod Runs
 pub mod Tending

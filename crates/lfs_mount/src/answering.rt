@@ -1,14 +1,18 @@
 //! One message, and its reply.
 
-ghost use Rattle.std.specs.Prelude.{◌≡◌, OnOk};
+ghost use Rattle.std.specs.Prelude.{◌≡◌, IsSomeAnd, None, OnOk, min};
+ghost use Rattle.lfs_types.specs.Stored.{slice_of};
+ghost use Rattle.lfs_fuse_calls.specs.Telling.{TellsBytes};
 ghost use Rattle.lfs_fuse_wire.specs.Said.{said};
 ghost use Rattle.lfs_fuse_wire.specs.Views.{view};
-ghost use Rattle.lfs_mount.specs.Answered.{IsAnswered, IsHeard, IsToldDated, live_in, replied};
+ghost use Rattle.lfs_mount.specs.Answered.{IsAnswered, IsHeard, IsToldDated, IsToldKeptOrDated, live_in, replied};
+ghost use Rattle.lfs_mount.specs.Opens.{OnKept, TellsKept, kept_for};
 ghost use Rattle.lfs_mount.specs.Runs.{GoesOn};
 ghost use Rattle.lfs_mount.specs.Trees.{StayTrue};
 
 use crate::loans::with_handle;
 use crate::mount::Mount;
+use crate::room::MAX_WRITE;
 use lfs_fuse_calls::caller::caller;
 use lfs_fuse_calls::told::Told;
 use lfs_fuse_reply::errno::Errno;
@@ -32,10 +36,75 @@ fn append_if(is_wanted: bool, told: &Told, out: &mut Vec<u8>, unique: u64) -> Re
     }
 }
 
+/// At most so many of a file's bytes from a place on, as a read is told them.
+fn part_told(alloc: Global, bytes: &[u8], offset: u64, size: u32) -> Told
+    ensures { TellsBytes (slice_of bytes.now offset (min size 131072)) result }
+{
+    let start = offset.min(bytes.len() as u64) as usize;
+    let behind = &bytes[start..];
+    let count = (size.min(MAX_WRITE) as usize).min(behind.len());
+    match Vec::from_slice(alloc, &behind[..count]) {
+        Ok(part) => Told::Bytes(part),
+        Err(_) => Told::Error(Errno::ENOMEM),
+    }
+}
+
 impl<F: FileStore + Drop> Mount<F> {
-    /// What a message comes to, which comes now: what it changed has the present time, and attributes are told with
-    /// their times.
+    /// What is told of a file that was removed while it was open, where that answers a message.
+    fn kept_told(
+        &self,
+        alloc: Global,
+        node: u64,
+        message: &Message<'_>,
+        cred: &Cred,
+    ) -> Option<Told>
+        ensures { OnKept (kept_for self.now.tree.nodes (view message.now)
+            self.now.beside.opens.files.items node cred.now)
+            (λ kept. IsSomeAnd result (TellsKept (view message.now) kept)) (result ≡ None) }
+    {
+        if !self.tree.nodes.is_gone(NodeId(node)) {
+            return None;
+        }
+        match message {
+            Message::Read(fields) => {
+                let kept = self.beside.opens.by_handle(fields.handle, node, cred)?;
+                Some(part_told(alloc, kept.bytes.as_slice(), fields.offset, fields.size))
+            }
+            Message::GetAttr(_) => {
+                let kept = self.beside.opens.by_node(node, cred)?;
+                Some(Told::Attr(kept.attr))
+            }
+            _ => None,
+        }
+    }
+
+    #[tactic(auto, using(crate::proofs::KeptLemmas::told_kept, crate::proofs::KeptLemmas::told_dated))]
+    /// What a message comes to, which comes now: what is kept of a file that was removed, or its calls.
     fn told(
+        &mut self,
+        alloc: Global,
+        now: Time,
+        node: u64,
+        message: &Message<'_>,
+        cred: &Cred,
+    ) -> Told
+        ensures told { IsToldKeptOrDated F.state F.is_settled self.old.sizes now cred.now
+            self.old.tree.nodes node
+            (view message.now) result self.old.tree.volume self.new.tree.volume
+            self.old.beside self.new.beside }
+        ensures stay { StayTrue F.state self.old.tree.volume self.old.tree.nodes
+            self.new.tree.volume self.new.tree.nodes }
+        ensures sizes { self.new.sizes ≡ self.old.sizes }
+    {
+        match self.kept_told(alloc, node, message, cred) {
+            Some(told) => told,
+            None => self.called(alloc, now, node, message, cred),
+        }
+    }
+
+    /// What the calls of a message come to, which comes now: what it changed has the present time, and attributes are
+    /// told with their times. Of a file that it removes, and that is open, the bytes are kept.
+    fn called(
         &mut self,
         alloc: Global,
         now: Time,
@@ -55,11 +124,13 @@ impl<F: FileStore + Drop> Mount<F> {
         let other = self.tree.nodes.row(NodeId(other_node(message)));
         let live = self.live_row(node);
         let due = self.beside.loans.due(message, live);
+        let left = self.prepare(alloc, node, message);
         let told = self.tree.told(alloc, self.sizes, due, node, message, cred);
         let change = change_of(message, &told);
         self.beside.loans.note(message, &told);
+        let slot = self.beside.opens.note(message, node, &told, cred, left);
         self.beside.times.stamp(now, row, other, &change);
-        self.beside.times.dated(with_handle(message, told))
+        self.beside.times.dated(with_handle(slot, message, told))
     }
 
     /// The inode number of a node that isn't gone.

@@ -1,18 +1,16 @@
 //! Files that were made with more than their mode, so that who made them can fill them, until they are closed.
 
-ghost use Rattle.std.specs.Prelude.{◌≡◌, IfOk, None, replicate, slice_set};
+ghost use Rattle.std.specs.Prelude.{◌≡◌, ◌<◌, IfOk, IfSome, None, replicate, slice_set};
 ghost use Rattle.lfs_fuse_wire.specs.Views.{view};
-ghost use Rattle.lfs_mount.specs.Loans.{due, due_at, handle_for, noted, with_handle};
+ghost use Rattle.lfs_mount.specs.Loans.{due, due_at, handle_for, noted, told_with, with_handle};
 
+use crate::opens::handle_of;
 use lfs_fuse_calls::asked::due_mode;
 use lfs_fuse_calls::told::Told;
 use lfs_fuse_reply::reply::Opened;
 use lfs_fuse_wire::message::Message;
 use lfs_types::mode::Mode;
 use std::alloc::{AllocError, Global};
-
-/// The handle of a file that was made with more than its mode. Others have 0.
-const LENT: u64 = 1;
 
 /// The mode that the file of each inode number gets once it is closed, where it was made with another and has got
 /// none since.
@@ -21,32 +19,49 @@ pub struct Loans {
     modes: Vec<Option<Mode>>,
 }
 
-/// The handle of a file that is made, and gets this mode once it is closed.
-fn handle_for(mode: Option<Mode>) -> u64
-    ensures { result ≡ handle_for mode }
+/// The handle of a file in a slot, which gets this mode once it is closed: an odd one, if there is such a mode.
+fn handle_for(slot: Option<usize>, mode: Option<Mode>) -> u64
+    requires { IfSome slot (λ s. s < 256) }
+    ensures { result ≡ handle_for slot mode }
 {
     match mode {
-        Some(_) => LENT,
-        None => 0,
+        Some(_) => handle_of(slot) + 1,
+        None => handle_of(slot),
     }
 }
 
-/// What is told of a message, with the handle of a file that it made.
-pub(crate) fn with_handle(message: &Message<'_>, told: Told) -> Told
-    ensures { result ≡ with_handle (view message.now) told }
+/// What is told of a file that was opened, with this handle.
+fn told_with(handle: u64, told: Told) -> Told
+    ensures { result ≡ told_with handle told }
 {
-    let Message::Create(fields, _) = message else {
-        return told;
-    };
     match told {
         Told::Create(entry, opened) => Told::Create(
             entry,
             Opened {
-                handle: handle_for(due_mode(fields.permissions)),
+                handle,
                 direct_io: opened.direct_io,
             },
         ),
+        Told::Open(opened) => Told::Open(Opened {
+            handle,
+            direct_io: opened.direct_io,
+        }),
         other => other,
+    }
+}
+
+/// What is told of a message, with the handle of a file that it opened.
+pub(crate) fn with_handle(slot: Option<usize>, message: &Message<'_>, told: Told) -> Told
+    requires { IfSome slot (λ s. s < 256) }
+    ensures { result ≡ with_handle slot (view message.now) told }
+{
+    match message {
+        Message::Create(fields, _) => {
+            let handle = handle_for(slot, due_mode(fields.permissions));
+            told_with(handle, told)
+        }
+        Message::Open(_) => told_with(handle_for(slot, None), told),
+        _ => told,
     }
 }
 
@@ -76,7 +91,7 @@ impl Loans {
     {
         match message {
             Message::Release(fields) => {
-                if fields.handle == LENT {
+                if fields.handle % 2 == 1 {
                     self.at(row)
                 } else {
                     None

@@ -6,6 +6,7 @@ ghost use Rattle.lfs_mount.specs.Trees.{AreTrue};
 
 use crate::listing::Listings;
 use crate::loans::Loans;
+use crate::opens::Opens;
 use crate::tree::Tree;
 use lfs_fuse_wire::attributes::Time;
 use lfs_nodes::Nodes;
@@ -23,11 +24,12 @@ pub struct Sizes {
     pub inodes: u32,
 }
 
-/// What a mount keeps of files beside its volume, by inode number.
+/// What a mount keeps of files beside its volume: by inode number, and of those that are open to be read.
 #[derive(Drop)]
 pub struct Beside {
     pub(crate) times: Times,
     pub(crate) loans: Loans,
+    pub(crate) opens: Opens,
 }
 
 /// A volume, the nodes by which the kernel calls its files, and what is kept of these beside it.
@@ -56,6 +58,7 @@ impl<F: FileStore + Drop> Mount<F> {
         let beside = Beside {
             times: Times::new(alloc, sizes.inodes, now)?,
             loans: Loans::new(alloc, sizes.inodes)?,
+            opens: Opens::new(alloc)?,
         };
         let nodes = Nodes::new(alloc)?;
         let tree = Tree {

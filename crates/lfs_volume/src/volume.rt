@@ -25,6 +25,7 @@ ghost use Rattle.lfs_volume.specs.StepRuns.{AreLegalAlone, AreSteps, IsActMade};
 
 use crate::cleaning::{cleaned, outcome};
 use lfs_calls::not_served::answered;
+use lfs_calls::reading::read;
 use lfs_calls::serving::serve;
 use lfs_calls::tree::Tree;
 use lfs_explain::explain::{Explanation, explain};
@@ -37,6 +38,7 @@ use lfs_types::cleaned::CleanedStore;
 use lfs_types::cleaner::CleanerCall;
 use lfs_types::cred::Cred;
 use lfs_types::level::Level;
+use lfs_types::path::Path;
 use lfs_types::request::Request;
 use lfs_types::store::FileStore;
 use std::alloc::{AllocError, Global};
@@ -258,6 +260,18 @@ impl<F: FileStore + Drop> Volume<F> {
     {
         let alloc = *self.journal.allocator();
         explain(alloc, &mut self.store, self.level, cred, request)
+    }
+
+    /// What a Read would be answered now, on the tree that the journal leads to, without making it: nothing is entered, and
+    /// the store stays in its state.
+    pub fn show(&mut self, cred: &Cred, path: &Path, off: u64, len: u32) -> Answer
+        ensures outcome { AtPresent F.state self.old (λ w. IsOutcome (F.state self.old.store) w
+            cred.now (Request.Read path.now off len) result) }
+        ensures state { F.state self.new.store ≡ F.state self.old.store }
+        ensures others { self.new ≡ record self.old { store = self.new.store } }
+    {
+        let alloc = *self.journal.allocator();
+        answered(read(alloc, &mut self.store, cred, path, off, len))
     }
 
     /// Hands out the entries, and goes on from the present tree with an empty journal, whose room is handed in. The entries

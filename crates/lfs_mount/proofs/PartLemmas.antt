@@ -1,0 +1,60 @@
+-- A file's bytes, read in parts one behind the other.
+use Rattle.std.proofs.Common.{◌≡◌, ℕ, zero, suc, ◌+◌, ◌<◌, List, [], ◌∷◌, ◌++◌, ◌∙◌, length, take, drop, refl, sym, ap}
+use Rattle.std.proofs.Common.{subst, arith, append_assoc, length-append}
+use Rattle.std.proofs.lemmas.List.{drop-drop}
+use Rattle.lfs_types.specs.Caller.{Caller}
+use Rattle.lfs_types.specs.Tree.{World}
+use Rattle.lfs_mount.specs.Opens.{IsPiece, IsReadBy, bytes_at}
+
+part_rest : (k : ℕ) (rest : List ℕ) → take k rest ++ drop (length (take k rest)) rest ≡ rest
+part_rest zero rest = refl
+part_rest (suc k) [] = refl
+part_rest (suc k) (x ∷ rest) = ap (λ l. x ∷ l) (part_rest k rest)
+
+short_part : (k : ℕ) (rest : List ℕ) → length (take k rest) < k → take k rest ≡ rest
+short_part zero rest short = absurd (omega (arith, short))
+short_part (suc k) [] short = refl
+short_part (suc k) (x ∷ rest) short = ap (λ l. x ∷ l) (short_part k rest (omega (arith, short)))
+
+-- with one part more the bytes so far and the rest are still all
+pub next_part : (bytes piece all : List ℕ) (k : ℕ) → bytes ++ drop (length bytes) all ≡ all
+    → piece ≡ take k (drop (length bytes) all)
+    → (bytes ++ piece) ++ drop (length (bytes ++ piece)) all ≡ all
+next_part bytes piece all k whole is =
+    let rest = drop (length bytes) all in
+    let left : drop (length (bytes ++ piece)) all ≡ drop (length piece) rest =
+    ap (λ n. drop n all) (length-append bytes piece) ∙ sym (drop-drop (length piece) (length bytes) all) in
+    let joined : piece ++ drop (length piece) rest ≡ rest =
+    subst (λ p. p ++ drop (length p) rest ≡ rest) (sym is) (part_rest k rest) in
+    ap (λ l. (bytes ++ piece) ++ l) left ∙ append_assoc bytes piece (drop (length piece) rest)
+    ∙ ap (λ l. bytes ++ l) joined ∙ whole
+
+-- a part that is short is the last
+pub last_part : (bytes piece all : List ℕ) (k : ℕ) → bytes ++ drop (length bytes) all ≡ all
+    → piece ≡ take k (drop (length bytes) all) → length piece < k → bytes ++ piece ≡ all
+last_part bytes piece all k whole is short =
+    let rest = drop (length bytes) all in
+    ap (λ l. bytes ++ l) (is ∙ short_part k rest (subst (λ p. length p < k) is short)) ∙ whole
+
+-- ---- what somebody reads so
+
+-- the last piece is read
+pub read_last : (w : World) (caller : Caller) (path : List (List ℕ)) (bytes piece after : List ℕ) (off : ℕ)
+    → IsPiece w caller path off piece → off ≡ length bytes
+    → bytes ++ drop (length bytes) (bytes_at w path) ≡ bytes_at w path → length piece < 4096
+    → after ≡ bytes ++ piece → IsReadBy w caller path after
+read_last w caller path bytes piece after off here e whole short is = record {
+  allowed = here.allowed;
+  all = is ∙ last_part bytes piece (bytes_at w path) 4096 whole
+      (here.piece ∙ ap (λ n. take 4096 (drop n (bytes_at w path))) e) short;
+}
+
+-- a piece more is read
+pub read_on : (w : World) (caller : Caller) (path : List (List ℕ)) (bytes piece after : List ℕ) (off : ℕ)
+    → IsPiece w caller path off piece → off ≡ length bytes
+    → bytes ++ drop (length bytes) (bytes_at w path) ≡ bytes_at w path → after ≡ bytes ++ piece
+    → after ++ drop (length after) (bytes_at w path) ≡ bytes_at w path
+read_on w caller path bytes piece after off here e whole is =
+    subst (λ l. l ++ drop (length l) (bytes_at w path) ≡ bytes_at w path) (sym is)
+    (next_part bytes piece (bytes_at w path) 4096 whole
+    (here.piece ∙ ap (λ n. take 4096 (drop n (bytes_at w path))) e))

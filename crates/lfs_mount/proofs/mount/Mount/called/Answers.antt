@@ -1,0 +1,76 @@
+use Rattle.std.proofs.Common.{◌≡◌, ℕ, Option, ◌∙◌, ap, subst}
+use Rattle.lfs_fuse_wire.specs.Views.{view}
+use Rattle.lfs_stamps.specs.Change.{change_of, other_node}
+use Rattle.lfs_stamps.specs.Times.{dated, stamped}
+use Rattle.lfs_stamps.specs.declared.change.Change.{Change}
+use Rattle.lfs_stamps.specs.declared.times.Times.{Times}
+use Rattle.lfs_nodes.specs.declared.parts.Parts.{Parts}
+use Rattle.lfs_fuse_calls.specs.declared.told.Told.{Told}
+use Rattle.lfs_mount.specs.Answered.{IsToldDated, live_in, rows_in}
+use Rattle.lfs_mount.specs.Handled.{IsTold, hangs_in}
+use Rattle.lfs_mount.specs.Loans.{due, noted}
+use Rattle.lfs_mount.specs.Trees.{StayTrue}
+use Rattle.lfs_mount.specs.declared.loans.Loans.{Loans}
+use Rattle.lfs_mount.specs.declared.mount.Sizes.{Sizes}
+use Rattle.lfs_mount.proofs.LookedLemmas.{look_then_stays}
+use Rattle.lfs_mount.proofs.mount.Mount.called.Goals as goal
+
+pub returns-clause-told : goal.returns-clause-told
+returns-clause-told g c =
+    let state = g.F.FileStore.state in
+    let settled = g.F.FileStore.is_settled in
+    let before = c.args.self.now.beside in
+    let nodes = c.args.self.now.tree.nodes in
+    let sizes = c.args.self.now.sizes in
+    let node = c.args.node in
+    let who = c.args.cred.now in
+    let said = view c.args.message.now in
+    let now = c.args.now in
+    let left = c.prepare-left.new.self in
+    let told = c.told-told.result in
+    let new = c.told-told.new.self.volume in
+    let given : c.due-due.result ≡ due said before.loans.modes.items (live_in nodes node) =
+    c.due-due.ensures ∙ ap (λ (row : Option ℕ). due said before.loans.modes.items row) c.live_row-live.ensures in
+    let times = left.beside.times.stamps.items in
+    let row = c.row-row.result in
+    let other = c.row-other.result in
+    let change = c.change_of-change.result in
+    let elsewhere : other ≡ rows_in nodes (other_node said) =
+    c.row-other.ensures ∙ ap (λ (n : ℕ). rows_in nodes n) c.other_node.ensures in
+    record {
+      told = told;
+      between = left.tree.volume;
+      left = c.prepare-left.result;
+      leaves = c.prepare-left.ensures.leaves;
+      looked = c.prepare-left.ensures.looked;
+      prepared = left.beside.opens.files.items;
+      kept = c.prepare-left.ensures.kept;
+      is = subst (λ (d : Option ℕ). IsTold state settled sizes d who (hangs_in nodes) node said told left.tree.volume
+          new) given
+          (subst (λ (n : Parts). IsTold state settled sizes c.due-due.result who (hangs_in n) node said told
+          left.tree.volume new) c.prepare-left.ensures.nodes
+          (subst (λ (s : Sizes). IsTold state settled s c.due-due.result who (hangs_in left.tree.nodes) node said told
+          left.tree.volume new) c.prepare-left.ensures.sizes c.told-told.ensures.told));
+      times = c.stamp.ensures
+          ∙ ap (λ (r : Option ℕ). stamped now r other change times) c.row-row.ensures
+          ∙ ap (λ (r : Option ℕ). stamped now (rows_in nodes node) r change times) elsewhere
+          ∙ ap (λ (it : Change). stamped now (rows_in nodes node) (rows_in nodes (other_node said)) it times)
+          c.change_of-change.ensures
+          ∙ ap (λ (t : Times). stamped now (rows_in nodes node) (rows_in nodes (other_node said))
+          (change_of said told) t.stamps.items) c.prepare-left.ensures.times;
+      loans = c.note.ensures ∙ ap (λ (l : Loans). noted said told l.modes.items) c.prepare-left.ensures.loans;
+      slot = c.note-slot.result;
+      free = c.note-slot.ensures.free;
+      opens = c.note-slot.ensures.files;
+      shown = c.dated.ensures ∙ ap (λ (t : Told). dated c.stamp.new.self.stamps.items t) c.with_handle.ensures;
+    }
+
+pub returns-clause-stay : goal.returns-clause-stay
+returns-clause-stay g c =
+    let state = g.F.FileStore.state in
+    let left = c.prepare-left.new.self in
+    let new = c.told-told.new.self in
+    look_then_stays state c.args.self.now.tree.nodes new.nodes c.args.self.now.tree.volume left.tree.volume new.volume
+    c.prepare-left.ensures.looked
+    (subst (λ (n : Parts). StayTrue state left.tree.volume n new.volume new.nodes) c.prepare-left.ensures.nodes
+    c.told-told.ensures.stay)
