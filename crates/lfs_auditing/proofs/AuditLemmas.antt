@@ -1,7 +1,7 @@
 -- An audit that reads on.
-use Rattle.std.proofs.Common.{◌≡◌, ℕ, ◌+◌, List, [], ◌∷◌, ◌++◌, length, Option, None, Some, sym, ap, subst, ◌∙◌, arith}
+use Rattle.std.proofs.Common.{◌≡◌, ℕ, ◌+◌, List, [], ◌∷◌, ◌++◌, length, Option, sym, ap, subst, ◌∙◌, arith}
 use Rattle.std.proofs.Common.{append_assoc, length-append}
-use Rattle.std.specs.Prelude.{Ok, Err, Result}
+use Rattle.std.specs.Prelude.{Ok, Err}
 use Rattle.std.specs.Io.KnownBytes.{Consumes}
 use Rattle.std.specs.List.{All}
 use Rattle.std.proofs.KnownBytes.{Consumes-nil, Consumes-trans}
@@ -13,20 +13,16 @@ use Rattle.lfs_model.specs.declared.journal.Entry.{Entry}
 use Rattle.lfs_model.specs.Steps.{after_event, world_after}
 use Rattle.lfs_model.proofs.RunLemmas.{world_after-append}
 use Rattle.lfs_words.specs.Lines.{HasNoLineFeed}
-use Rattle.lfs_journal_lines.specs.Numbering.{unnumbered}
-use Rattle.lfs_journal_lines.specs.Reading.{entry_told}
-use Rattle.lfs_journal_lines.specs.declared.fault.LineFault.{LineFault}
 use Rattle.lfs_trace.specs.Checking.{IsSameStanding, Standing, StandsAt, numbers_of}
 use Rattle.lfs_trace.specs.Errors.{IsCheckedAs, IsLegalAs}
 use Rattle.lfs_trace.proofs.ErrorLemmas.{legal_as-append}
 use Rattle.lfs_trace.specs.declared.fault.EntryFault.{EntryFault}
 use Rattle.lfs_auditing.specs.Audits.{AreTold, HasRead, HasReadOn, StopsAtLine, StopsBehind, behind}
-use Rattle.lfs_auditing.specs.Audits.{lines_text, told_as, told_of, told_there}
+use Rattle.lfs_auditing.specs.Audits.{lines_text, told_as}
 use Rattle.lfs_auditing.specs.Users.{AreCounted}
 use Rattle.lfs_auditing.specs.declared.audit.Audit.{Audit}
 use Rattle.lfs_auditing.specs.declared.audit.Stop.{Stop}
 use Rattle.lfs_auditing.specs.declared.audit.Stop.TheVariants as stops
-use Rattle.lfs_auditing.specs.declared.fault.Unread.{Unread}
 use Rattle.lfs_auditing.specs.declared.fault.Unread.TheVariants as whys
 
 -- ---- an entry more
@@ -122,36 +118,6 @@ one_more known left rest from es old new line e so feedless takes is read = reco
       (Consumes-trans known left rest (lines_text so.lines) (line ++ 10 ∷ []) so.taken takes);
   read = subst (HasRead from new) (append_assoc es so.more (e ∷ [])) read;
 }
-
--- what a line tells as the next entry's
-pub told_next : (from : World) (a : Audit) (es : List Entry) (line : List ℕ) (number : ℕ) (told : Result Entry Unread) → HasRead from a es
-    → number ≡ a.entries + 1 → told_as number line ≡ told → told_as (length es + 1) line ≡ told
-told_next from a es line number told read is e =
-    subst (λ n. told_as n line ≡ told) (is ∙ ap (λ (n : ℕ). n + 1) read.counted) e
-
--- a whole line isn't cut, nor too long
-not_cut : (read : Result Entry LineFault) → ¬ (told_there read ≡ Err whys.Cut)
-not_cut (Ok entry) e = absurd (cc)
-not_cut (Err fault) e = absurd (cc)
-
-not_long : (read : Result Entry LineFault) → ¬ (told_there read ≡ Err whys.TooLong)
-not_long (Ok entry) e = absurd (cc)
-not_long (Err fault) e = absurd (cc)
-
-never_cut : (text : Option (List ℕ)) → ¬ (told_of text ≡ Err whys.Cut)
-never_cut None e = absurd (cc)
-never_cut (Some text) e = not_cut (entry_told text) e
-
-never_long : (text : Option (List ℕ)) → ¬ (told_of text ≡ Err whys.TooLong)
-never_long None e = absurd (cc)
-never_long (Some text) e = not_long (entry_told text) e
-
-pub stops_told : (from : World) (a : Audit) (es : List Entry) (line : List ℕ) (why : Unread)
-    → told_as (length es + 1) line ≡ Err why → StopsAtLine from a es line (stops.Unread why)
-stops_told from a es line whys.Cut e = absurd (never_cut (unnumbered (length es + 1) line) e)
-stops_told from a es line whys.TooLong e = absurd (never_long (unnumbered (length es + 1) line) e)
-stops_told from a es line whys.Gap e = e
-stops_told from a es line (whys.Line fault) e = e
 
 -- behind a line that tells no legal entry
 pub stops_at : (left rest : Option (List ℕ)) (from : World) (a : Audit) (es : List Entry) (line : List ℕ) (stop : Stop)

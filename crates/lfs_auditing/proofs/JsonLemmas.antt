@@ -13,9 +13,7 @@ use Rattle.serde_json.specs.declared.value.Value.{Value}
 use Rattle.lfs_types.specs.RuleCodes.{rule_code, rules}
 use Rattle.lfs_types.specs.declared.rule.Rule.{Rule}
 use Rattle.lfs_model.specs.declared.counts.Counts.{Counts}
-use Rattle.lfs_auditing.specs.Json.{ArePlain, IsPlain, IsStopped, count, report_data, rule_data, user_data, users_data}
-use Rattle.lfs_auditing.specs.declared.audit.Stop.{Stop}
-use Rattle.lfs_auditing.specs.declared.audit.Stop.TheVariants as stops
+use Rattle.lfs_auditing.specs.Json.{ArePlain, IsPlain, count, report_data, rule_data, user_data, users_data}
 use Rattle.lfs_auditing.specs.declared.json.Parts.{Parts}
 
 -- ---- without floats
@@ -63,11 +61,6 @@ users_plain us v is = ap has_float is ∙ all_plain us
 pub report_plain : (legal : Bool) (entries : ℕ) (p : Parts) → IsPlain p.stopped → IsPlain p.users → IsPlain p.changed
     → IsPlain p.read → IsPlain p.who → has_float (report_data legal entries p) ≡ false
 report_plain legal entries p stopped users changed read who = rw (stopped, users, changed, read, who) refl
-
-pub stopped_plain : (entries : ℕ) (stop : Stop) (v : Value) → IsStopped entries stop (view v) → IsPlain v
-stopped_plain entries stops.End v is = ap has_float is
-stopped_plain entries (stops.Illegal entry) v is = ap has_float is.2
-stopped_plain entries (stops.Unread why) v is = ap has_float is.1
 
 -- ---- rules
 

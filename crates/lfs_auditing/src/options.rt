@@ -1,6 +1,8 @@
 //! What the arguments of `lfs_audit_trail` ask for.
 
 ghost use Rattle.std.specs.Prelude.{IfOk};
+ghost use Rattle.clap.specs.Values.{kind_of};
+ghost use Rattle.lfs_command.specs.Ends.{IsRefusal};
 ghost use Rattle.lfs_command.specs.Ranges.{IsBetween};
 ghost use Rattle.lfs_auditing.specs.Ranges.{IsInRange};
 
@@ -130,7 +132,9 @@ fn denials_in(matches: &ArgMatches<'_>) -> Denials {
 }
 
 /// The error of arguments that are no text, with exit code 2; or want of memory.
-pub fn not_utf8(alloc: Global) -> Error {
+pub fn not_utf8(alloc: Global) -> Error
+    ensures { IsRefusal (kind_of result) }
+{
     refusing::not_utf8(command(alloc))
 }
 

@@ -1,5 +1,8 @@
 //! What the arguments of `lfs_check` ask for.
 
+ghost use Rattle.clap.specs.Values.{kind_of};
+ghost use Rattle.lfs_command.specs.Ends.{IsRefusal};
+
 use clap::{Arg, ArgAction, Command, Error};
 use lfs_command::refusing;
 use std::alloc::{AllocError, Global};
@@ -25,7 +28,9 @@ pub fn options_of<'a, S: AsStr>(alloc: Global, words: &'a [S]) -> Result<Option<
 }
 
 /// The error of arguments that are no text, with exit code 2; or want of memory.
-pub fn not_utf8(alloc: Global) -> Error {
+pub fn not_utf8(alloc: Global) -> Error
+    ensures { IsRefusal (kind_of result) }
+{
     refusing::not_utf8(command(alloc))
 }
 

@@ -1,8 +1,7 @@
 -- The best of dirty segments, segment by segment.
-use Rattle.std.proofs.Common.{◌≡◌, ℕ, ◌+◌, ◌/◌, ◌<◌, List, length, Some, slice_index, inl, inr, arith}
-use Rattle.std.proofs.lemmas.Bool.{cases_eq, cases_lt}
+use Rattle.std.proofs.Common.{ℕ, ◌+◌, ◌/◌, ◌<◌, List, length, Some, slice_index, arith}
 use Rattle.lfs_ifile.specs.Layout.{number_at}
-use Rattle.lfs_cleaner.specs.Choosing.{IsBestBelow, IsChosen, IsDirty, IsFirst}
+use Rattle.lfs_cleaner.specs.Choosing.{IsBestBelow, IsChosen, IsDirty}
 use Rattle.lfs_cleaner.specs.declared.choosing.Candidate.{Candidate}
 
 -- four bytes make no more than four bytes do
@@ -33,27 +32,4 @@ chosen bytes bound best all is = record {
   live = best.live;
   dirty = is.0;
   first = λ other other_live h. is.2 other (all other other_live h) other_live h;
-}
-
--- it comes before each dirty segment
-first_empty : (bytes : List ℕ) (bound : ℕ) (best : Candidate) → best.live ≡ 0 → IsBestBelow bytes bound (Some best)
-    → (other other_live : ℕ) → IsDirty bytes other other_live → IsFirst best.live best.segment other_live other
-first_empty bytes bound best none is other other_live h =
-    elim (cases_lt other bound) [
-      | inl below ↦ is.2 other below other_live h
-      | inr above ↦
-          let segment : best.segment < bound = is.1 in
-          elim (cases_eq other_live 0) [
-            | inl zero ↦ inr (omega arith, omega arith)
-            | inr some ↦ inl (omega arith)
-          ]
-    ]
-
--- what was chosen below a bound and has no live bytes is chosen: from the bound on all have a higher number
-pub chosen_empty : (bytes : List ℕ) (bound : ℕ) (best : Candidate) → best.live ≡ 0 → IsBestBelow bytes bound (Some best)
-    → IsChosen bytes best.segment
-chosen_empty bytes bound best none is = record {
-  live = best.live;
-  dirty = is.0;
-  first = λ other other_live h. first_empty bytes bound best none is other other_live h;
 }

@@ -1,6 +1,8 @@
 //! Options that take a number.
 
-ghost use Rattle.std.specs.Prelude.{IfOk};
+ghost use Rattle.std.specs.Prelude.{◌≡◌, IfOk, Some};
+ghost use Rattle.clap.specs.Walk.{rule_of};
+ghost use Rattle.lfs_command.specs.Options.{number_rule};
 ghost use Rattle.lfs_command.specs.Ranges.{IsBetween};
 
 use clap::builder::ValueParser;
@@ -26,7 +28,10 @@ pub struct NumberOption {
 
 impl NumberOption {
     /// The option for the command line.
-    pub fn arg<'a>(self, alloc: Global) -> Arg<'a> {
+    pub fn arg<'a>(self, alloc: Global) -> Arg<'a>
+        ensures rule { rule_of result ≡ number_rule self }
+        ensures help { result.help ≡ Some self.help }
+    {
         Arg::new(alloc, self.name)
             .long(self.name)
             .value_name("N")
@@ -34,8 +39,9 @@ impl NumberOption {
             .help(self.help)
     }
 
-    /// The number that the matches ask for, its default where it is not given, or what is told where it is refused: it begins
-    /// with a sign. The parser has read it as a number in its range, which no clause of its says.
+    /// The number that the matches ask for, its default where it is not given, or what is told where
+    /// it is refused: it begins with a sign. The parser has read it as a number in its range, which
+    /// no clause of its says.
     pub fn number(&self, matches: &ArgMatches<'_>) -> Result<u32, &'static str>
         requires { IsBetween self.now.least self.now.most self.now.default }
         ensures { IfOk result (IsBetween self.now.least self.now.most) }

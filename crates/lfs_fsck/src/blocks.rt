@@ -19,7 +19,8 @@ use lfs_types::block::{BLOCK_SIZE, Block, ZERO_BLOCK};
 /// The bytes of a block that has this address; zeros where it has none.
 pub(crate) fn bytes_at(log: &Log, address: u32) -> &Block
     requires { address < log.now.memory.segments * 64 }
-    ensures { (number : ℕ) (way : List ℕ) → result.now ≡ bytes_via (tree_of (settled log.now) number) way address }
+    ensures { (number : ℕ) (way : List ℕ)
+        → result.now ≡ bytes_via (tree_of (settled log.now) number) way address }
 {
     if address == 0 {
         &ZERO_BLOCK

@@ -71,7 +71,8 @@ fn check_numbers(
 ) -> Result<(), LogFault>
     requires names { AreNames log.now.memory (log.now.memory.segments * 64) names.now }
     requires so_far { IsCounted log.now 0 0 counts.old.items }
-    ensures counted { OnOk result (IsCounted log.now (length log.now.tables.rows) 0 counts.new.items) }
+    ensures counted { OnOk result
+        (IsCounted log.now (length log.now.tables.rows) 0 counts.new.items) }
     ensures files { OnOk result (AreChecked log.now (length log.now.tables.rows)) }
     ensures fault { IfErr result (IsLogFaultOf log.now) }
 {
@@ -164,7 +165,8 @@ fn count_child(
     requires child { child < 128 }
     requires names { AreNames log.now.memory (log.now.memory.segments * 64) names.now }
     requires so_far { IsCounted log.now inode.now.number (271 + 128 * child) counts.old.items }
-    ensures ok { OnOk result (IsCounted log.now inode.now.number (271 + 128 * child + 128) counts.new.items) }
+    ensures ok { OnOk result
+        (IsCounted log.now inode.now.number (271 + 128 * child + 128) counts.new.items) }
     ensures fault { IfErr result (IsLogFaultOf log.now) }
 {
     if address_of(log, inode, FileBlock::Child(child as u8)) == 0 {

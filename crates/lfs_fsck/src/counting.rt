@@ -84,7 +84,8 @@ fn is_of_records(name: Option<SummaryEntry>) -> bool
 fn count(counts: &mut Vec<u64>, segment: u32, bytes: u64)
     requires inside { segment < length counts.old.items }
     requires fits { slice_index counts.old.items segment + bytes < 2 ^ 64 }
-    ensures { counts.new.items ≡ slice_set counts.old.items segment (slice_index counts.old.items segment + bytes) }
+    ensures { counts.new.items
+        ≡ slice_set counts.old.items segment (slice_index counts.old.items segment + bytes) }
 {
     counts[segment as usize] += bytes;
 }
@@ -199,7 +200,8 @@ pub(crate) fn count_block(
     requires other { code_of block ≢ 0 }
     requires names { AreNames log.now.memory (log.now.memory.segments * 64) names.now }
     requires so_far { IsCounted log.now inode.now.number (code_of block) counts.old.items }
-    ensures ok { OnOk result (IsCounted log.now inode.now.number (code_of block + 1) counts.new.items) }
+    ensures ok { OnOk result
+        (IsCounted log.now inode.now.number (code_of block + 1) counts.new.items) }
     ensures fault { IfErr result (IsLogFaultOf log.now) }
 {
     let code = block.code();

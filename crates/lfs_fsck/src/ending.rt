@@ -28,7 +28,8 @@ pub(crate) fn check_end(log: &Log) -> Result<(), LogFault>
 
 /// Whether the active segment's log goes on with a summary where the next block is put.
 fn goes_on(log: &Log) -> bool
-    ensures { IsTrue result ↔ expected_at log.now.memory log.now.memory.active (next_address log.now.memory) ≡ Some [] }
+    ensures { IsTrue result
+        ↔ expected_at log.now.memory log.now.memory.active (next_address log.now.memory) ≡ Some [] }
 {
     let mut reader = Reader::start();
     let active = log.active();
@@ -40,7 +41,8 @@ fn goes_on(log: &Log) -> bool
 
 /// NotZeros at the first block of the active segment behind the log's end that isn't zeros.
 fn check_zeros(log: &Log) -> Result<(), LogFault>
-    ensures ok { OnOk result ((a : ℕ) → next_address log.now.memory ≤ a → a < log.now.memory.active * 64 + 64
+    ensures ok { OnOk result ((a : ℕ) → next_address log.now.memory ≤ a
+        → a < log.now.memory.active * 64 + 64
         → block_at log.now.memory a ≡ zero_block) }
     ensures fault { IfErr result (IsLogFaultOf log.now) }
 {

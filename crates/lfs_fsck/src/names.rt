@@ -13,7 +13,8 @@ use std::alloc::{AllocError, Global};
 
 /// For each address of the volume the entry that the log of its segment has for it.
 pub(crate) fn names(alloc: Global, log: &Log) -> Result<Vec<Option<SummaryEntry>>, AllocError>
-    ensures { IfOk result (λ names. AreNames log.now.memory (log.now.memory.segments * 64) names.items) }
+    ensures { IfOk result
+        (λ names. AreNames log.now.memory (log.now.memory.segments * 64) names.items) }
 {
     let mut names = Vec::with_capacity(alloc, (log.segments() * SEGMENT_BLOCKS) as usize)?;
     for segment in 0..log.segments() {
@@ -46,9 +47,11 @@ fn name_at(log: &Log, reader: &mut Reader, segment: u32, address: u32) -> Option
     requires from { segment * 64 ≤ address }
     requires below { address < segment * 64 + 64 }
     requires inside { segment < log.now.memory.segments }
-    requires read { reader.old ≡ expected (log_block log.now.memory segment) (address - first_of segment) }
+    requires read { reader.old
+        ≡ expected (log_block log.now.memory segment) (address - first_of segment) }
     ensures named { result ≡ entry_at log.now.memory address }
-    ensures read { reader.new ≡ expected (log_block log.now.memory segment) (address + 1 - first_of segment) }
+    ensures read { reader.new
+        ≡ expected (log_block log.now.memory segment) (address + 1 - first_of segment) }
 {
     if address == 0 {
         return None;

@@ -52,7 +52,8 @@ impl Reader {
     /// The entry that the log has for its next block: none for a summary, and behind its end.
     pub(crate) fn pass(&mut self, block: &Block) -> Option<SummaryEntry>
         ensures named { result ≡ first_name self.old }
-        ensures next { self.new ≡ option_and_then (λ entries. after_block entries block.now) self.old }
+        ensures next { self.new
+            ≡ option_and_then (λ entries. after_block entries block.now) self.old }
     {
         if self.is_ended {
             return None;

@@ -24,7 +24,8 @@ pub(crate) fn check_tail(log: &Log, inode: &Inode) -> Result<(), LogFault>
     requires parts { IsParts log.now }
     requires own { IsRecordOf log.now inode.now }
     requires kept { (code : ℕ) → code < BLOCK_CODES → IsKept log.now inode.now.number code }
-    ensures ok { OnOk result (IsPadded (data_block (tree_of (settled log.now) inode.now.number)) inode.now.size) }
+    ensures ok { OnOk result
+        (IsPadded (data_block (tree_of (settled log.now) inode.now.number)) inode.now.size) }
     ensures fault { IfErr result (IsLogFaultOf log.now) }
 {
     let size = BLOCK_SIZE as u64;

@@ -1,6 +1,8 @@
 //! What the arguments of `lfs_fuse` ask for.
 
 ghost use Rattle.std.specs.Prelude.{IfOk};
+ghost use Rattle.clap.specs.Values.{kind_of};
+ghost use Rattle.lfs_command.specs.Ends.{IsRefusal};
 ghost use Rattle.lfs_fuse_talk.specs.Ranges.{IsInRange};
 
 use clap::{Arg, ArgAction, ArgMatches, Command, Error};
@@ -98,7 +100,9 @@ pub fn options_of<'a, S: AsStr>(alloc: Global, words: &'a [S]) -> Result<Options
 }
 
 /// The error of arguments that are no text, with exit code 2; or want of memory.
-pub fn not_utf8(alloc: Global) -> Error {
+pub fn not_utf8(alloc: Global) -> Error
+    ensures { IsRefusal (kind_of result) }
+{
     refusing::not_utf8(command(alloc))
 }
 

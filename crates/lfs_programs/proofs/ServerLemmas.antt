@@ -1,6 +1,6 @@
 -- How a run ends of the script that a reader has.
-use Rattle.std.proofs.Common.{◌≡◌, ◌≤◌, ◌<◌, ℕ, Bool, false, true, List, length, Option, None, Some, IfSome, IsSome}
-use Rattle.std.proofs.Common.{arith, inl, inr, is_some, refl, subst, sym}
+use Rattle.std.proofs.Common.{◌≡◌, ◌<◌, ℕ, Bool, false, true, List, length, Option, None, Some, IfSome, IsSome}
+use Rattle.std.proofs.Common.{arith, inl, inr, is_some, refl, subst}
 use Rattle.std.specs.Io.KnownBytes.{Keeps}
 use Rattle.lfs_audit.specs.Scripts.{IsScriptFault}
 use Rattle.lfs_audit.specs.Threads.{IsThreadsFault}
@@ -10,8 +10,7 @@ use Rattle.lfs_audit.specs.declared.fault.ThreadsFault.{ThreadsFault}
 use Rattle.lfs_audit.specs.declared.fault.ThreadsFault.TheVariants as threads
 use Rattle.lfs_io.specs.declared.read.ReadFault.{ReadFault}
 use Rattle.lfs_io.specs.declared.read.ReadFault.TheVariants as read
-use Rattle.lfs_programs.specs.Asked.{EndsRun, EndsServer, HasGotFiled, HasGotText, HasRun, IsAloneFault}
-use Rattle.lfs_programs.specs.Asked.{IsAskedFault, IsBroken, status_of}
+use Rattle.lfs_programs.specs.Asked.{EndsRun, EndsServer, HasGotFiled, IsAloneFault, IsAskedFault, IsBroken}
 use Rattle.lfs_programs.specs.declared.fault.ServerFault.{ServerFault}
 use Rattle.lfs_programs.specs.declared.fault.ServerFault.TheVariants.{Run, Open, Journal}
 use Rattle.lfs_programs.specs.declared.options.Options.{Options}
@@ -96,30 +95,6 @@ ends_run contents options (Some script) start out status out_before out_after be
     subst (λ (b : List ℕ). EndsRun contents options (Some b) start out status out_before out_after before after) whole
     ends
 
--- a run that is done
-pub ends_done : {F W D : Type 0} (contents : F → Option (List ℕ)) (options : Options)
-    (known start out : Option (List ℕ)) (status : ℕ) (out_before out_after : W) (before after : D) → status ≡ 0
-    → HasRun contents options known start out × (after ≡ before)
-    → EndsRun contents options known start out status out_before out_after before after
-ends_done contents options known start out status out_before out_after before after none done = record {
-  either = omega (arith, none);
-  done = λ _. done;
-  failed = λ some. absurd (some none);
-}
-
--- a run that ended in a fault
-pub ends_broken_run : {F W D : Type 0} (contents : F → Option (List ℕ)) (options : Options)
-    (known start out : Option (List ℕ)) (status : ℕ) (out_before out_after : W) (before after : D)
-    (fault : ServerFault) → status ≡ status_of fault → 1 ≤ status → status ≤ 2
-    → IsBroken contents options known start out out_before out_after fault
-    → EndsRun contents options known start out status out_before out_after before after
-ends_broken_run contents options known start out status out_before out_after before after fault is some few broken =
-    record {
-      either = few;
-      done = λ none. absurd (omega (arith, none, some));
-      failed = λ _. (fault, is, broken);
-    }
-
 pub keeps_same : (known : Option (List ℕ)) → Keeps known known
 keeps_same None = tt
 keeps_same (Some bytes) = refl
@@ -163,15 +138,6 @@ ends_file contents options known start out status in_before in_after out_before 
       ends = inl ends;
     }
 
--- that of the reader
-pub ends_reader : {F R W D : Type 0} (contents : F → Option (List ℕ)) (options : Options)
-    (known start out : Option (List ℕ)) (status : ℕ) (in_before in_after : R) (out_before out_after : W)
-    (err_before err_after : D)
-    → EndsRun contents options known start out status out_before out_after err_before err_after
-    → EndsServer contents options known start out status in_before in_after out_before out_after err_before err_after
-ends_reader contents options known start out status in_before in_after out_before out_after err_before err_after ends =
-    record { bytes = known; own = λ _. refl; ends = inl ends }
-
 -- that of a file which is not opened
 pub ends_unopened : {F R W D : Type 0} (contents : F → Option (List ℕ)) (options : Options)
     (known start out : Option (List ℕ)) (status : ℕ) (here : R) (there : W) (err_before err_after : D) → status ≡ 2
@@ -179,26 +145,3 @@ pub ends_unopened : {F R W D : Type 0} (contents : F → Option (List ℕ)) (opt
     → EndsServer contents options known start out status here here there there err_before err_after
 ends_unopened contents options known start out status here there err_before err_after is named =
     record { bytes = known; own = λ _. refl; ends = inr (is, named, refl, refl) }
-
--- ---- with a file of its entries or without one
-
-pub some_is : {A : Type 0} (x : Option A) (a : A) → x ≡ Some a → IsSome x
-some_is x a is = subst IsSome (sym is) refl
-
-none_some : {A : Type 0} (x : Option A) → x ≡ None → IsSome x → ⊥
-none_some None is some = absurd (cc)
-none_some (Some a) is some = absurd (cc)
-
--- a run with a file, which took all
-pub run_with_file : {F : Type 0} (contents : F → Option (List ℕ)) (options : Options)
-    (known start out : Option (List ℕ)) → IsSome options.journal_out
-    → HasGotFiled contents options true known start out → HasRun contents options known start out
-run_with_file contents options known start out some filed =
-    record { unfiled = λ none. absurd (none_some options.journal_out none some); filed = λ _. filed }
-
--- a run without a file
-pub run_without : {F : Type 0} (contents : F → Option (List ℕ)) (options : Options)
-    (known start out : Option (List ℕ)) → options.journal_out ≡ None → HasGotText options known start out
-    → HasRun contents options known start out
-run_without contents options known start out none text =
-    record { unfiled = λ _. text; filed = λ some. absurd (none_some options.journal_out none some) }

@@ -16,7 +16,7 @@ use Rattle.lfs_audit.specs.Scripts.{IsLogOutput, IsScriptFault}
 use Rattle.lfs_audit.specs.Threads.{IsThreadsFault, IsThreadsOutput, MayHaveWrittenThreads}
 use Rattle.lfs_audit.specs.declared.fault.ThreadsFault.{ThreadsFault}
 use Rattle.lfs_audit.specs.declared.fault.ThreadsFault.TheVariants as threads
-use Rattle.lfs_programs.specs.Ends.{EndsUnasked}
+use Rattle.lfs_command.specs.Ends.{EndsUnasked}
 
 -- a text is that of a run of a script as was asked: on the caller's thread, or each session on a thread of its own
 pub record IsAskedText (options : Options) (script text : List ℕ) : Type 0 where

@@ -1,5 +1,4 @@
 pub mod Asked
-pub mod Ends
 pub mod Ranges
 pub mod Talks
 pub mod Volumes

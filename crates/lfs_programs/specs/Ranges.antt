@@ -1,11 +1,7 @@
 -- The numbers that arguments may ask for.
-use Rattle.std.specs.Prelude.{ℕ, ◌≤◌}
+use Rattle.std.specs.Prelude.{ℕ}
+use Rattle.lfs_command.specs.Ranges.{IsBetween}
 use Rattle.lfs_types.specs.declared.store.Params.{Params}
-
--- a number stands between these two, or is one of them
-pub record IsBetween (least most number : ℕ) : Type 0 where
-  pub not_less : least ≤ number
-  pub not_more : number ≤ most
 
 -- a volume with these numbers may be laid out, and its journal has at least one entry and at most so many
 pub record IsInRange (journal_most : ℕ) (params : Params) : Type 0 where

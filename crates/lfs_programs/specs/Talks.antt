@@ -15,7 +15,7 @@ use Rattle.lfs_live.specs.Talking.{IsKeptTalk, has_fault_in}
 use Rattle.lfs_programs.specs.Volumes.{HasSaved, IsBegun}
 use Rattle.lfs_staging.specs.declared.parts.Parts.{Parts}
 use Rattle.lfs_volume.specs.Seen.{Seen}
-use Rattle.lfs_programs.specs.Ends.{EndsUnasked}
+use Rattle.lfs_command.specs.Ends.{EndsUnasked}
 use Rattle.lfs_programs.specs.declared.fault.FilmFault.{FilmFault}
 use Rattle.lfs_programs.specs.declared.fault.ShellFault.{ShellFault}
 use Rattle.lfs_programs.specs.declared.filming.Ending.{Ending}

@@ -112,10 +112,12 @@ pub(crate) fn hear<F: Files, R: Read, W: Write, D: Write>(
     requires filed { is_some outset.journal ≡ is_some means.now.options.journal_out }
     ensures talked { IfOk result (λ heard. HasTalked F.File.contents means.now.options heard.ending
         (R.remaining reader.old) (W.contents writer.old) (W.contents writer.new)) }
-    ensures silent { IfOk result (λ heard. heard.ending.is_kept ≡ true → heard.ending.is_saved ≡ true
-        → teller.new ≡ teller.old) }
-    ensures kept { IfOk result (λ heard. heard.ending.is_kept ≡ false → IsSome means.now.options.journal_out) }
-    ensures saved { IfOk result (λ heard. heard.ending.is_saved ≡ false → IsSome means.now.options.image) }
+    ensures silent { IfOk result (λ heard. heard.ending.is_kept ≡ true
+        → heard.ending.is_saved ≡ true → teller.new ≡ teller.old) }
+    ensures kept { IfOk result (λ heard. heard.ending.is_kept ≡ false
+        → IsSome means.now.options.journal_out) }
+    ensures saved { IfOk result (λ heard. heard.ending.is_saved ≡ false
+        → IsSome means.now.options.image) }
     ensures so_far { IfErr result (λ fault. fault ≡ Failed → HasTalkedSoFar means.now.options
         (R.remaining reader.old) (W.contents writer.old) (W.contents writer.new)) }
     ensures fault { IfErr result IsTalkFault }
@@ -171,17 +173,21 @@ fn hear_over<F: Files, J: JournalSink + Drop, R: Read, W: Write, D: Write>(
     writer: &mut W,
     teller: &mut D,
 ) -> Result<Ending, RunFault>
-    ensures heard { IfOk result (λ ending. HasBegun tended.old → HasHeard F.File.contents (sink_of J.contents J.next)
-        means.now.options ending tended.old tended.new (R.remaining reader.old) (R.remaining reader.new)
+    ensures heard { IfOk result (λ ending. HasBegun tended.old
+        → HasHeard F.File.contents (sink_of J.contents J.next) means.now.options ending
+        tended.old tended.new (R.remaining reader.old) (R.remaining reader.new)
         (W.contents writer.old) (W.contents writer.new)) }
-    ensures silent { IfOk result (λ ending. tended.new.is_open ≡ tended.old.is_open → ending.is_saved ≡ true
+    ensures silent { IfOk result (λ ending. tended.new.is_open ≡ tended.old.is_open
+        → ending.is_saved ≡ true
         → teller.new ≡ teller.old) }
     ensures opened { OnOk result (tended.new.is_open ≡ true → tended.old.is_open ≡ true) }
     ensures kept { IfOk result (λ ending. ending.is_kept ≡ true) }
-    ensures saved { IfOk result (λ ending. ending.is_saved ≡ false → IsSome means.now.options.image) }
-    ensures so_far { IfErr result (λ fault. fault ≡ Failed → HasBegun tended.old → HasKeptSoFar log_talker
-        means.now.options.framing (sink_of J.contents J.next) tended.old tended.new
-        (R.remaining reader.old) (R.remaining reader.new) (W.contents writer.old) (W.contents writer.new)) }
+    ensures saved { IfOk result (λ ending. ending.is_saved ≡ false
+        → IsSome means.now.options.image) }
+    ensures so_far { IfErr result (λ fault. fault ≡ Failed → HasBegun tended.old
+        → HasKeptSoFar log_talker means.now.options.framing (sink_of J.contents J.next)
+        tended.old tended.new (R.remaining reader.old) (R.remaining reader.new)
+        (W.contents writer.old) (W.contents writer.new)) }
     ensures fault { IfErr result IsTalkFault }
 {
     let Means {

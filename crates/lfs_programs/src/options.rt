@@ -1,32 +1,18 @@
 //! What the arguments of `lfsd` and of `lfs_shell` ask for.
 
 ghost use Rattle.std.specs.Prelude.{◌≤◌, IfOk, IsSome};
-ghost use Rattle.lfs_programs.specs.Ranges.{IsBetween, IsInRange};
+ghost use Rattle.clap.specs.Values.{kind_of};
+ghost use Rattle.lfs_command.specs.Ends.{IsRefusal};
+ghost use Rattle.lfs_command.specs.Ranges.{IsBetween};
+ghost use Rattle.lfs_programs.specs.Ranges.{IsInRange};
 
-use clap::builder::ValueParser;
-use clap::error::ErrorKind;
 use clap::{Arg, ArgAction, ArgMatches, Command, Error};
+use lfs_command::numbers::NumberOption;
+use lfs_command::refusing::{self, wrong_value};
 use lfs_live::framing::Framing;
 use lfs_types::store::Params;
 use std::alloc::{AllocError, Global};
 use std::convert::AsStr;
-
-/// An option that takes a number.
-#[derive(Clone, Copy)]
-struct NumberOption {
-    /// Its name.
-    name: &'static str,
-    /// The least number that it takes.
-    least: u32,
-    /// The greatest number that it takes.
-    most: u32,
-    /// The number where it is not given.
-    default: u32,
-    /// What `--help` tells of it.
-    help: &'static str,
-    /// What is told of a number that begins with a sign.
-    refusal: &'static str,
-}
 
 const SEGMENTS: NumberOption = NumberOption {
     name: "segments",
@@ -148,7 +134,8 @@ pub struct Options<'a> {
 /// `--version`; or want of memory.
 pub fn options_of<'a, S: AsStr>(alloc: Global, words: &'a [S]) -> Result<Options<'a>, Error>
     ensures ranges { IfOk result (λ options. IsInRange 100000 options.params) }
-    ensures window { IfOk result (λ options. IsSome options.journal_out → 128 ≤ options.params.journal) }
+    ensures window { IfOk result (λ options. IsSome options.journal_out
+        → 128 ≤ options.params.journal) }
 {
     let mut command = command(alloc)?;
     let matches = command.try_get_matches_from_mut(words)?;
@@ -202,7 +189,8 @@ pub fn shell_options_of<'a, S: AsStr>(
     words: &'a [S],
 ) -> Result<ShellOptions<'a>, Error>
     ensures ranges { IfOk result (λ options. IsInRange 1000000 options.params) }
-    ensures window { IfOk result (λ options. IsSome options.journal_out → 128 ≤ options.params.journal) }
+    ensures window { IfOk result (λ options. IsSome options.journal_out
+        → 128 ≤ options.params.journal) }
 {
     let mut command = shell_command(alloc)?;
     let matches = command.try_get_matches_from_mut(words)?;
@@ -236,8 +224,10 @@ const SMALL_WINDOW: &str = "--journal-out takes a --journal of at least 128";
 /// # Errors
 ///
 /// It is itself one, with exit code 2; or want of memory.
-pub fn not_utf8(alloc: Global) -> Error {
-    fault_of_text(command(alloc))
+pub fn not_utf8(alloc: Global) -> Error
+    ensures { IsRefusal (kind_of result) }
+{
+    refusing::not_utf8(command(alloc))
 }
 
 /// The same of `lfs_shell`.
@@ -245,24 +235,10 @@ pub fn not_utf8(alloc: Global) -> Error {
 /// # Errors
 ///
 /// As those of `not_utf8`.
-pub fn shell_not_utf8(alloc: Global) -> Error {
-    fault_of_text(shell_command(alloc))
-}
-
-/// The fault of a command whose words are no text.
-fn fault_of_text(command: Result<Command<'_>, AllocError>) -> Error {
-    match command {
-        Ok(mut command) => wrong_value(&mut command, "the arguments must be UTF-8"),
-        Err(error) => Error::from(error),
-    }
-}
-
-/// The error of a value that is refused, or want of memory.
-fn wrong_value(command: &mut Command<'_>, message: &str) -> Error {
-    match command.error(ErrorKind::ValueValidation, message) {
-        Ok(error) => error,
-        Err(error) => Error::from(error),
-    }
+pub fn shell_not_utf8(alloc: Global) -> Error
+    ensures { IsRefusal (kind_of result) }
+{
+    refusing::not_utf8(shell_command(alloc))
 }
 
 /// The parameters that the matches ask for, with this option for the journal, or what is told of the first that is refused.
@@ -271,40 +247,16 @@ fn params_in(matches: &ArgMatches<'_>, journal: &NumberOption) -> Result<Params,
     requires from_one { 1 ≤ journal.now.least }
     ensures { IfOk result (IsInRange journal.now.most) }
 {
-    let segments = number(matches, &SEGMENTS)?;
-    let inodes = number(matches, &INODES)?;
-    let frames = number(matches, &FRAMES)?;
-    let journal = number(matches, journal)?;
+    let segments = SEGMENTS.number(matches)?;
+    let inodes = INODES.number(matches)?;
+    let frames = FRAMES.number(matches)?;
+    let journal = journal.number(matches)?;
     Ok(Params {
         segments,
         inodes,
         frames,
         journal,
     })
-}
-
-/// The number that the matches ask for by an option, its default where it is not given, or what is told where it is refused:
-/// it begins with a sign. The parser has read it as a number in its range, which no clause of its says.
-fn number(matches: &ArgMatches<'_>, option: &NumberOption) -> Result<u32, &'static str>
-    requires { IsBetween option.now.least option.now.most option.now.default }
-    ensures { IfOk result (IsBetween option.now.least option.now.most) }
-{
-    if has_sign(matches, option.name) {
-        return Err(option.refusal);
-    }
-    match matches.get_one::<u32>(option.name) {
-        None => Ok(option.default),
-        Some(number) if option.least <= number && number <= option.most => Ok(number),
-        Some(_) => Err(option.refusal),
-    }
-}
-
-/// Whether the value of an argument begins with a sign.
-fn has_sign(matches: &ArgMatches<'_>, name: &str) -> bool {
-    match matches.get_str(name) {
-        Some(text) => text.starts_with('+'),
-        None => false,
-    }
 }
 
 /// The options of `lfsd`.
@@ -438,15 +390,4 @@ fn threads<'a>(alloc: Global) -> Arg<'a> {
         .help(
             "Runs session 0 first, and then each session on a thread of its own, with the cleaner beside them",
         )
-}
-
-impl NumberOption {
-    /// The option for the command line.
-    fn arg<'a>(self, alloc: Global) -> Arg<'a> {
-        Arg::new(alloc, self.name)
-            .long(self.name)
-            .value_name("N")
-            .value_parser(ValueParser::Unsigned(u64::from(self.least), u64::from(self.most)))
-            .help(self.help)
-    }
 }

@@ -3,24 +3,24 @@
 ghost use Rattle.std.specs.Prelude.{◌≡◌, ◌≤◌, ℕ, List, Some, IfErr, IfOk, IfSome, IsSome, OnOk};
 ghost use Rattle.std.specs.Io.KnownBytes.{Appends, Keeps};
 ghost use Rattle.clap.specs.Values.{kind_of};
+ghost use Rattle.lfs_command.specs.Ends.{EndsUnasked};
 ghost use Rattle.lfs_programs.specs.Ranges.{IsInRange};
 ghost use Rattle.lfs_audit.specs.Scripts.{IsLogOutput};
 ghost use Rattle.lfs_audit.specs.Threads.{MayHaveWrittenThreads};
 ghost use Rattle.lfs_programs.specs.Asked.{EndsRun, EndsServer, IsAloneFault, IsAskedFault, IsBroken, IsServerEnd, HasGotText, HasRun};
-ghost use Rattle.lfs_programs.specs.Ends.{EndsUnasked};
 
 use crate::fault::ServerFault;
 use crate::filed::{FiledRun, run_filed};
 use crate::options::{Options, not_utf8, options_of};
-use crate::refusing::refuse;
 use crate::script::open_script;
 use crate::telling::tell_fault;
-use crate::words::{NoWords, words};
 use clap::Error;
 use lfs_audit::fault::ThreadsFault;
 use lfs_audit::run::run_script;
 use lfs_audit::tell::tell;
 use lfs_audit::threads::run_threads;
+use lfs_command::refusing::refuse;
+use lfs_command::words::{NoWords, words};
 use lfs_io::read::read_script;
 use lfs_types::store::Params;
 use std::alloc::{AllocError, Global};
@@ -51,7 +51,8 @@ where
     R: Read,
     W: Write,
     D: Write,
-    ensures { IsServerEnd F.File.contents (R.remaining stdin.old) (W.contents stdout.old) (W.contents stdout.new)
+    ensures { IsServerEnd F.File.contents
+        (R.remaining stdin.old) (W.contents stdout.old) (W.contents stdout.new)
         result stdin.old stdin.new stdout.old stdout.new stderr.old stderr.new }
 {
     let alloc = env.alloc();
@@ -63,7 +64,8 @@ where
 /// What the words of a command line ask for; the first is the program's name.
 fn asked<'a>(alloc: Global, words: &'a Result<Vec<String>, NoWords>) -> Result<Options<'a>, Error>
     ensures ranges { IfOk result (λ options. IsInRange 100000 options.params) }
-    ensures window { IfOk result (λ options. IsSome options.journal_out → 128 ≤ options.params.journal) }
+    ensures window { IfOk result (λ options. IsSome options.journal_out
+        → 128 ≤ options.params.journal) }
 {
     match words {
         Ok(words) => options_of(alloc, words.as_slice()),

@@ -2,24 +2,24 @@
 
 ghost use Rattle.std.specs.Prelude.{◌≡◌, false, true, IfErr, IfOk, IsSome, MatchResult, is_some};
 ghost use Rattle.clap.specs.Values.{kind_of};
+ghost use Rattle.lfs_command.specs.Ends.{EndsUnasked};
 ghost use Rattle.lfs_programs.specs.Ranges.{IsInRange};
 ghost use Rattle.lfs_audit.specs.declared.fault.RunFault.TheVariants.{Read as Failed};
 ghost use Rattle.lfs_live.specs.Faults.{IsTalkFault};
 ghost use Rattle.lfs_programs.specs.Volumes.{IsBegun};
-ghost use Rattle.lfs_programs.specs.Ends.{EndsUnasked};
 ghost use Rattle.lfs_programs.specs.Talks.{EndsShell, EndsTalk, HasTalked, HasTalkedSoFar, IsShellEnd};
 
 use crate::fault::{OpenFault, ShellFault};
 use crate::filming::{Heard, Means, NAME, Outset, finish, hear};
 use crate::journal::make_journal;
 use crate::options::{ShellOptions, shell_not_utf8, shell_options_of};
-use crate::refusing::refuse;
 use crate::script::open_script;
 use crate::volume::begin;
-use crate::words::{NoWords, words};
 use clap::Error;
 use lfs_audit::fault::RunFault;
 use lfs_audit::tell::{end, tell};
+use lfs_command::refusing::refuse;
+use lfs_command::words::{NoWords, words};
 use lfs_logstore::LogStore;
 use lfs_volume::volume::Volume;
 use std::alloc::{AllocError, Global};
@@ -215,10 +215,12 @@ fn run<F: Files, R: Read, W: Write, D: Write>(
     requires filed { is_some outset.journal ≡ is_some means.now.options.journal_out }
     ensures talked { IfOk result (λ heard. HasTalked F.File.contents means.now.options heard.ending
         (R.remaining reader.old) (W.contents stdout.old) (W.contents stdout.new)) }
-    ensures silent { IfOk result (λ heard. heard.ending.is_kept ≡ true → heard.ending.is_saved ≡ true
-        → stderr.new ≡ stderr.old) }
-    ensures kept { IfOk result (λ heard. heard.ending.is_kept ≡ false → IsSome means.now.options.journal_out) }
-    ensures saved { IfOk result (λ heard. heard.ending.is_saved ≡ false → IsSome means.now.options.image) }
+    ensures silent { IfOk result (λ heard. heard.ending.is_kept ≡ true
+        → heard.ending.is_saved ≡ true → stderr.new ≡ stderr.old) }
+    ensures kept { IfOk result (λ heard. heard.ending.is_kept ≡ false
+        → IsSome means.now.options.journal_out) }
+    ensures saved { IfOk result (λ heard. heard.ending.is_saved ≡ false
+        → IsSome means.now.options.image) }
     ensures so_far { IfErr result (λ fault. fault ≡ Failed → HasTalkedSoFar means.now.options
         (R.remaining reader.old) (W.contents stdout.old) (W.contents stdout.new)) }
     ensures fault { IfErr result IsTalkFault }

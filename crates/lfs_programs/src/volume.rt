@@ -82,7 +82,8 @@ pub(crate) fn keep<F: Files, J: JournalSink + Drop, V: Drop, D: Write>(
     tended: &mut Tended<LogStore, J, V>,
     options: &ShellOptions<'_>,
 ) -> bool
-    ensures saved { result ≡ true → IfSome options.now.image (λ _. HasSaved F.File.contents tended.old.volume) }
+    ensures saved { result ≡ true
+        → IfSome options.now.image (λ _. HasSaved F.File.contents tended.old.volume) }
     ensures silent { result ≡ true → teller.new ≡ teller.old }
     ensures asked { result ≡ false → IsSome options.now.image }
     ensures same { tended.new ≡ record tended.old { volume = tended.new.volume } }

@@ -1,8 +1,10 @@
 //! Runs the scripts that are stored in files, and tells of each whether it prints what is stored beside it, whatever
-//! number of frames the cache has; the talks of `lfs_shell` that are stored there; and runs of `lfs_shell` with files.
+//! number of frames the cache has; the talks of `lfs_shell` that are stored there; and runs of `lfs_shell` and of `lfsd`
+//! with files.
 #![tactic(auto)]
 
 mod shell;
+mod statuses;
 mod stored;
 mod talks;
 
@@ -32,6 +34,9 @@ fn main(rt: HostRuntime) -> anyhow::Result<ExitCode> {
         }
     }
     if !shell::is_as_told(&rt)? {
+        code = ExitCode::FAILURE;
+    }
+    if !statuses::are_as_told(&rt)? {
         code = ExitCode::FAILURE;
     }
     Ok(code)

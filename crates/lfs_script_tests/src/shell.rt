@@ -8,8 +8,8 @@ use std::rt::Files;
 
 /// The words of a command line.
 #[derive(Clone, Copy)]
-struct Words<'a> {
-    words: &'a [&'a str],
+pub struct Words<'a> {
+    pub words: &'a [&'a str],
 }
 
 impl Env for Words<'_> {
@@ -35,21 +35,21 @@ impl Env for Words<'_> {
 
 /// What a run wrote, and its status.
 #[derive(Drop)]
-struct Ended {
-    status: u8,
-    out: Vec<u8>,
-    err: Vec<u8>,
+pub struct Ended {
+    pub status: u8,
+    pub out: Vec<u8>,
+    pub err: Vec<u8>,
 }
 
 impl Ended {
     /// What is told before the report.
-    fn answers(&self) -> &str {
+    pub fn answers(&self) -> &str {
         let text = str::from_utf8(self.out.as_slice()).unwrap_or_default();
         text.split("entries ").next().unwrap_or_default()
     }
 
     /// Whether all was answered, and nothing is told on standard error.
-    fn is_done(&self) -> bool {
+    pub fn is_done(&self) -> bool {
         self.status == 0 && self.err.is_empty()
     }
 }

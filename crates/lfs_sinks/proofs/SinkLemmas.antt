@@ -8,11 +8,6 @@ use Rattle.lfs_model.specs.declared.journal.Entry.{Entry}
 use Rattle.lfs_sinks.specs.Numbered.{numbered_line, numbered_text}
 use Rattle.lfs_sinks.proofs.NumberedLemmas.{numbered-joined}
 
--- nothing was collected
-pub lines_none : (start : Option (List ℕ)) (text : List ℕ) → text ≡ [] → Appends start (append_known start text) []
-lines_none None text e = tt
-lines_none (Some x) text e = ap (λ (l : List ℕ). x ++ l) e
-
 collected : (start known : Option (List ℕ)) (old new lines line : List ℕ) → Appends start (append_known known old) lines
     → new ≡ old ++ line → Appends start (append_known known new) (lines ++ line)
 collected None known old new lines line p grown = tt

@@ -1,0 +1,16 @@
+-- What the parser is told of an option.
+use Rattle.std.specs.Prelude.{Some}
+use Rattle.clap.specs.Simple.{new_rule}
+use Rattle.clap.specs.Walk.{Rule}
+use Rattle.clap.specs.declared.builder.value_parser.ValueParser.TheVariants.{Unsigned}
+use Rattle.lfs_command.specs.declared.numbers.NumberOption.{NumberOption}
+
+-- What a parse reads of an option that takes a number: a word of its name behind two hyphens, with
+-- a value beside it, a number from the least to the greatest, which is read back by that name. It
+-- may be left out, has no value then, and rules out no other.
+abbrev pub number_rule : NumberOption → Rule
+number_rule option = record (new_rule option.name.now) {
+  long = Some option.name.now;
+  value_names = 1;
+  parser = Some (Unsigned option.least option.most);
+}
