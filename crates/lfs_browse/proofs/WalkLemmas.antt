@@ -1,7 +1,7 @@
 -- A walk through a tree: each visit is the last of those that wait, and what its answer leads to is put behind the others,
 -- turned round. Turned round, the next one stands first, and what an answer leads to before the others, as in `IsWalk`.
 -- So the visits are a walk after each of them, by one more visit at its end.
-use Rattle.std.proofs.Common.{◌≡◌, ℕ, ◌+◌, ◌≤◌, ◌⊎◌, inl, inr, List, [], ◌∷◌, ◌++◌, length, map, refl, sym}
+use Rattle.std.proofs.Common.{◌≡◌, ℕ, ◌+◌, ◌≤◌, ◌⊎◌, inl, inr, true, false, List, [], ◌∷◌, ◌++◌, length, map, refl, sym}
 use Rattle.std.proofs.Common.{ap, subst, ◌∙◌, arith, append_assoc, append-nil, length-append, ◌<◌, get_or, take, Option}
 use Rattle.std.proofs.Common.{None, Some}
 use Rattle.std.specs.Prelude.{reverse, filter, ◌-◌}
@@ -15,9 +15,9 @@ use Rattle.lfs_volume.specs.Cleanings.{Cleaner}
 use Rattle.lfs_volume.specs.Seen.{Seen}
 use Rattle.lfs_browse.specs.Asking.{Asks}
 use Rattle.lfs_browse.specs.Looks.{TellsLook}
-use Rattle.lfs_browse.specs.Listing.{has_path, looked_of, names_served}
+use Rattle.lfs_browse.specs.Listing.{has_path, looked_of, names_served, row_text}
 use Rattle.lfs_browse.specs.Trees.{IsWalk, call_of, entry_of, leads_to, names_told, rest_text, unlooked_text}
-use Rattle.lfs_browse.specs.Trees.{unserved_text, visit_text, visits_text}
+use Rattle.lfs_browse.specs.Trees.{indent, shows_directory, unserved_text, visit_text, visits_text}
 use Rattle.lfs_browse.specs.Walking.{HasEnded, HasWalked, TakesIn, Visits}
 use Rattle.lfs_browse.specs.declared.asker.Asker.{Asker}
 use Rattle.lfs_browse.specs.declared.look.Look.TheVariants.{Tree}
@@ -247,6 +247,27 @@ entry_taken old new path name answer led root is same pending told = record {
   pending = pending ∙ ap (λ (l : List Visit). old.pending.items ++ l) (sym same ∙ ap reverse is);
   told = told;
 }
+
+-- it leads to a List of a directory that it showed
+pub led_directory : (path : List (List ℕ)) (name : List ℕ) (answer : Answer) → shows_directory answer ≡ true
+    → Names path ∷ [] ≡ leads_to (Entry path name) answer
+led_directory path name answer shows = rw shows refl
+
+-- and else to nothing
+pub led_nowhere : (path : List (List ℕ)) (name : List ℕ) (answer : Answer) → shows_directory answer ≡ false
+    → [] ≡ leads_to (Entry path name) answer
+led_nowhere path name answer other = rw other refl
+
+-- a row, so far in
+pub row_told : (root : ℕ) (path names : List (List ℕ)) (below depth : ℕ) (name : List ℕ) (answer : Answer)
+    (before between after : List ℕ) → names ≡ path → below ≡ length names - root → depth ≡ below - 1
+    → between ≡ before ++ indent depth → after ≡ between ++ row_text name answer
+    → after ≡ before ++ visit_text root (Entry path name) answer
+row_told root path names below depth name answer before between after same below_is depth_is first then =
+    then ∙ ap (λ (l : List ℕ). l ++ row_text name answer) first
+    ∙ append_assoc before (indent depth) (row_text name answer)
+    ∙ ap (λ (n : ℕ). before ++ (indent n ++ row_text name answer))
+    (depth_is ∙ ap (λ (m : ℕ). m - 1) (below_is ∙ ap (λ (l : List (List ℕ)). length l - root) same))
 
 -- that to a List of a directory, where it served names
 pub served_taken : (old new : Walk) (path : List (List ℕ)) (answer : Answer) (names : List (List ℕ))
