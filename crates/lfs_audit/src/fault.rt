@@ -8,6 +8,7 @@ use lfs_io::read::ReadFault;
 use lfs_script::fault::ScriptFault;
 use lfs_script::split::SplitFault;
 use lfs_server::serving::ServeFault;
+use lfs_server::unserved::Unserved;
 use lfs_types::fault::FormatFault;
 use std::alloc::{AllocError, AllocFailed};
 use thiserror::Error;
@@ -122,12 +123,13 @@ impl From<SplitFault> for ThreadsFault {
     }
 }
 
-impl From<ServeFault> for ThreadsFault {
+impl<T: Drop> From<Unserved<T>> for ThreadsFault {
+    ghost use Rattle.lfs_server.specs.Unserved.{fault_of};
     ghost use Rattle.lfs_audit.specs.declared.fault.ThreadsFault.TheVariants.{Serve};
 
-    ghost from_gives = { λ fault threads. threads ≡ Serve fault };
+    ghost from_gives = { λ unserved threads. threads ≡ Serve (fault_of unserved) };
 
-    fn from(fault: ServeFault) -> ThreadsFault {
-        ThreadsFault::Serve(fault)
+    fn from(unserved: Unserved<T>) -> ThreadsFault {
+        ThreadsFault::Serve(unserved.fault())
     }
 }

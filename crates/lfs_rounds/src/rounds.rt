@@ -2,15 +2,17 @@
 
 ghost use Rattle.std.specs.Prelude.{◌≡◌, List, [], IfErr, IfOk};
 ghost use Rattle.lfs_server.specs.Serving.{IsRunFault};
+ghost use Rattle.lfs_server.specs.Unserved.{NamesUnsettled, fault_of};
+ghost use Rattle.lfs_settle.specs.Settled.{Differs};
 ghost use Rattle.lfs_volume.specs.Seen.{Seen};
 ghost use Rattle.lfs_rounds.specs.Rounds.{HasServed, IsSettled, keeping_of};
 ghost use Rattle.lfs_rounds.specs.declared.rounds.Round.{Round};
 
 use lfs_model::journal::Entry;
 use lfs_server::gate::Gate;
-use lfs_server::live::{Client, serve_clients};
-use lfs_server::serving::ServeFault;
+use lfs_server::live::{Client, Stopped, serve_clients};
 use lfs_server::transcripts::Transcript;
+use lfs_server::unserved::Unserved;
 use lfs_types::cleaned::CleanedStore;
 use lfs_volume::volume::Volume;
 use std::alloc::Global;
@@ -54,15 +56,15 @@ pub trait Rounds {
 ///
 /// # Errors
 ///
-/// Those of `serve_clients`, of the round that could not be settled; `Memory` also where there is no room for the journal
-/// of a round, of which no client has run then. The rounds before were kept.
+/// Those of `serve_clients`, of the round that could not be settled, with what that left; `Memory` also where there is no
+/// room for the journal of a round, of which no client has run then. The rounds before were kept.
 pub fn serve_rounds<R, F, G, K>(
     rt: &R,
     alloc: Global,
     volume: Volume<F>,
     rounds: &mut K,
     gate: &G,
-) -> Result<Volume<F>, ServeFault>
+) -> Result<Volume<F>, Unserved<Stopped<F>>>
 where
     R: Threads + Wait + Sync,
     F: CleanedStore + Send + Drop,
@@ -72,7 +74,9 @@ where
     ensures settled { (served : List Round) × (left : Seen F)
         × HasServed F.state (keeping_of K.asks K.keeps) volume rounds.old served left rounds.new
         × IfOk result (λ v. v ≡ left) }
-    ensures fault { IfErr result IsRunFault }
+    ensures unsettled { IfErr result (NamesUnsettled (λ session stopped. Differs
+        stopped.volume.journal stopped.volume.limit stopped.transcripts.items session)) }
+    ensures fault { IfErr result (λ unserved. IsRunFault (fault_of unserved)) }
 {
     let mut volume = volume;
     for _ in 0..u64::MAX {
@@ -93,7 +97,7 @@ fn serve_round<R, F, C, G>(
     volume: Volume<F>,
     clients: Vec<C>,
     gate: &G,
-) -> Result<(Volume<F>, Round), ServeFault>
+) -> Result<(Volume<F>, Round), Unserved<Stopped<F>>>
 where
     R: Threads + Wait + Sync,
     F: CleanedStore + Send + Drop,
@@ -101,7 +105,9 @@ where
     G: Gate,
     requires { volume.journal ≡ [] }
     ensures settled { IfOk result (λ left. IsSettled F.state volume left.0 left.1) }
-    ensures fault { IfErr result IsRunFault }
+    ensures unsettled { IfErr result (NamesUnsettled (λ session stopped. Differs
+        stopped.volume.journal stopped.volume.limit stopped.transcripts.items session)) }
+    ensures fault { IfErr result (λ unserved. IsRunFault (fault_of unserved)) }
 {
     let room = Vec::with_capacity(alloc, volume.journal_limit() as usize)?;
     let stopped = serve_clients(rt, alloc, volume, clients, gate)?;

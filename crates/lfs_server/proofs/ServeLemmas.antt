@@ -1,15 +1,17 @@
--- Faults of a run on a volume that was laid out for it, the session that is named, and results that are Ok.
-use Rattle.std.proofs.Common.{◌≡◌, ℕ, ◌<◌, ◌≤◌, length, Result, Ok, Err, IfErr, IfOk, OnOk, refl, sym, subst}
+-- Faults of a run on a volume that was laid out for it, and results that are Ok.
+use Rattle.std.proofs.Common.{◌≡◌, ℕ, ◌<◌, ◌≤◌, Result, Ok, Err, IfErr, IfOk, OnOk, sym, subst}
 use Rattle.lfs_types.specs.StoreStates.{StoreState}
 use Rattle.lfs_types.specs.Tree.{opening_world}
 use Rattle.lfs_types.specs.declared.fault.FormatFault.{FormatFault}
 use Rattle.lfs_types.specs.declared.fault.FormatFault.TheVariants.{TooFew, TooMany}
 use Rattle.lfs_types.specs.declared.fault.FormatFault.TheVariants as formats
 use Rattle.lfs_server.specs.Fresh.{IsFormatFault, IsFreshLog}
-use Rattle.lfs_settle.specs.Interleaving.{Run}
-use Rattle.lfs_server.specs.Serving.{IsClosingFault, IsFaultOf, IsInRange, IsServeFault, NamesUnsettled, served_fault}
+use Rattle.lfs_server.specs.Serving.{IsFaultOf, IsInRange, IsServeFault, served_fault}
+use Rattle.lfs_server.specs.Unserved.{OnLeft, fault_of}
 use Rattle.lfs_server.specs.declared.serving.ServeFault.{ServeFault}
 use Rattle.lfs_server.specs.declared.serving.ServeFault.TheVariants.{Sessions, Format, Memory, Unsettled, Thread}
+use Rattle.lfs_server.specs.declared.unserved.Unserved.{Unserved}
+use Rattle.lfs_server.specs.declared.unserved.Unserved.TheVariants as unserved
 use Rattle.lfs_staging.specs.Opening.{IsOpening}
 use Rattle.lfs_staging.specs.declared.parts.Parts.{Parts}
 use Rattle.lfs_volume.specs.Journals.{Begins, IsJournal, Since}
@@ -25,12 +27,12 @@ serve_fault sessions segments inodes frames (Unsettled session) ranges (run, som
 serve_fault sessions segments inodes frames Thread ranges (run, some, few) = (some, few, ranges)
 
 -- the fault of a run over a volume is one of the run on a volume that is laid out
-pub serve_faults : {A : Type 0} (sessions segments inodes frames : ℕ) (result : Result A ServeFault)
-    → IsInRange segments inodes frames → IfErr result (IsFaultOf sessions)
-    → IfErr result (IsServeFault sessions segments inodes frames)
-serve_faults sessions segments inodes frames (Ok a) ranges p = tt
-serve_faults sessions segments inodes frames (Err fault) ranges p =
-    serve_fault sessions segments inodes frames fault ranges p
+pub serve_faults : {T : Type 0} (sessions segments inodes frames : ℕ) (result : Result T (Unserved T))
+    → IsInRange segments inodes frames → IfErr result (λ u. IsFaultOf sessions (fault_of u))
+    → IfErr result (λ u. IsServeFault sessions segments inodes frames (fault_of u))
+serve_faults sessions segments inodes frames (Ok left) ranges p = tt
+serve_faults sessions segments inodes frames (Err u) ranges p =
+    serve_fault sessions segments inodes frames (fault_of u) ranges p
 
 -- a run is not made for a fault of laying out its volume
 pub layout_fault : (sessions segments inodes frames : ℕ) (fault : FormatFault) → (0 < sessions) × (sessions ≤ 8)
@@ -39,29 +41,6 @@ pub layout_fault : (sessions segments inodes frames : ℕ) (fault : FormatFault)
 layout_fault sessions segments inodes frames TooFew few p = (p, few.0, few.1)
 layout_fault sessions segments inodes frames TooMany few p = (p, few.0, few.1)
 layout_fault sessions segments inodes frames formats.Memory few p = (few.0, few.1, p)
-
-closing_fault : (limit : ℕ) (run : Run) (fault : ServeFault) → run.limit ≡ limit
-    → length run.transcripts ≡ length run.scripts → IsClosingFault run fault
-    → NamesUnsettled limit run.setup run.scripts fault
-closing_fault limit run Sessions limited answered p = tt
-closing_fault limit run (Format fault) limited answered p = tt
-closing_fault limit run Memory limited answered p = tt
-closing_fault limit run (Unsettled session) limited answered p = record {
-  run = run;
-  limited = limited;
-  setup_asked = refl;
-  scripts_asked = refl;
-  answered = answered;
-  differs = p;
-}
-closing_fault limit run Thread limited answered p = tt
-
--- where a run is not handed out, the session that is named is that of the run
-pub closing_faults : {A : Type 0} (limit : ℕ) (run : Run) (result : Result A ServeFault) → run.limit ≡ limit
-    → length run.transcripts ≡ length run.scripts → IfErr result (IsClosingFault run)
-    → IfErr result (NamesUnsettled limit run.setup run.scripts)
-closing_faults limit run (Ok a) limited answered p = tt
-closing_faults limit run (Err fault) limited answered p = closing_fault limit run fault limited answered p
 
 -- what holds holds where a result is Ok
 pub on_ok : {A E P : Type 0} (result : Result A E) → P → OnOk result P
@@ -77,17 +56,27 @@ pub fresh_log : (segments inodes frames : ℕ) (store : Parts) → state_of stor
     → IsOpening segments inodes frames store → IsFreshLog segments inodes frames store
 fresh_log segments inodes frames store opening laid_out = record { opening = opening; laid_out = laid_out }
 
+from_opening : {F : Type 0} (state : F → StoreState) (new old : Seen F)
+    → Begins (state old.since) old.since_level opening_world → state new.since ≡ state old.since
+    → new.since_level ≡ old.since_level
+    → Since (state new.since) new.since_level (λ from. IsJournal from (state new.store) new.level new.journal new.limit)
+    → IsJournal opening_world (state new.store) new.level new.journal new.limit
+from_opening state new old begins since since_level legal =
+    legal opening_world
+    (subst (λ l. Begins (state new.since) l opening_world) (sym since_level)
+    (subst (λ s. Begins s old.since_level opening_world) (sym since) begins))
+
 -- where a run began on a volume that shows the opening tree, its journal is legal from there
-pub legal_from_opening : {F C E : Type 0} (state : F → StoreState) (volume : C → Seen F) (result : Result C E)
+pub legal_from_opening : {F C : Type 0} (state : F → StoreState) (volume : C → Seen F) (result : Result C (Unserved C))
     (old : Seen F) → Begins (state old.since) old.since_level opening_world
-    → IfOk result (λ c. state (volume c).since ≡ state old.since)
-    → IfOk result (λ c. (volume c).since_level ≡ old.since_level)
-    → IfOk result (λ c. Since (state (volume c).since) (volume c).since_level
+    → OnLeft result (λ c. state (volume c).since ≡ state old.since)
+    → OnLeft result (λ c. (volume c).since_level ≡ old.since_level)
+    → OnLeft result (λ c. Since (state (volume c).since) (volume c).since_level
     (λ from. IsJournal from (state (volume c).store) (volume c).level (volume c).journal (volume c).limit))
-    → IfOk result (λ c. IsJournal opening_world (state (volume c).store) (volume c).level (volume c).journal
+    → OnLeft result (λ c. IsJournal opening_world (state (volume c).store) (volume c).level (volume c).journal
     (volume c).limit)
 legal_from_opening state volume (Ok c) old begins since since_level legal =
-    legal opening_world
-    (subst (λ l. Begins (state (volume c).since) l opening_world) (sym since_level)
-    (subst (λ s. Begins s old.since_level opening_world) (sym since) begins))
-legal_from_opening state volume (Err e) old begins since since_level legal = tt
+    from_opening state (volume c) old begins since since_level legal
+legal_from_opening state volume (Err (unserved.Fault fault)) old begins since since_level legal = tt
+legal_from_opening state volume (Err (unserved.Unsettled session c)) old begins since since_level legal =
+    from_opening state (volume c) old begins since since_level legal

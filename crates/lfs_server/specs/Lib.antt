@@ -1,3 +1,4 @@
 pub mod Fresh
 pub mod Serving
 pub mod Telling
+pub mod Unserved

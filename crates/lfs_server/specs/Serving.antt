@@ -1,14 +1,8 @@
 -- Why a run is not handed out.
-use Rattle.std.specs.Prelude.{◌≡◌, ℕ, ◌<◌, ◌≤◌, ◌⊎◌, List, length}
-use Rattle.lfs_types.specs.Caller.{Caller}
+use Rattle.std.specs.Prelude.{◌≡◌, ℕ, ◌<◌, ◌≤◌, ◌⊎◌}
 use Rattle.lfs_types.specs.declared.fault.FormatFault.{FormatFault}
 use Rattle.lfs_types.specs.declared.fault.FormatFault.TheVariants.{TooFew, TooMany}
 use Rattle.lfs_types.specs.declared.fault.FormatFault.TheVariants as formats
-use Rattle.lfs_types.specs.declared.request.Request.{Request}
-use Rattle.lfs_model.specs.declared.journal.Entry.{Entry}
-use Rattle.lfs_settle.specs.Interleaving.{IsLowestToDiffer, Run}
-use Rattle.lfs_settle.specs.Settled.{Differs}
-use Rattle.lfs_settle.specs.declared.transcripts.Transcript.{Transcript}
 use Rattle.lfs_staging.specs.Opening.{IsTooFew, IsTooMany}
 use Rattle.lfs_server.specs.declared.serving.ServeFault.{ServeFault}
 use Rattle.lfs_server.specs.declared.serving.ServeFault.TheVariants.{Sessions, Format, Memory, Unsettled}
@@ -25,27 +19,6 @@ IsThreadFault Sessions = ⊥
 IsThreadFault (Format fault) = ⊥
 IsThreadFault (Unsettled session) = ⊥
 IsThreadFault fault = Unit {0}
-
--- A run of this setup and these scripts, whose journal may have so many entries, is not settled: each script has a list
--- of answers, and this session is the lowest that differs from what the journal has.
-pub record IsUnsettled (limit : ℕ) (setup : List (Caller × Request)) (scripts : List (List (Caller × Request)))
-    (session : ℕ) : Type 0 where
-  pub run : Run
-  pub limited : run.limit ≡ limit
-  pub setup_asked : run.setup ≡ setup
-  pub scripts_asked : run.scripts ≡ scripts
-  pub answered : length run.transcripts ≡ length scripts
-  pub differs : IsLowestToDiffer run session
-
--- a fault that names a session is that of such a run
-abbrev pub NamesUnsettled : ℕ → List (Caller × Request) → List (List (Caller × Request)) → ServeFault → Type 0
-NamesUnsettled limit setup scripts (Unsettled session) = IsUnsettled limit setup scripts session
-NamesUnsettled limit setup scripts fault = Unit {0}
-
--- the fault of handing out what this run left: its journal is not as the lowest session was answered that differs
-abbrev pub IsClosingFault : Run → ServeFault → Type 0
-IsClosingFault run (Unsettled session) = IsLowestToDiffer run session
-IsClosingFault run fault = ⊥
 
 -- the fault of a run of so many sessions over a volume: Sessions for none and for more than eight, and then alone
 abbrev pub IsFaultOf : ℕ → ServeFault → Type 0
@@ -73,9 +46,3 @@ IsServeFault sessions segments inodes frames (Format TooMany) = IsTooMany segmen
     × (sessions ≤ 8)
 IsServeFault sessions segments inodes frames (Format fault) = ⊥
 IsServeFault sessions segments inodes frames fault = (0 < sessions) × (sessions ≤ 8) × IsInRange segments inodes frames
-
--- the fault of stopping a server whose journal and limit these are: it names a session whose transcript the journal
--- hasn't
-abbrev pub IsStopFault : List Entry → ℕ → List Transcript → ServeFault → Type 0
-IsStopFault journal limit transcripts (Unsettled session) = Differs journal limit transcripts session
-IsStopFault journal limit transcripts fault = ⊥

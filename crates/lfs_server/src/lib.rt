@@ -16,6 +16,7 @@ pub mod serving;
 mod session;
 pub mod settle;
 mod telling;
+pub mod unserved;
 
 pub use lfs_cleaner::pass;
 pub use lfs_settle::transcripts;

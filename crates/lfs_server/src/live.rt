@@ -1,16 +1,17 @@
 //! A server whose sessions come and go while it runs; what they leave is settled.
 
 ghost use Rattle.std.specs.Prelude.{◌≡◌, ◌≤◌, [], IfErr, IfOk};
-ghost use Rattle.lfs_settle.specs.Settled.{IsInterleavingOf};
+ghost use Rattle.lfs_settle.specs.Settled.{Differs, IsInterleavingOf};
 ghost use Rattle.lfs_volume.specs.Journals.{IsJournal, Since};
 ghost use Rattle.lfs_server.specs.Serving.{IsRunFault};
 ghost use Rattle.lfs_server.specs.Telling.{Adds, HasRoom};
+ghost use Rattle.lfs_server.specs.Unserved.{NamesUnsettled, OnLeft, fault_of};
 ghost use Rattle.lfs_types.specs.declared.answer.Answer.{Answer};
 
 use crate::gate::{Gate, Turns};
 use crate::run::Run;
 use crate::running::serve_kept;
-use crate::serving::ServeFault;
+use crate::unserved::Unserved;
 use lfs_settle::transcripts::Transcript;
 use lfs_types::cleaned::CleanedStore;
 use lfs_types::cred::Cred;
@@ -94,14 +95,14 @@ pub struct Stopped<F: FileStore + Drop> {
 /// # Errors
 ///
 /// `Memory` and `Thread` come only after all threads have ended, of which some may have made calls; `Unsettled` names a
-/// session whose calls and answers are not those of the journal, as of one that wasn't ended.
+/// session whose calls and answers are not those of the journal, as of one that wasn't ended, beside what was left.
 pub fn serve_clients<R, F, C, G>(
     rt: &R,
     alloc: Global,
     volume: Volume<F>,
     clients: Vec<C>,
     gate: &G,
-) -> Result<Stopped<F>, ServeFault>
+) -> Result<Stopped<F>, Unserved<Stopped<F>>>
 where
     R: Threads + Wait + Sync,
     F: CleanedStore + Send + Drop,
@@ -110,17 +111,20 @@ where
     requires { volume.journal ≡ [] }
     ensures settled { IfOk result (λ stopped. IsInterleavingOf
         stopped.volume.journal stopped.volume.limit stopped.transcripts.items) }
-    ensures limit { IfOk result (λ stopped. stopped.volume.limit ≡ volume.limit) }
-    ensures shape { IfOk result (λ stopped.
+    ensures unsettled { IfErr result (NamesUnsettled (λ session stopped. Differs
+        stopped.volume.journal stopped.volume.limit stopped.transcripts.items session)) }
+    ensures limit { OnLeft result (λ stopped. stopped.volume.limit ≡ volume.limit) }
+    ensures shape { OnLeft result (λ stopped.
         (F.state stopped.volume.store).shape ≡ (F.state volume.store).shape) }
-    ensures since { IfOk result (λ stopped. F.state stopped.volume.since ≡ F.state volume.since) }
-    ensures since_level { IfOk result (λ stopped.
+    ensures since { OnLeft result (λ stopped.
+        F.state stopped.volume.since ≡ F.state volume.since) }
+    ensures since_level { OnLeft result (λ stopped.
         stopped.volume.since_level ≡ volume.since_level) }
-    ensures legal { IfOk result (λ stopped.
+    ensures legal { OnLeft result (λ stopped.
         Since (F.state stopped.volume.since) stopped.volume.since_level (λ from. IsJournal from
         (F.state stopped.volume.store) stopped.volume.level
         stopped.volume.journal stopped.volume.limit)) }
-    ensures fault { IfErr result IsRunFault }
+    ensures fault { IfErr result (λ unserved. IsRunFault (fault_of unserved)) }
 {
     let run = Run { rt, alloc, gate };
     serve_kept::<Brand, R, F, C, G>(&run, volume, clients)

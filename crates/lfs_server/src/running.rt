@@ -1,9 +1,10 @@
 //! A live server from its start to its stop.
 
 ghost use Rattle.std.specs.Prelude.{◌≡◌, [], IfErr, IfOk};
-ghost use Rattle.lfs_settle.specs.Settled.{IsInterleavingOf};
+ghost use Rattle.lfs_settle.specs.Settled.{Differs, IsInterleavingOf};
 ghost use Rattle.lfs_volume.specs.Journals.{IsJournal, Since};
-ghost use Rattle.lfs_server.specs.Serving.{IsRunFault, IsStopFault};
+ghost use Rattle.lfs_server.specs.Serving.{IsRunFault, IsThreadFault};
+ghost use Rattle.lfs_server.specs.Unserved.{NamesUnsettled, OnLeft, fault_of};
 
 use crate::doorbell::{Button, Rings, doorbell};
 use crate::gate::Gate;
@@ -12,6 +13,7 @@ use crate::live::{Client, Stopped};
 use crate::live_server::{Server, Told};
 use crate::run::Run;
 use crate::serving::{ServeFault, start_cleaner};
+use crate::unserved::Unserved;
 use lfs_settle::entries::Unsettled;
 use lfs_settle::transcripts::{Transcript, settle_transcripts};
 use lfs_types::cleaned::CleanedStore;
@@ -26,7 +28,7 @@ pub fn serve_kept<S, R, F, C, G>(
     run: &Run<'_, R, G>,
     volume: Volume<F>,
     clients: Vec<C>,
-) -> Result<Stopped<F>, ServeFault>
+) -> Result<Stopped<F>, Unserved<Stopped<F>>>
 where
     S: Sizes + Send,
     R: Threads + Wait + Sync,
@@ -39,15 +41,17 @@ where
     requires begun_level { volume.since_level ≡ S.since_level }
     ensures settled { IfOk result (λ stopped. IsInterleavingOf
         stopped.volume.journal stopped.volume.limit stopped.transcripts.items) }
-    ensures limit { IfOk result (λ stopped. stopped.volume.limit ≡ S.limit) }
-    ensures shape { IfOk result (λ stopped. (F.state stopped.volume.store).shape ≡ S.shape) }
-    ensures since { IfOk result (λ stopped. F.state stopped.volume.since ≡ S.since) }
-    ensures since_level { IfOk result (λ stopped. stopped.volume.since_level ≡ S.since_level) }
-    ensures legal { IfOk result (λ stopped.
+    ensures unsettled { IfErr result (NamesUnsettled (λ session stopped. Differs
+        stopped.volume.journal stopped.volume.limit stopped.transcripts.items session)) }
+    ensures limit { OnLeft result (λ stopped. stopped.volume.limit ≡ S.limit) }
+    ensures shape { OnLeft result (λ stopped. (F.state stopped.volume.store).shape ≡ S.shape) }
+    ensures since { OnLeft result (λ stopped. F.state stopped.volume.since ≡ S.since) }
+    ensures since_level { OnLeft result (λ stopped. stopped.volume.since_level ≡ S.since_level) }
+    ensures legal { OnLeft result (λ stopped.
         Since (F.state stopped.volume.since) stopped.volume.since_level (λ from. IsJournal from
         (F.state stopped.volume.store) stopped.volume.level
         stopped.volume.journal stopped.volume.limit)) }
-    ensures fault { IfErr result IsRunFault }
+    ensures fault { IfErr result (λ unserved. IsRunFault (fault_of unserved)) }
 {
     let (button, rings) = doorbell(run.alloc)?;
     let volume = Mutex::new(Kept::<S, F>::new(volume));
@@ -74,14 +78,14 @@ where
     F: CleanedStore + Send + Drop,
     C: Client + Send + Drop,
     G: Gate,
-    ensures { IfErr result IsRunFault }
+    ensures { IfErr result IsThreadFault }
 {
     button.ring(run.rt);
     thread::scope(
         thread::scope_env(),
         run.rt,
         move |scope| -> Result<(), ServeFault>
-            ensures { IfErr result IsRunFault }
+            ensures { IfErr result IsThreadFault }
         {
             start_cleaner(scope, run, volume, rings)?;
             start_clients(scope, run, volume, told, &button, clients)
@@ -104,7 +108,7 @@ where
     F: CleanedStore + Send + Drop,
     C: Client + Send + Drop + 's,
     G: Gate,
-    ensures { IfErr result IsRunFault }
+    ensures { IfErr result IsThreadFault }
 {
     for client in clients {
         let button = button.try_clone()?;
@@ -131,7 +135,7 @@ where
     F: CleanedStore + Send + Drop,
     C: Client + Send + Drop + 's,
     G: Gate,
-    ensures { IfErr result IsRunFault }
+    ensures { IfErr result IsThreadFault }
 {
     match scope.spawn(move || attend(server, client)) {
         Ok(_) => Ok(()),
@@ -151,30 +155,34 @@ where
     client.run(&server);
 }
 
-/// Hands out a volume whose journal is an interleaving of these transcripts and of the cleaner's calls.
+/// Hands out a volume and what the sessions were told, as settled where the volume's journal is an interleaving of these
+/// transcripts and of the cleaner's calls.
 fn stop<F: FileStore + Drop>(
     volume: Volume<F>,
     transcripts: Vec<Transcript>,
-) -> Result<Stopped<F>, ServeFault>
-    ensures volume { IfOk result (λ stopped. stopped.volume ≡ volume) }
+) -> Result<Stopped<F>, Unserved<Stopped<F>>>
     ensures settled { IfOk result (λ stopped. IsInterleavingOf
         stopped.volume.journal stopped.volume.limit stopped.transcripts.items) }
-    ensures legal { IfOk result (λ stopped.
+    ensures unsettled { IfErr result (NamesUnsettled (λ session stopped. Differs
+        stopped.volume.journal stopped.volume.limit stopped.transcripts.items session)) }
+    ensures volume { OnLeft result (λ stopped. stopped.volume ≡ volume) }
+    ensures legal { OnLeft result (λ stopped.
         Since (F.state stopped.volume.since) stopped.volume.since_level (λ from. IsJournal from
         (F.state stopped.volume.store) stopped.volume.level
         stopped.volume.journal stopped.volume.limit)) }
-    ensures fault { IfErr result (IsStopFault volume.journal volume.limit transcripts.items) }
+    ensures fault { IfErr result (λ unserved. IsRunFault (fault_of unserved)) }
 {
     let settled = settle_transcripts(
         volume.journal(),
         volume.journal_limit(),
         transcripts.as_slice(),
     );
+    let stopped = Stopped {
+        volume,
+        transcripts,
+    };
     match settled {
-        Ok(()) => Ok(Stopped {
-            volume,
-            transcripts,
-        }),
-        Err(Unsettled(session)) => Err(ServeFault::Unsettled(session)),
+        Ok(()) => Ok(stopped),
+        Err(Unsettled(session)) => Err(Unserved::Unsettled(session, stopped)),
     }
 }

@@ -3,13 +3,15 @@
 ghost use Rattle.std.specs.Prelude.{◌≡◌, ◌≤◌, ◌<◌, IfErr, IfOk, OnOk, vec_len};
 ghost use Rattle.lfs_types.specs.Tree.{opening_world};
 ghost use Rattle.lfs_logstore.specs.States.{shape_of, state_of};
-ghost use Rattle.lfs_settle.specs.Interleaving.{IsInterleaving, run_of};
-ghost use Rattle.lfs_server.specs.Serving.{IsInRange, IsServeFault, NamesUnsettled};
+ghost use Rattle.lfs_settle.specs.Interleaving.{IsInterleaving, IsLowestToDiffer, run_of};
+ghost use Rattle.lfs_server.specs.Serving.{IsInRange, IsServeFault};
+ghost use Rattle.lfs_server.specs.Unserved.{NamesUnsettled, OnLeft, fault_of};
 ghost use Rattle.lfs_volume.specs.Journals.{IsJournal};
 
 use crate::fresh::fresh_volume;
 use crate::gate::Gate;
-use crate::serving::{Closed, ServeFault, check_sessions, serve_over};
+use crate::serving::{Closed, check_sessions, serve_over};
+use crate::unserved::Unserved;
 use lfs_logstore::LogStore;
 use lfs_types::script::Script;
 use lfs_types::store::Params;
@@ -27,24 +29,27 @@ pub fn serve<R, G>(
     setup: Script,
     sessions: Vec<Script>,
     gate: &G,
-) -> Result<Closed<LogStore>, ServeFault>
+) -> Result<Closed<LogStore>, Unserved<Closed<LogStore>>>
 where
     R: Threads + Wait + Sync,
     G: Gate,
     ensures settled { IfOk result (λ closed. IsInterleaving
         (run_of closed.volume.journal closed.volume.limit
         setup closed.setup.items sessions.items closed.transcripts.items)) }
-    ensures limit { IfOk result (λ closed. closed.volume.limit ≡ params.journal) }
-    ensures shape { IfOk result (λ closed. (state_of closed.volume.store).shape
+    ensures unsettled { IfErr result (NamesUnsettled (λ session closed. IsLowestToDiffer
+        (run_of closed.volume.journal closed.volume.limit
+        setup closed.setup.items sessions.items closed.transcripts.items) session)) }
+    ensures count { OnLeft result (λ closed. vec_len closed.transcripts ≡ vec_len sessions) }
+    ensures limit { OnLeft result (λ closed. closed.volume.limit ≡ params.journal) }
+    ensures shape { OnLeft result (λ closed. (state_of closed.volume.store).shape
         ≡ shape_of params.inodes params.segments) }
     ensures ranges { OnOk result (IsInRange params.segments params.inodes params.frames) }
-    ensures legal { IfOk result (λ closed. IsJournal opening_world
+    ensures legal { OnLeft result (λ closed. IsJournal opening_world
         (state_of closed.volume.store) closed.volume.level
         closed.volume.journal closed.volume.limit) }
     ensures sessions { OnOk result ((0 < vec_len sessions) × (vec_len sessions ≤ 8)) }
-    ensures fault { IfErr result
-        (IsServeFault (vec_len sessions) params.segments params.inodes params.frames) }
-    ensures unsettled { IfErr result (NamesUnsettled params.journal setup sessions.items) }
+    ensures fault { IfErr result (λ unserved. IsServeFault (vec_len sessions)
+        params.segments params.inodes params.frames (fault_of unserved)) }
 {
     check_sessions(sessions.len())?;
     let volume = fresh_volume(alloc, params)?;

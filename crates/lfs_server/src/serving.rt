@@ -1,9 +1,10 @@
 //! A run: the setup, then sessions on threads and the cleaner beside them, over one volume; settled before it is handed out.
 
 ghost use Rattle.std.specs.Prelude.{◌≡◌, ◌⊎◌, ◌<◌, ◌≤◌, ◌+◌, IfErr, IfOk, OnOk, vec_len, length};
-ghost use Rattle.lfs_settle.specs.Interleaving.{IsInterleaving, run_of};
+ghost use Rattle.lfs_settle.specs.Interleaving.{IsInterleaving, IsLowestToDiffer, run_of};
 ghost use Rattle.lfs_volume.specs.Journals.{IsJournal, Since};
-ghost use Rattle.lfs_server.specs.Serving.{IsClosingFault, IsFaultOf, IsRunFault, IsThreadFault, NamesUnsettled};
+ghost use Rattle.lfs_server.specs.Serving.{IsFaultOf, IsRunFault, IsThreadFault};
+ghost use Rattle.lfs_server.specs.Unserved.{NamesUnsettled, OnLeft, fault_of};
 ghost use Rattle.lfs_server.specs.declared.serving.ServeFault.TheVariants.{Memory, Sessions};
 
 use crate::cleaner::run_cleaner;
@@ -13,6 +14,7 @@ use crate::kept::{Kept, Sizes};
 use crate::run::Run;
 use crate::session::{Session, run_session};
 use crate::settle::{Unsettled, settle};
+use crate::unserved::Unserved;
 use lfs_types::answer::Answer;
 use lfs_types::cleaned::CleanedStore;
 use lfs_types::fault::FormatFault;
@@ -102,7 +104,7 @@ pub fn serve_over<R, F, G>(
     setup: Script,
     sessions: Vec<Script>,
     gate: &G,
-) -> Result<Closed<F>, ServeFault>
+) -> Result<Closed<F>, Unserved<Closed<F>>>
 where
     R: Threads + Wait + Sync,
     F: CleanedStore + Send + Drop,
@@ -110,19 +112,23 @@ where
     ensures settled { IfOk result (λ closed. IsInterleaving
         (run_of closed.volume.journal closed.volume.limit
         setup closed.setup.items sessions.items closed.transcripts.items)) }
-    ensures limit { IfOk result (λ closed. closed.volume.limit ≡ volume.limit) }
-    ensures shape { IfOk result (λ closed.
+    ensures unsettled { IfErr result (NamesUnsettled (λ session closed. IsLowestToDiffer
+        (run_of closed.volume.journal closed.volume.limit
+        setup closed.setup.items sessions.items closed.transcripts.items) session)) }
+    ensures count { OnLeft result (λ closed. vec_len closed.transcripts ≡ vec_len sessions) }
+    ensures limit { OnLeft result (λ closed. closed.volume.limit ≡ volume.limit) }
+    ensures shape { OnLeft result (λ closed.
         (F.state closed.volume.store).shape ≡ (F.state volume.store).shape) }
-    ensures since { IfOk result (λ closed. F.state closed.volume.since ≡ F.state volume.since) }
-    ensures since_level { IfOk result (λ closed.
+    ensures since { OnLeft result (λ closed.
+        F.state closed.volume.since ≡ F.state volume.since) }
+    ensures since_level { OnLeft result (λ closed.
         closed.volume.since_level ≡ volume.since_level) }
-    ensures legal { IfOk result (λ closed.
+    ensures legal { OnLeft result (λ closed.
         Since (F.state closed.volume.since) closed.volume.since_level (λ from. IsJournal from
         (F.state closed.volume.store) closed.volume.level
         closed.volume.journal closed.volume.limit)) }
     ensures sessions { OnOk result ((0 < vec_len sessions) × (vec_len sessions ≤ 8)) }
-    ensures fault { IfErr result (IsFaultOf (vec_len sessions)) }
-    ensures unsettled { IfErr result (NamesUnsettled volume.limit setup sessions.items) }
+    ensures fault { IfErr result (λ unserved. IsFaultOf (vec_len sessions) (fault_of unserved)) }
 {
     check_sessions(sessions.len())?;
     let run = Run { rt, alloc, gate };
@@ -147,7 +153,7 @@ fn run_kept<S, R, F, G>(
     volume: Volume<F>,
     setup: &Script,
     sessions: &[Script],
-) -> Result<Closed<F>, ServeFault>
+) -> Result<Closed<F>, Unserved<Closed<F>>>
 where
     S: Sizes + Send,
     R: Threads + Wait + Sync,
@@ -161,16 +167,19 @@ where
     ensures settled { IfOk result (λ closed. IsInterleaving
         (run_of closed.volume.journal closed.volume.limit
         setup.now closed.setup.items sessions.now closed.transcripts.items)) }
-    ensures limit { IfOk result (λ closed. closed.volume.limit ≡ S.limit) }
-    ensures shape { IfOk result (λ closed. (F.state closed.volume.store).shape ≡ S.shape) }
-    ensures since { IfOk result (λ closed. F.state closed.volume.since ≡ S.since) }
-    ensures since_level { IfOk result (λ closed. closed.volume.since_level ≡ S.since_level) }
-    ensures legal { IfOk result (λ closed.
+    ensures unsettled { IfErr result (NamesUnsettled (λ session closed. IsLowestToDiffer
+        (run_of closed.volume.journal closed.volume.limit
+        setup.now closed.setup.items sessions.now closed.transcripts.items) session)) }
+    ensures count { OnLeft result (λ closed. vec_len closed.transcripts ≡ length sessions.now) }
+    ensures limit { OnLeft result (λ closed. closed.volume.limit ≡ S.limit) }
+    ensures shape { OnLeft result (λ closed. (F.state closed.volume.store).shape ≡ S.shape) }
+    ensures since { OnLeft result (λ closed. F.state closed.volume.since ≡ S.since) }
+    ensures since_level { OnLeft result (λ closed. closed.volume.since_level ≡ S.since_level) }
+    ensures legal { OnLeft result (λ closed.
         Since (F.state closed.volume.since) closed.volume.since_level (λ from. IsJournal from
         (F.state closed.volume.store) closed.volume.level
         closed.volume.journal closed.volume.limit)) }
-    ensures fault { IfErr result IsRunFault }
-    ensures unsettled { IfErr result (NamesUnsettled S.limit setup.now sessions.now) }
+    ensures fault { IfErr result (λ unserved. IsRunFault (fault_of unserved)) }
 {
     let mut kept = Kept::<S, F>::new(volume);
     let answers = run_setup(run, &mut kept, setup)?;
@@ -342,58 +351,44 @@ fn answers_of<R: Threads>(rt: &R, thread: SessionThread) -> Result<Vec<Answer>, 
     }
 }
 
-/// Hands out what a run left, where its journal is an interleaving of what was asked and answered.
+/// Hands out what a run left, as settled where its journal is an interleaving of what was asked and answered.
 fn close<F: FileStore + Drop>(
     volume: Volume<F>,
     setup: &Script,
     answers: Vec<Answer>,
     sessions: &[Script],
     transcripts: Vec<Vec<Answer>>,
-) -> Result<Closed<F>, ServeFault>
+) -> Result<Closed<F>, Unserved<Closed<F>>>
     requires sessions { length sessions.now ≤ 8 }
     requires transcripts { vec_len transcripts ≤ 8 }
-    ensures volume { IfOk result (λ closed. closed.volume ≡ volume) }
     ensures settled { IfOk result (λ closed. IsInterleaving
         (run_of closed.volume.journal closed.volume.limit
         setup.now closed.setup.items sessions.now closed.transcripts.items)) }
-    ensures legal { IfOk result (λ closed.
+    ensures unsettled { IfErr result (NamesUnsettled (λ session closed. IsLowestToDiffer
+        (run_of closed.volume.journal closed.volume.limit
+        setup.now closed.setup.items sessions.now closed.transcripts.items) session)) }
+    ensures volume { OnLeft result (λ closed. closed.volume ≡ volume) }
+    ensures count { OnLeft result (λ closed. vec_len closed.transcripts ≡ vec_len transcripts) }
+    ensures legal { OnLeft result (λ closed.
         Since (F.state closed.volume.since) closed.volume.since_level (λ from. IsJournal from
         (F.state closed.volume.store) closed.volume.level
         closed.volume.journal closed.volume.limit)) }
-    ensures fault { IfErr result (IsClosingFault (run_of volume.journal volume.limit
-        setup.now answers.items sessions.now transcripts.items)) }
+    ensures fault { IfErr result (λ unserved. IsRunFault (fault_of unserved)) }
 {
-    check_closed(
+    let settled = settle(
         &volume,
         setup,
         answers.as_slice(),
         sessions,
         transcripts.as_slice(),
-    )?;
-    Ok(Closed {
+    );
+    let closed = Closed {
         volume,
         setup: answers,
         transcripts,
-    })
-}
-
-/// Asks that a volume's journal be an interleaving of what was asked and answered.
-fn check_closed<F: FileStore + Drop>(
-    volume: &Volume<F>,
-    setup: &Script,
-    answers: &[Answer],
-    sessions: &[Script],
-    transcripts: &[Vec<Answer>],
-) -> Result<(), ServeFault>
-    requires { (length sessions.now ≤ 8) × (length transcripts.now ≤ 8) }
-    ensures settled { OnOk result (IsInterleaving
-        (run_of volume.now.journal volume.now.limit
-        setup.now answers.now sessions.now transcripts.now)) }
-    ensures fault { IfErr result (IsClosingFault (run_of volume.now.journal volume.now.limit
-        setup.now answers.now sessions.now transcripts.now)) }
-{
-    match settle(volume, setup, answers, sessions, transcripts) {
-        Ok(()) => Ok(()),
-        Err(Unsettled(session)) => Err(ServeFault::Unsettled(session)),
+    };
+    match settled {
+        Ok(()) => Ok(closed),
+        Err(Unsettled(session)) => Err(Unserved::Unsettled(session, closed)),
     }
 }

@@ -1,8 +1,10 @@
 //! Sessions of one client that come and go, and one that is not ended.
 
-use super::{User, alone, answers, begin, calls, expect_lines, make_calls, serve_fresh};
-use lfs_server::live::{Client, Live};
-use lfs_server::serving::ServeFault;
+use super::{SMALL, User, alone, answers, begin, calls, expect_lines, make_calls, serve_fresh};
+use lfs_logstore::LogStore;
+use lfs_server::fresh::fresh_volume;
+use lfs_server::live::{Client, Live, Stopped, serve_clients};
+use lfs_server::unserved::Unserved;
 use lfs_volume::journal::Call;
 use std::alloc::Global;
 use std::process::Abort;
@@ -86,12 +88,30 @@ impl Client for Gone {
     }
 }
 
-/// Asserts that what he leaves is not settled.
+/// How many entries of a session a run left that is not settled, and how many transcripts, with the session that differs.
+fn unsettled(
+    end: Result<Stopped<LogStore>, Unserved<Stopped<LogStore>>>,
+) -> Option<(u8, usize, usize)> {
+    match end {
+        Err(Unserved::Unsettled(session, stopped)) => {
+            let entries = stopped.volume.journal();
+            let made = entries
+                .iter()
+                .filter(|entry| entry.session == session)
+                .count();
+            Some((session, made, stopped.transcripts.len()))
+        }
+        Err(Unserved::Fault(_)) | Ok(_) => None,
+    }
+}
+
+/// Asserts that what he leaves is not settled, and handed out with the four entries of his session.
 fn assert_unsettled<R: Abort + Threads + Wait + Sync>(rt: &R, alloc: Global) {
     let calls = calls(rt, alloc, SETUP);
     let clients = alone(rt, alloc, Gone(User { calls }));
-    let fault = serve_fresh(rt, alloc, clients, &()).err();
-    assert_eq!(rt; fault, Some(ServeFault::Unsettled(1)));
+    let volume = fresh_volume(alloc, SMALL).expect(rt, "a volume");
+    let end = serve_clients(rt, alloc, volume, clients, &());
+    assert_eq!(rt; unsettled(end), Some((1, 4, 1)));
 }
 
 #[test]

@@ -1,6 +1,7 @@
-use Rattle.std.proofs.Common.{◌≡◌, ℕ, IfOk, ap, rules, subst}
+use Rattle.std.proofs.Common.{◌≡◌, ℕ, ap, rules, subst}
 use Rattle.lfs_types.specs.StoreStates.{Shape, StoreState}
 use Rattle.lfs_logstore.specs.States.{state_of}
+use Rattle.lfs_server.specs.Unserved.{OnLeft}
 use Rattle.lfs_server.proofs.ServeLemmas.{legal_from_opening, on_ok, serve_faults, layout_fault}
 use Rattle.lfs_server.proofs.serve.serve.Goals as goal
 
@@ -28,12 +29,12 @@ returns-clause-legal g c =
 
 pub returns-clause-limit : goal.returns-clause-limit
 returns-clause-limit g c =
-    subst (λ (limit : ℕ). IfOk c.serve_over.result (λ closed. closed.volume.limit ≡ limit))
+    subst (λ (limit : ℕ). OnLeft c.serve_over.result (λ closed. closed.volume.limit ≡ limit))
     c.in_ok-volume.ensures.fresh.1 c.serve_over.ensures.limit
 
 pub returns-clause-shape : goal.returns-clause-shape
 returns-clause-shape g c =
-    subst (λ (shape : Shape). IfOk c.serve_over.result (λ closed. (state_of closed.volume.store).shape ≡ shape))
+    subst (λ (shape : Shape). OnLeft c.serve_over.result (λ closed. (state_of closed.volume.store).shape ≡ shape))
     (ap (λ (s : StoreState). s.shape) c.in_ok-volume.ensures.fresh.2.opening) c.serve_over.ensures.shape
 
 pub returns-clause-ranges : goal.returns-clause-ranges
