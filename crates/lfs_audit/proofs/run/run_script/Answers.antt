@@ -12,6 +12,10 @@ returns-clause-written g c =
     c.in_ok-volume.ensures.begins c.in_ok-plan.ensures.plan c.into_steps.ensures c.in_ok-volume.ensures.fresh.1
     c.in_ok-volume.ensures.fresh.2 run)
 
+pub returns-clause-ranges : goal.returns-clause-ranges
+returns-clause-ranges g c =
+    on_ok c.run_plan.result c.run_plan.ensures.written (λ run. c.in_ok-volume.ensures.ranges)
+
 pub returns-clause-fault : goal.returns-clause-fault
 returns-clause-fault g c =
     late_script_faults _ _ _ _ c.run_plan.result
