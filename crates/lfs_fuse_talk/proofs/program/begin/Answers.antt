@@ -1,3 +1,4 @@
+use Rattle.std.proofs.lemmas.Result.{err_from_is_err_and}
 use Rattle.lfs_fuse_talk.proofs.CourseLemmas.{begun_file, first_of}
 use Rattle.lfs_fuse_talk.proofs.program.begin.Goals as goal
 
@@ -11,3 +12,8 @@ returns-clause-begun g c = (
         c.new-ledger.ensures.first);
   },
 )
+
+pub returns-in_err-file-clause-fault : goal.returns-in_err-file-clause-fault
+returns-in_err-file-clause-fault g c =
+    let exit = err_from_is_err_and c.from_residual-in_err-file.result c.from_residual-in_err-file.ensures.1 in
+    rw (exit.1, exit.2) c.in_err-file.ensures.asked
