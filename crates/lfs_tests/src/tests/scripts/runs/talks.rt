@@ -1,10 +1,9 @@
-//! Talks: lines that are read and faults of lines, which are those of scripts, the longest line, many lines, and that each
-//! answer is out before the next line is read.
+//! Talks: faults of lines, which are those of scripts, the longest line, many lines, and that each answer is out before the
+//! next line is read.
 
 use super::{PARAMS, expect_threads_unwritten, expect_unwritten};
 use crate::tests::{expect_eq, expect_lines, push, repeated};
 use lfs_audit::fault::{RunFault, ThreadsFault};
-use lfs_audit::run::run_script;
 use lfs_live::start::run_lines;
 use lfs_script::fault::{FaultKind, ScriptFault};
 use lfs_types::cred::BadCred;
@@ -89,61 +88,6 @@ fn name_that_is_too_long_is_a_fault(rt: HostRuntime) {
     let line = format!(in rt.alloc(); "stat /{line}").expect(&rt, "memory");
     let kind = FaultKind::Path(BadPath::Name(1, BadName::Long));
     expect_fault(&rt, rt.alloc(), line.as_str(), kind);
-}
-
-/// Lines whose words are the least or the greatest that are read.
-const RIGHT: [&str; 19] = [
-    "session 0",
-    "session 8",
-    "as 0 0 init",
-    "as 4294967295 0,1,2,3,4,5,6,7,8,9,10,11,12,13,14,4294967295",
-    "level -1",
-    "level 2",
-    "stat /",
-    "read / 0 0",
-    "read / 18446744073709551615 4294967295",
-    "length / 18446744073709551615",
-    "chmod / 0",
-    "chmod / 007777",
-    "chflags / 0",
-    "chflags / 00070007",
-    "write / end -",
-    "write / at 18446744073709551615 00",
-    "bmapv 0:0:0:0",
-    "bmapv 4294967295:4294967295:4294967295:4294967295",
-    "markv",
-    "segclean 4294967295",
-];
-
-/// Asserts that a line is read, in a script and in a talk.
-fn expect_read(rt: &impl Abort, alloc: Global, line: &str) {
-    let line = format!(in alloc; "{line}\n").expect(rt, "memory");
-    let mut out = Vec::new(alloc);
-    run_script(alloc, &mut line.as_bytes(), &mut out, PARAMS).expect(rt, "a run");
-    let told = told(rt, alloc, line.as_bytes(), PARAMS);
-    expect_eq(rt, told.as_slice(), out.as_slice());
-}
-
-#[test]
-fn least_and_greatest_words_are_read(rt: HostRuntime) {
-    for line in RIGHT {
-        expect_read(&rt, rt.alloc(), line);
-    }
-}
-
-/// The longest name, the longest path and the most bytes.
-#[test]
-fn longest_words_are_read(rt: HostRuntime) {
-    let alloc = rt.alloc();
-    let name = repeated(&rt, alloc, "n", 255);
-    let line = format!(in alloc; "stat /{name}").expect(&rt, "memory");
-    expect_read(&rt, alloc, line.as_str());
-    let path = repeated(&rt, alloc, "/n", 512);
-    let line = format!(in alloc; "stat {path}").expect(&rt, "memory");
-    expect_read(&rt, alloc, line.as_str());
-    let bytes = repeated(&rt, alloc, "6e", 4_096);
-    let line = format!(in alloc; "write / end {bytes}").expect(&rt, "memory");
-    expect_read(&rt, alloc, line.as_str());
 }
 
 /// A comment of so many bytes, and a call behind it.
