@@ -1,7 +1,7 @@
 -- An audit that reads on.
 use Rattle.std.proofs.Common.{◌≡◌, ℕ, ◌+◌, List, [], ◌∷◌, ◌++◌, length, Option, sym, ap, subst, ◌∙◌, arith}
 use Rattle.std.proofs.Common.{append_assoc, length-append}
-use Rattle.std.specs.Prelude.{Ok, Err}
+use Rattle.std.specs.Prelude.{Ok}
 use Rattle.std.specs.Io.KnownBytes.{Consumes}
 use Rattle.std.specs.List.{All}
 use Rattle.std.proofs.KnownBytes.{Consumes-nil, Consumes-trans}
@@ -16,7 +16,6 @@ use Rattle.lfs_words.specs.Lines.{HasNoLineFeed}
 use Rattle.lfs_trace.specs.Checking.{IsSameStanding, Standing, StandsAt, numbers_of}
 use Rattle.lfs_trace.specs.Errors.{IsCheckedAs, IsLegalAs}
 use Rattle.lfs_trace.proofs.ErrorLemmas.{legal_as-append}
-use Rattle.lfs_trace.specs.declared.fault.EntryFault.{EntryFault}
 use Rattle.lfs_auditing.specs.Audits.{AreTold, HasRead, HasReadOn, StopsAtLine, StopsBehind, behind}
 use Rattle.lfs_auditing.specs.Audits.{lines_text, told_as}
 use Rattle.lfs_auditing.specs.Users.{AreCounted}
@@ -50,22 +49,6 @@ module _ (from : World) (old new : Audit) (mid : Standing) (es : List Entry) (e 
         counted = let one = read.counted in let grown : length (es ++ e ∷ []) ≡ length es
             + 1 = length-append es (e ∷ []) in omega (arith, one, grown, count);
         users = users;
-      }
-
-  -- an entry that is illegal leaves an audit where it is
-  pub read_same : (fault : EntryFault)
-      → IsCheckedAs old.denials old.checker new.checker e.cred e.event (Err fault) → new.denials ≡ old.denials
-      → new.entries ≡ old.entries → new.users ≡ old.users → HasRead from new es
-  read_same fault checked denials count users =
-      let w = behind from old es in record {
-        legal = subst (λ d. IsLegalAs d (numbers_of new.checker) new.checker.segments es from) (sym denials)
-            (subst (λ m. IsLegalAs old.denials m new.checker.segments es from) (sym checked.numbers)
-            (subst (λ s. IsLegalAs old.denials (numbers_of old.checker) s es from) (sym checked.segments)
-            read.legal));
-        stands = subst (λ m. StandsAt new.checker (world_after m es from)) (sym checked.numbers)
-            (checked.stays w read.stands);
-        counted = count ∙ read.counted;
-        users = subst (λ u. AreCounted u.counts es) (sym users) read.users;
       }
 
 -- ---- lines

@@ -1,19 +1,18 @@
 -- What an audit tells as JSON has no float, and grows by its parts.
 use Rattle.std.proofs.Common.{◌≡◌, ℕ, ◌==◌, ◌+◌, ◌<◌, ◌≤◌, ◌||◌, Bool, true, false, List, [], ◌∷◌, ◌++◌, length, take, get_or}
 use Rattle.std.proofs.Common.{map, refl, ap, sym, ◌∙◌, arith}
-use Rattle.std.specs.Prelude.{◌≢◌, codes}
 use Rattle.std.specs.List.{flat_map, zip}
-use Rattle.std.proofs.lemmas.Bool.{eq-eqb, ne_eqb}
-use Rattle.std.proofs.lemmas.List.{append-nil, flat_map_more, map-append, take_all, take_more}
+use Rattle.std.proofs.lemmas.Bool.{eq-eqb}
+use Rattle.std.proofs.lemmas.List.{append-nil, flat_map_more, take_all, take_more}
 use Rattle.std.proofs.lemmas.Slice.Zip.{get_or-zip, length-zip}
-use Rattle.serde_json.specs.Data.{Data, member, no_members, object, string}
+use Rattle.serde_json.specs.Data.{Data}
 use Rattle.serde_json.specs.View.{items_of, items_view, view}
 use Rattle.serde_json.specs.Written.{has_float, items_have_float}
 use Rattle.serde_json.specs.declared.value.Value.{Value}
-use Rattle.lfs_types.specs.RuleCodes.{rule_code, rules}
+use Rattle.lfs_types.specs.RuleCodes.{rules}
 use Rattle.lfs_types.specs.declared.rule.Rule.{Rule}
 use Rattle.lfs_model.specs.declared.counts.Counts.{Counts}
-use Rattle.lfs_auditing.specs.Json.{ArePlain, IsPlain, count, report_data, rule_data, user_data, users_data}
+use Rattle.lfs_auditing.specs.Json.{ArePlain, IsPlain, report_data, rule_data, user_data, users_data}
 use Rattle.lfs_auditing.specs.declared.json.Parts.{Parts}
 
 -- ---- without floats
@@ -89,12 +88,3 @@ pub rule_none : (ds : List Data) (rule : Rule) (n : ℕ) → n ≡ 0 → ds ≡ 
 rule_none ds rule n none =
     let empty : rule_data (rule, n) ≡ [] = rw (eq-eqb n 0 none) refl in
     sym (ap (λ (xs : List Data). ds ++ xs) empty ∙ append-nil ds)
-
-pub rule_added : (vs new : List Value) (v : Value) (rule : Rule) (n : ℕ) → n ≢ 0
-    → view v ≡ object (member (codes "denied") (count n) (member (codes "rule") (string (rule_code rule)) no_members))
-    → new ≡ vs ++ v ∷ [] → map view new ≡ map view vs ++ rule_data (rule, n)
-rule_added vs new v rule n some is grown =
-    let shown : rule_data (rule, n) ≡ object (member (codes "denied") (count n) (member (codes "rule")
-    (string (rule_code rule)) no_members)) ∷ [] = rw (ne_eqb n 0 some) refl in
-    ap (λ (xs : List Value). map view xs) grown ∙ map-append view vs (v ∷ [])
-    ∙ ap (λ (d : Data). map view vs ++ d ∷ []) is ∙ ap (λ (xs : List Data). map view vs ++ xs) (sym shown)

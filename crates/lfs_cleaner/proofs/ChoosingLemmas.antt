@@ -1,8 +1,7 @@
 -- The best of dirty segments, segment by segment.
-use Rattle.std.proofs.Common.{ℕ, ◌+◌, ◌/◌, ◌<◌, List, length, Some, slice_index, arith}
+use Rattle.std.proofs.Common.{ℕ, ◌+◌, ◌/◌, ◌<◌, List, length, slice_index, arith}
 use Rattle.lfs_ifile.specs.Layout.{number_at}
-use Rattle.lfs_cleaner.specs.Choosing.{IsBestBelow, IsChosen, IsDirty}
-use Rattle.lfs_cleaner.specs.declared.choosing.Candidate.{Candidate}
+use Rattle.lfs_cleaner.specs.Choosing.{IsDirty}
 
 -- four bytes make no more than four bytes do
 pub number_at-fits : (bytes : List ℕ) (place : ℕ) → ((i : ℕ) → slice_index bytes i < 256)
@@ -23,13 +22,3 @@ dirty_below bytes segment live small is =
     let within = is.segment in
     let fits = number_at-fits bytes 4 small in
     (omega arith, omega arith)
-
--- what was chosen below a bound that no dirty segment reaches is chosen
-pub chosen : (bytes : List ℕ) (bound : ℕ) (best : Candidate)
-    → ((segment live : ℕ) → IsDirty bytes segment live → segment < bound) → IsBestBelow bytes bound (Some best)
-    → IsChosen bytes best.segment
-chosen bytes bound best all is = record {
-  live = best.live;
-  dirty = is.0;
-  first = λ other other_live h. is.2 other (all other other_live h) other_live h;
-}

@@ -10,7 +10,6 @@ use Rattle.std.specs.List.{list_any}
 use Rattle.std.specs.FinMap as fin
 use Rattle.lfs_types.specs.Caller.{Caller}
 use Rattle.lfs_types.specs.Tree.{root}
-use Rattle.lfs_types.specs.declared.attrs.Attrs.{Attrs}
 use Rattle.lfs_types.specs.declared.rule.Rule.TheVariants.{IsNotBeneathItself}
 use Rattle.lfs_types.proofs.Somewhere.{There}
 use Rattle.lfs_model.specs.World.{Rows, child, children}
@@ -80,9 +79,6 @@ module _ (rows : Rows) (caller : Caller) (from to : List (List ℕ)) (e1 e2 : Bo
   pub record IsKnown (o : Option ShownRow) : Type 0 where
     pub seen : (row : ShownRow) → o ≡ Some row → row ≡ shown_row rows row.number
     pub childless : (row : ShownRow) → o ≡ Some row → e2 ≡ (length (children rows row.number) == 0)
-
-  abbrev dir_attrs : Attrs
-  dir_attrs = attrs_at rows (reached rows root (front to))
 
   taken_is : (row : ShownRow) → row ≡ shown_row rows row.number → e2 ≡ (length (children rows row.number) == 0)
       → placing_tests rows caller moved (reached rows root (front to)) (Some row.number) (length (front to))

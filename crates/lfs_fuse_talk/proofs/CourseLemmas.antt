@@ -16,7 +16,7 @@ use Rattle.lfs_mount.specs.Runs.{GoesOn}
 use Rattle.lfs_fuse_talk.specs.Filing.{HasFile, HasLines, IsCurrent, IsFirst, IsHandedOut, IsLetGo, IsShut, MovesOn, Stays}
 use Rattle.lfs_fuse_talk.specs.Filing.{Takes, is_open, lost_reply}
 use Rattle.lfs_fuse_talk.specs.Images.{IsKept}
-use Rattle.lfs_fuse_talk.specs.Serving.{Advances, BeginsServing, Course, HasRested, HasServed, IsEntered, IsServed}
+use Rattle.lfs_fuse_talk.specs.Serving.{Advances, BeginsServing, HasRested, HasServed, IsEntered, IsServed}
 use Rattle.lfs_fuse_talk.specs.Serving.{IsServedOf}
 use Rattle.lfs_fuse_talk.specs.Serving.{IsServedTo, Server, course_of, held, held_over, serving}
 use Rattle.lfs_fuse_talk.specs.Talking.{AreAnswered, Answering, HasTalked, answering_of}
@@ -220,13 +220,6 @@ answered_of contents r header found old mid new message made items (Ok told) fal
     (entered_lost contents r header old mid new message made (items told) served goes ledger same (shut refl) (lost refl))
 answered_of contents r header found old mid new message made items (Err fault) is_kept is served goes ledger same kept shut
     said lost = tt
-
--- of bytes without a header nothing comes
-pub advances_none : {F P W : Type 0} (contents : W → Option (List ℕ))
-    (Does : Option (List ℕ) → Course F P W → Course F P W → Type 0) (old : Served F P W)
-    → ((first : Option (List ℕ)) (handed : List Entry) → Does first (course_of old handed) (course_of old handed))
-    → Advances contents Does old old
-advances_none contents Does old nothing first is_filed handed current = (handed, nothing first handed, current)
 
 -- what is done behind a message
 pub rested_on : {F P W : Type 0} (contents : W → Option (List ℕ)) (state : F → StoreState)

@@ -1,11 +1,11 @@
 -- How `lfs_fuse` ends, by how its talk did.
 use Rattle.std.proofs.Common.{◌≡◌, ℕ, ◌≤◌, ◌⊎◌, inl, inr, Bool, true, false, List, Option, Result, Ok, Err, IfOk, IfErr}
-use Rattle.std.proofs.Common.{IsSome, arith, refl, sym, subst, ◌∙◌}
+use Rattle.std.proofs.Common.{IsSome, arith, sym, subst, ◌∙◌}
 use Rattle.std.specs.Prelude.{MatchResult, OnOk}
 use Rattle.lfs_staging.specs.declared.parts.Parts.{Parts as Log}
 use Rattle.lfs_fuse_wire.specs.declared.framing.Frame.{Frame}
 use Rattle.lfs_fuse_wire.specs.declared.framing.Frame.TheVariants.{Partial, Bad}
-use Rattle.lfs_fuse_talk.specs.Ends.{EndsServing, IsBroken, IsUnserved, status_of}
+use Rattle.lfs_fuse_talk.specs.Ends.{EndsServing, IsBroken, status_of}
 use Rattle.lfs_fuse_talk.specs.Serving.{HasServed, Server}
 use Rattle.lfs_fuse_talk.specs.Steps.{IsTalkFault}
 use Rattle.lfs_fuse_talk.specs.declared.fault.TalkFault.{TalkFault}
@@ -37,18 +37,6 @@ broken_read options IsUnread Serves Save broken = broken
 broken_read options IsUnread Serves Message broken = broken
 broken_read options IsUnread Serves Reply broken = broken
 broken_read options IsUnread Serves Memory broken = tt
-
-broken_unread : (options : Options) (IsUnread : Type 0) (Serves : Frame → Bool → Bool → Bool → Type 0)
-    (fault : TalkFault) → IsUnserved options fault → IsUnread → IsBroken options IsUnread Serves fault
-broken_unread options IsUnread Serves (Format fault) unserved unread = (unserved, unread)
-broken_unread options IsUnread Serves (Read fault) unserved unread = (unserved, unread)
-broken_unread options IsUnread Serves (Image fault) unserved unread = (unserved, unread)
-broken_unread options IsUnread Serves (Open fault) unserved unread = (unserved, unread)
-broken_unread options IsUnread Serves Journal unserved unread = absurd unserved
-broken_unread options IsUnread Serves Save unserved unread = absurd unserved
-broken_unread options IsUnread Serves Message unserved unread = absurd unserved
-broken_unread options IsUnread Serves Reply unserved unread = absurd unserved
-broken_unread options IsUnread Serves Memory unserved unread = tt
 
 -- the fault of a talk itself
 pub broken_talk : (options : Options) (Serves : Frame → Bool → Bool → Bool → Type 0) (fault : TalkFault)
@@ -96,23 +84,5 @@ ends_served contents options r known left start out status in_before in_after ou
         told,
         broken_read options ((in_after ≡ in_before) × (out_after ≡ out_before))
             (HasServed contents options r known left start out) fault broken,
-      );
-    }
-
--- a mount that did not begin
-pub ends_unserved : {F P R W D : Type 0} (contents : F → Option (List ℕ)) (options : Options) (r : Server Log P)
-    (known left start out : Option (List ℕ)) (status : ℕ) (here : R) (there : W) (err_before err_after : D)
-    (fault : TalkFault) → IsUnserved options fault → status ≡ status_of fault
-    → EndsServing contents options r known left start out status here here there there err_before err_after
-ends_unserved contents options r known left start out status here there err_before err_after fault unserved told =
-    let between = status_between fault in
-    record {
-      either = omega (arith, told, between.1);
-      done = λ none. absurd (omega (arith, told, none, between.0));
-      failed = λ _. (
-        fault,
-        told,
-        broken_unread options ((here ≡ here) × (there ≡ there))
-            (HasServed contents options r known left start out) fault unserved (refl, refl),
       );
     }

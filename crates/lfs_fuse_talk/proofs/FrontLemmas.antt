@@ -29,9 +29,6 @@ pub record IsWhole (most size told found : ℕ) : Type 0 where
   pub most_so : told ≤ most
   pub there : told ≤ size
 
-whole_of : (most size told found : ℕ) → frame_of most size told ≡ Whole found → IsWhole most size told found
-whole_of most size told found is = grind (arith)
-
 whole_in : (most : ℕ) (bytes : List ℕ) (found : ℕ) → frame_in most bytes ≡ Whole found
     → IsWhole most (length bytes) (number_at bytes 0 4) found
 whole_in most bytes found is = grind (arith)

@@ -1,10 +1,9 @@
 -- Messages are answered one after another.
 use Rattle.std.proofs.Common.{◌≡◌, ℕ, Bool, true, false, ◌&&◌, List, [], ◌∷◌, ◌++◌, take, drop, Option}
-use Rattle.std.proofs.Common.{None, Some}
 use Rattle.std.proofs.Common.{refl, sym, ap, subst, ◌∙◌, append_assoc, append-nil}
 use Rattle.std.specs.List.{concat}
-use Rattle.std.specs.Io.KnownBytes.{Appends, Consumes, Keeps}
-use Rattle.std.proofs.KnownBytes.{Appends-kept, Appends-nil, Appends-trans, Consumes-kept, Consumes-nil, Consumes-trans}
+use Rattle.std.specs.Io.KnownBytes.{Appends, Consumes}
+use Rattle.std.proofs.KnownBytes.{Appends-nil, Appends-trans, Consumes-nil, Consumes-trans}
 use Rattle.std.proofs.lemmas.List.{take-append-drop}
 use Rattle.std.proofs.lemmas.List.Folds.{concat-append}
 use Rattle.lfs_fuse_wire.specs.declared.framing.Frame.{Frame}
@@ -21,9 +20,6 @@ pub record IsLeft (reply rest : List ℕ) (start out : Option (List ℕ)) : Type
   pub front : gone ++ rest ≡ reply
   pub written : Appends start out gone
 
-pub left_all : (reply : List ℕ) (start : Option (List ℕ)) → IsLeft reply reply start start
-left_all reply start = record { gone = []; front = refl; written = Appends-nil start }
-
 -- so many bytes were written
 pub left_less : (reply rest : List ℕ) (start out more : Option (List ℕ)) (count : ℕ) (behind : List ℕ)
     → IsLeft reply rest start out → Appends out more (take count rest) → behind ≡ drop count rest
@@ -35,44 +31,6 @@ left_less reply rest start out more count behind left written same = record {
   written = Appends-trans start out more left.gone (take count rest) left.written written;
 }
 
--- a write failed
-pub left_kept : (reply rest : List ℕ) (start out more : Option (List ℕ)) → IsLeft reply rest start out → Keeps out more
-    → IsLeft reply rest start more
-left_kept reply rest start out more left kept = record {
-  gone = left.gone;
-  front = left.front;
-  written = Appends-kept start out more left.gone left.written kept;
-}
-
--- a write took no bytes
-pub kept_if_none : (start out : Option (List ℕ)) → Appends start out [] → Keeps start out
-kept_if_none None out appends = tt
-kept_if_none (Some xs) None appends = absurd appends
-kept_if_none (Some xs) (Some ys) appends = appends ∙ append-nil xs
-
-pub kept_is_none : (start out : Option (List ℕ)) → Keeps start out → Appends start out []
-kept_is_none start out kept = Appends-kept start start out [] (Appends-nil start) kept
-
-pub sent_whole : (reply rest : List ℕ) (start out : Option (List ℕ)) → IsLeft reply rest start out → rest ≡ []
-    → IsSent reply true start out
-sent_whole reply rest start out left none = record {
-  part = left.gone;
-  rest = rest;
-  front = left.front;
-  whole = λ _. sym (append-nil left.gone) ∙ ap (λ l. left.gone ++ l) (sym none) ∙ left.front;
-  written = left.written;
-}
-
-pub sent_part : (reply rest : List ℕ) (start out : Option (List ℕ)) → IsLeft reply rest start out
-    → IsSent reply false start out
-sent_part reply rest start out left = record {
-  part = left.gone;
-  rest = rest;
-  front = left.front;
-  whole = λ is. absurd (cc);
-  written = left.written;
-}
-
 and_first : (a b : Bool) → (a && b) ≡ true → a ≡ true
 and_first true b is = refl
 and_first false b is = is
@@ -80,16 +38,6 @@ and_first false b is = is
 and_second : (a b : Bool) → (a && b) ≡ true → b ≡ true
 and_second true b is = is
 and_second false b is = absurd (cc)
-
-pub sent_on : (reply : List ℕ) (written handed : Bool) (start out more : Option (List ℕ))
-    → IsSent reply written start out → Keeps out more → IsSent reply (written && handed) start more
-sent_on reply written handed start out more sent kept = record {
-  part = sent.part;
-  rest = sent.rest;
-  front = sent.front;
-  whole = λ is. sent.whole (and_first written handed is);
-  written = Appends-kept start out more sent.part sent.written kept;
-}
 
 -- ---- replies
 
@@ -208,19 +156,6 @@ so_far_next r old middle new bytes rest message behind is_whole is_sent start ou
     so_far_append r old middle new bytes rest behind is_whole is_sent start out then so_far
     (so_far_one r middle new rest message behind is_sent out then first step)
 
-pub so_far_end : {M : Type 0} (r : Answering M) (left_over : Frame) (old new : M) (bytes behind : List ℕ)
-    (is_whole : Bool) (start out : Option (List ℕ))
-    → SoFar r old new bytes behind is_whole start out → frame_of behind ≡ left_over
-    → HasAnswered r left_over old new bytes behind is_whole start out
-so_far_end r left_over old new bytes behind is_whole start out so_far over = record {
-  messages = so_far.messages;
-  replies = so_far.replies;
-  cut = so_far.cut;
-  answered = so_far.answered;
-  sent = so_far.sent;
-  over = over;
-}
-
 -- the same, whether or not each reply was written whole
 pub so_far_bad : {M : Type 0} (r : Answering M) (left_over : Frame) (old new : M) (bytes behind : List ℕ)
     (is_whole : Bool) (start out : Option (List ℕ))
@@ -312,15 +247,3 @@ talked_bad r left_over old middle new behind pending chunk rest is_whole known l
           (talked_far r left_over old middle new talked.bytes behind pending chunk rest is_whole false start out then
           talked.so_far same answered) answered.over;
     }
-
--- nothing more was read
-pub talked_end : {M : Type 0} (r : Answering M) (old new : M) (behind : List ℕ) (is_whole : Bool)
-    (known left after start out : Option (List ℕ))
-    → TalkedSoFar r old new behind is_whole known left start out → Keeps left after
-    → HasTalked r Partial old new is_whole known after start out
-talked_end r old new behind is_whole known left after start out talked kept = record {
-  bytes = talked.bytes;
-  behind = behind;
-  taken = Consumes-kept known left after talked.bytes talked.taken kept;
-  answered = so_far_end r Partial old new talked.bytes behind is_whole start out talked.so_far talked.over;
-}

@@ -9,7 +9,7 @@ use Rattle.lfs_types.specs.declared.level.Level.{Level}
 use Rattle.lfs_types.specs.declared.level.Level.TheVariants.{PermanentlyInsecure, Insecure, Secure, HighlySecure}
 use Rattle.lfs_ifile.specs.Layout.{number_at, u32_bytes}
 use Rattle.lfs_image.specs.declared.head.Head.{Head}
-use Rattle.lfs_image.specs.Heads.{IsInRange, MayHead, ReadsHead}
+use Rattle.lfs_image.specs.Heads.{MayHead, ReadsHead}
 use Rattle.lfs_image.specs.Image.{head_bytes, level_word}
 
 level-fits : (level : Level) → level_word level < 2 ^ 32
@@ -76,12 +76,3 @@ pub no_head : (bytes : List ℕ) (a : Head) → ReadsHead bytes a → (take 512 
     → (h : Head) → MayHead h → take 512 bytes ≡ head_bytes h → ⊥
 no_head bytes a reads other h is begins =
     other (begins ∙ ap head_bytes (one_head bytes h a (head_read bytes h is begins) reads))
-
--- the range of the numbers that bytes say is that of their head
-pub in_range : (bytes : List ℕ) (h : Head) → ReadsHead bytes h
-    → IsInRange (number_at bytes 8) (number_at bytes 12) (number_at bytes 16) (number_at bytes 20) → MayHead h
-in_range bytes h reads is =
-    subst (λ s. IsInRange s h.inodes h.active h.used) reads.segments
-    (subst (λ n. IsInRange (number_at bytes 8) n h.active h.used) reads.inodes
-    (subst (λ a. IsInRange (number_at bytes 8) (number_at bytes 12) a h.used) reads.active
-    (subst (λ u. IsInRange (number_at bytes 8) (number_at bytes 12) (number_at bytes 16) u) reads.used is)))

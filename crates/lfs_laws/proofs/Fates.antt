@@ -112,11 +112,6 @@ giving false true true false false h = absurd (cc)
 giving false true false g m h = absurd (cc)
 giving false false u g m h = absurd (cc)
 
-owner_of : (s o : Bool) (rest : Bool) → (s || (o && rest)) ≡ true → (s || o) ≡ true
-owner_of true o rest h = refl
-owner_of false true rest h = refl
-owner_of false false rest h = absurd (cc)
-
 -- whoever may set such flags is the superuser
 pub only_super : (s system : Bool) → (s || not system) ≡ true → system ≡ true → s ≡ true
 only_super true system h e = refl

@@ -11,7 +11,6 @@ use Rattle.lfs_types.specs.Caller.{Caller}
 use Rattle.lfs_types.specs.Tree.{root}
 use Rattle.lfs_types.specs.declared.attrs.Bit.TheVariants as bits
 use Rattle.lfs_types.specs.declared.rule.Denial.{Denial}
-use Rattle.lfs_types.specs.declared.rule.Rule.{Rule}
 use Rattle.lfs_model.specs.World.{Rows, child}
 use Rattle.lfs_model.specs.Rules.{Check, first_failing, judged, is_directory_row, row_grants, next, reached, walk}
 use Rattle.lfs_model.specs.Walks.{found, and_then, walked}
@@ -30,9 +29,6 @@ module _ (path k : ℕ) (kind search name : Denial) (rest tail : Option Denial) 
   goes_on true true (Some n) stop none some h = h ∙ sym (ap (λ r. after_walk (and_then r on) rest) (some n refl))
   goes_on true false o stop none some h = refl
   goes_on false s o stop none some h = refl
-
-found-none : (path k : ℕ) (o : Option ℕ) → o ≡ None → found path k o ≡ found path k None
-found-none path k o e = ap (found path k) e
 
 -- the first failing test of a walk and others is its denial, or that of the others
 pub failing_walk : (rows : Rows) (caller : Caller) (path k at : ℕ) (names : List (List ℕ)) (rest : List Check)
@@ -93,10 +89,6 @@ walked-reached rows caller path k at [] n h = cc
 walked-reached rows caller path k at (name ∷ names) n h =
     let t = walked_taken rows caller path k at name names n h in
     ap (λ o. reached rows (unwrap_or o 0) names) t.child ∙ walked-reached rows caller path (k + 1) t.to names n t.rest
-
--- the denial by a rule at a component of the only path
-abbrev pub denied_at : ℕ → Rule → Denial
-denied_at at rule = record { rule = rule; path = 0; at = at }
 
 -- ---- tests and others behind them
 

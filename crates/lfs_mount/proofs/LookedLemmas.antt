@@ -1,6 +1,6 @@
 -- A look at a volume changes nothing that it shows: what holds in the tree that it leads to holds behind the look, and
 -- held before it.
-use Rattle.std.proofs.Common.{◌≡◌, ℕ, List, [], ◌++◌, ◌∙◌, refl, sym, ap, subst, append-nil}
+use Rattle.std.proofs.Common.{[], ◌∙◌, sym, ap, subst, append-nil}
 use Rattle.lfs_types.specs.StoreStates.{StoreState}
 use Rattle.lfs_types.specs.Tree.{World}
 use Rattle.lfs_model.specs.Steps.{world_after}
@@ -13,9 +13,6 @@ use Rattle.lfs_mount.specs.Runs.{GoesOn, IsRun}
 use Rattle.lfs_mount.specs.Trees.{StayTrue}
 
 module _ {F : Type 0} (state : F → StoreState) where
-  pub looked_none : (old : Seen F) → IsLooked state old old
-  looked_none old = record { unchanged = refl; others = refl }
-
   pub looked_again : (old between new : Seen F) → IsLooked state old between → IsLooked state between new
       → IsLooked state old new
   looked_again old between new first second = record {

@@ -1,5 +1,5 @@
 -- A Sync leaves the tree, and what is shown of it.
-use Rattle.std.proofs.Common.{◌≡◌, ℕ, Bool, true, false, List, ◌++◌, refl, sym, ap, subst, ◌∙◌, if◌then◌else◌}
+use Rattle.std.proofs.Common.{◌≡◌, ℕ, List, ◌++◌, refl, sym, ap, subst, ◌∙◌}
 use Rattle.lfs_types.specs.Caller.{Caller}
 use Rattle.lfs_types.specs.StoreStates.{Follows, Shape, StoreState}
 use Rattle.lfs_types.specs.Tree.{World}
@@ -15,7 +15,6 @@ use Rattle.lfs_model.specs.declared.journal.Entry.{Entry}
 use Rattle.lfs_model.proofs.RunLemmas.{world_after-append}
 use Rattle.lfs_volume.specs.Journals.{AtPresent, Begins, IsJournal, Since}
 use Rattle.lfs_volume.specs.Seen.{Seen}
-use Rattle.lfs_mount.specs.Tending.{let_go}
 
 sync_leaves : (numbers session : ℕ) (caller : Caller) (answer : Answer) (w : World)
     → world_after numbers (kept_entry session caller Sync answer) w ≡ w
@@ -47,30 +46,3 @@ sync_shown {F} state old made session caller answer entered legal since since_le
     ∙ world_after-append numbers old.journal entry from
     ∙ sync_leaves numbers session caller answer (world_after numbers old.journal from) in
     subst (Begins (state made.store) made.level) same (record { shown = j.shown; at_level = j.at_level })
-
--- store and level show the tree that a journal leads to
-pub volume_shown : {F : Type 0} (state : F → StoreState) (v : Seen F)
-    → Since (state v.since) v.since_level (λ from. IsJournal from (state v.store) v.level v.journal v.limit)
-    → AtPresent state v (Begins (state v.store) v.level)
-volume_shown state v legal = λ from begins.
-    let j = legal from begins in
-    record { shown = j.shown; at_level = j.at_level }
-
--- a Sync, where the entries may have been let go before
-pub let_go_shown : {F : Type 0} (state : F → StoreState) (did : Bool) (old between new : Seen F)
-    → between ≡ (if did then let_go old else old)
-    → AtPresent state old (Begins (state old.store) old.level)
-    → AtPresent state between (Begins (state new.store) new.level)
-    → AtPresent state old (Begins (state new.store) new.level)
-let_go_shown state true old between new is begins shown =
-    let after = subst (λ v. AtPresent state v (Begins (state new.store) new.level)) is shown in
-    λ from here. after (world_after (state old.store).shape.numbers old.journal from) (begins from here)
-let_go_shown state false old between new is begins shown =
-    subst (λ v. AtPresent state v (Begins (state new.store) new.level)) is shown
-
--- nothing was done
-pub unchanged_shown : {F : Type 0} (state : F → StoreState) (old new : Seen F) → new ≡ old
-    → AtPresent state old (Begins (state old.store) old.level)
-    → AtPresent state old (Begins (state new.store) new.level)
-unchanged_shown state old new is begins =
-    subst (λ v. AtPresent state old (Begins (state v.store) v.level)) (sym is) begins

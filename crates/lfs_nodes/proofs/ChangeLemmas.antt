@@ -3,20 +3,16 @@
 -- the row's node (`its_row`, `its_id`), since names are unique in a tree and nodes apart; a look-up that finds none
 -- gives the next id, which is of no node. Two nodes of one row would give a file two identities in the kernel, and a
 -- removal would reach one of them.
-use Rattle.std.proofs.Common.{◌≡◌, ◌≢◌, ℕ, Bool, List, [], Option, None, Some, true, false, refl, sym, ap, subst, ◌∙◌}
-use Rattle.std.proofs.Common.{⊎_elim, length, ◌+◌, Result, Ok, Err, arith}
-use Rattle.std.specs.Prelude.{IsSome, IsSomeAnd, IfOk, OnErr, ◌==◌, if◌then◌else◌}
+use Rattle.std.proofs.Common.{◌≡◌, ◌≢◌, ℕ, List, Option, None, Some, refl, sym, ap, subst, ◌∙◌}
+use Rattle.std.proofs.Common.{⊎_elim, ◌+◌, Result, Ok, Err, arith}
+use Rattle.std.specs.Prelude.{IsSome, IfOk, OnErr}
 use Rattle.std.specs.Option.{option_map}
 use Rattle.std.specs.FinMap as map
-use Rattle.std.proofs.lemmas.Bool.{cases_eq, cond-true, cond-false, eq-eqb, ne_eqb}
-use Rattle.lfs_types.specs.Tree.{Row, World, root}
-use Rattle.lfs_types.proofs.Maps.{get-remove_other}
+use Rattle.std.proofs.lemmas.Bool.{cases_eq}
+use Rattle.lfs_types.specs.Tree.{root}
 use Rattle.lfs_types.proofs.Somewhere.{some_and, there_of}
-use Rattle.lfs_model.specs.World.{Rows, child, children, IsChild, IsTree}
-use Rattle.lfs_model.specs.Effects.{after_rename, with_place, without_row}
-use Rattle.lfs_model.proofs.Children.{child-is, child-none}
+use Rattle.lfs_model.specs.World.{Rows, IsChild, IsTree}
 use Rattle.lfs_model.proofs.EffectTree.{childless}
-use Rattle.lfs_model.proofs.Shrunk.{hangs_still}
 use Rattle.lfs_nodes.specs.declared.place.Place.{Place}
 use Rattle.lfs_nodes.specs.declared.node.Hang.{Hang}
 use Rattle.lfs_nodes.specs.declared.node.Hang.TheVariants.{Root, At, Gone}
@@ -31,8 +27,8 @@ use Rattle.lfs_nodes.specs.Holds.{fresh}
 use Rattle.lfs_nodes.specs.declared.fault.LookUpFault.{LookUpFault}
 use Rattle.lfs_nodes.specs.Whole.{IsWhole}
 use Rattle.lfs_nodes.proofs.HoldsLemmas.{hang_shown, number_shown, live_number}
-use Rattle.lfs_nodes.proofs.NodesLemmas.{place_in, one_place, stands_there, hung_row, nodes_new, nodes_removed}
-use Rattle.lfs_nodes.proofs.NodesLemmas.{nodes_moved, nodes_same}
+use Rattle.lfs_nodes.proofs.NodesLemmas.{place_in, stands_there, hung_row, nodes_new, nodes_removed}
+use Rattle.lfs_nodes.proofs.NodesLemmas.{nodes_same}
 use Rattle.lfs_nodes.proofs.TableLemmas.{changed_here, changed_else}
 
 -- the root's node is of the root's row
@@ -87,10 +83,6 @@ module _ (parts : Parts) (whole : IsWhole parts) where
     -- the row's node is at the place
     pub its_id : (q : ℕ) → live_row (known parts q) ≡ Some n → id_at parts.index place ≡ Some q
     its_id q e = indexed_known q place (stands_there rows (known parts) are rooted_known place p n parent hangs q e)
-
-gone_place : (o : Option Node) → place_in (option_map (hung Gone) o) ≡ None
-gone_place None = refl
-gone_place (Some n) = refl
 
 gone_row : (o : Option Node) → live_row (option_map (hung Gone) o) ≡ None
 gone_row None = refl

@@ -1,6 +1,6 @@
 -- How a run ends of the script that a reader has.
-use Rattle.std.proofs.Common.{◌≡◌, ◌<◌, ℕ, Bool, false, true, List, length, Option, None, Some, IfSome, IsSome}
-use Rattle.std.proofs.Common.{arith, inl, inr, is_some, refl, subst}
+use Rattle.std.proofs.Common.{◌≡◌, ◌<◌, ℕ, Bool, false, true, List, length, Option, None, Some, IfSome}
+use Rattle.std.proofs.Common.{arith, refl, subst}
 use Rattle.std.specs.Io.KnownBytes.{Keeps}
 use Rattle.lfs_audit.specs.Scripts.{IsScriptFault}
 use Rattle.lfs_audit.specs.Threads.{IsThreadsFault}
@@ -10,7 +10,7 @@ use Rattle.lfs_audit.specs.declared.fault.ThreadsFault.{ThreadsFault}
 use Rattle.lfs_audit.specs.declared.fault.ThreadsFault.TheVariants as threads
 use Rattle.lfs_io.specs.declared.read.ReadFault.{ReadFault}
 use Rattle.lfs_io.specs.declared.read.ReadFault.TheVariants as read
-use Rattle.lfs_programs.specs.Asked.{EndsRun, EndsServer, HasGotFiled, IsAloneFault, IsAskedFault, IsBroken}
+use Rattle.lfs_programs.specs.Asked.{EndsRun, HasGotFiled, IsAloneFault, IsAskedFault, IsBroken}
 use Rattle.lfs_programs.specs.declared.fault.ServerFault.{ServerFault}
 use Rattle.lfs_programs.specs.declared.fault.ServerFault.TheVariants.{Run, Open, Journal}
 use Rattle.lfs_programs.specs.declared.options.Options.{Options}
@@ -122,26 +122,3 @@ ends_unread contents options known start here before after fault long = record {
   done = λ none. absurd (omega (arith, none));
   failed = λ _. (Run (fault_read fault), refl, (cause_read options known fault long, λ _. keeps_same start));
 }
-
--- ---- which script is run
-
--- that of a file
-pub ends_file : {F R W D : Type 0} (contents : F → Option (List ℕ)) (options : Options)
-    (known start out : Option (List ℕ)) (status : ℕ) (in_before in_after : R) (out_before out_after : W)
-    (err_before err_after : D) (bytes : Option (List ℕ)) → true ≡ is_some options.script
-    → EndsRun contents options bytes start out status out_before out_after err_before err_after
-    → EndsServer contents options known start out status in_before in_after out_before out_after err_before err_after
-ends_file contents options known start out status in_before in_after out_before out_after err_before err_after bytes
-    named ends = record {
-      bytes = bytes;
-      own = λ none. let other : true ≡ false = rw none at named in absurd (cc);
-      ends = inl ends;
-    }
-
--- that of a file which is not opened
-pub ends_unopened : {F R W D : Type 0} (contents : F → Option (List ℕ)) (options : Options)
-    (known start out : Option (List ℕ)) (status : ℕ) (here : R) (there : W) (err_before err_after : D) → status ≡ 2
-    → IsSome options.script
-    → EndsServer contents options known start out status here here there there err_before err_after
-ends_unopened contents options known start out status here there err_before err_after is named =
-    record { bytes = known; own = λ _. refl; ends = inr (is, named, refl, refl) }

@@ -1,5 +1,5 @@
 -- How `lfs_shell` ends, by how its talk did.
-use Rattle.std.proofs.Common.{◌≡◌, ℕ, Bool, true, false, List, Option, Result, Ok, Err, IfErr, IfOk, IsSome, inl, inr}
+use Rattle.std.proofs.Common.{◌≡◌, ℕ, Bool, true, false, List, Option, Result, Ok, Err, IfErr, IfOk, IsSome, inl}
 use Rattle.std.proofs.Common.{is_some, refl, sym}
 use Rattle.std.proofs.Common.{ap, subst, ◌∙◌, arith}
 use Rattle.std.specs.Prelude.{MatchResult}
@@ -238,20 +238,3 @@ ends_file contents options known start out status there_before there_after here 
       talk = ends_elsewhere contents options bytes start out status there_before there_after here out_before out_after
           err_before err_after ends;
     }
-
--- those of a file which is not opened
-pub ends_unopened : {R W D F : Type 0} (contents : F → Option (List ℕ)) (options : ShellOptions)
-    (known start out : Option (List ℕ)) (status : ℕ) (here : R) (there : W) (err_before err_after : D)
-    → status ≡ 2 → IsSome options.script
-    → EndsShell contents options known start out status here here there there err_before err_after
-ends_unopened contents options known start out status here there err_before err_after is named = record {
-  bytes = known;
-  own = λ _. refl;
-  talk = record {
-    either = omega (arith, is);
-    done = λ none. absurd (omega (arith, is, none));
-    filmed = λ none. absurd (omega (arith, is, none));
-    failed = λ one. absurd (omega (arith, is, one));
-    unmade = λ _. (inr named, refl, refl);
-  };
-}

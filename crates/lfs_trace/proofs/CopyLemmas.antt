@@ -256,26 +256,6 @@ pub record AreCopied (from c : Content) (number : ℕ) : Type 0 where
   pub below : (n : ℕ) → n < number → map.get c n ≡ map.get from n
   pub above : (n : ℕ) → number ≤ n → map.get c n ≡ map.get opening_content n
 
-module _ (from c new : Content) (number : ℕ) (so : AreCopied from c number)
-    (copied : IsCopiedAt number from c new) where
-  below_case : (n : ℕ) → n < number + 1 → (b : Bool) → (n == number) ≡ b → map.get new n ≡ map.get from n
-  below_case n low true e = copied n ∙ ap (λ b. if b then map.get from n else map.get c n) e
-  below_case n low false e =
-      let other = eqb-false n number e in
-      copied n ∙ ap (λ b. if b then map.get from n else map.get c n) e ∙ so.below n (omega (arith, low, other))
-
-  above_case : (n : ℕ) → number + 1 ≤ n → (b : Bool) → (n == number) ≡ b → map.get new n
-      ≡ map.get opening_content n
-  above_case n past true e = let same = eqb-true n number e in absurd (omega (arith, past, same))
-  above_case n past false e = copied n ∙ ap (λ b. if b then map.get from n else map.get c n) e
-      ∙ so.above n (omega (arith, past))
-
-  pub copied_more : AreCopied from new (number + 1)
-  copied_more = record {
-    below = λ n low. below_case n low (n == number) refl;
-    above = λ n past. above_case n past (n == number) refl;
-  }
-
 module _ (numbers : ℕ) (from c : Content) (can : CanCopy numbers from) (at : ℕ) (over : numbers ≤ at)
     (within : at ≤ numbers) (so : AreCopied from c at) where
   none_past : (n : ℕ) (o : Option File) → map.get from n ≡ o → numbers ≤ n → map.get from n ≡ None

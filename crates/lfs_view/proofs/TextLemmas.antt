@@ -1,12 +1,10 @@
 -- Texts grow by their lines and signs.
-use Rattle.std.proofs.Common.{◌≡◌, ℕ, suc, ◌+◌, ◌<◌, List, [], ◌∷◌, ◌++◌, length, map, take, get_or, replicate}
+use Rattle.std.proofs.Common.{◌≡◌, ℕ, suc, ◌+◌, List, [], ◌∷◌, ◌++◌, map, replicate}
 use Rattle.std.proofs.Common.{sym, ap, ◌∙◌, append_assoc, append-nil, arith}
-use Rattle.std.specs.List.{flat_map}
-use Rattle.std.proofs.lemmas.List.{flat_map_more, replicate_more, take_more}
+use Rattle.std.proofs.lemmas.List.{replicate_more}
 use Rattle.lfs_staging.specs.declared.parts.Parts.{Parts}
 use Rattle.lfs_view.specs.Cells.{cells_of}
 use Rattle.lfs_view.specs.MapText.{cell_sign, row_text, rows_below, use_text}
-use Rattle.lfs_view.specs.SegmentText.{cell_lines}
 use Rattle.lfs_view.specs.declared.cells.Cell.{Cell}
 
 -- one more space
@@ -35,11 +33,3 @@ unfolding rows_below
 rows_more p out done new n so_far grown =
     let one : n + 1 ≡ suc n = omega arith in
     rw (grown, so_far, one) (append_assoc out (rows_below p n) (row_text p n))
-
--- the lines of one more cell, and of all of them
-pub cells_more : (p : Parts) (out done new : List ℕ) (cells : List Cell) (i : ℕ) (cell : Cell) → i < length cells → cell
-    ≡ get_or cells i cell
-    → done ≡ out ++ flat_map (cell_lines p) (take i cells) → new ≡ done ++ cell_lines p cell → new ≡ out
-    ++ flat_map (cell_lines p) (take (i + 1) cells)
-cells_more p out done new cells i cell lt is so_far grown =
-    rw (grown, so_far, take_more cells i cell lt, ← is) (flat_map_more (cell_lines p) out (take i cells) cell)

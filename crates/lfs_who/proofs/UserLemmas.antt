@@ -51,9 +51,6 @@ for_either P (n ∷ ns) some others u so other =
 module _ (questions : List Question) (old : List Named) (others : List Told) (users : List ℕ) (uid : ℕ)
     (lines : List Told)
     (own : (c : Caller) → c.uid ≡ uid → IsToldTo questions c lines) (so : AreNamed questions old others users) where
-  Apart : ℕ → Type 0
-  Apart u = (is_among u users || (u == uid)) ≡ true
-
   module _ (new : List Named) (put : (u : ℕ) (some : List Told) → lines_for new some u
       ≡ lines_for old (cond (uid == u) lines some) u) where
     -- a caller who is the user
