@@ -31,7 +31,8 @@ fn push_head(log: &Log, level: Level, out: &mut Vec<u8>) -> Result<(), AllocErro
 
 /// Adds each block, in the order of their addresses.
 fn push_blocks(log: &Log, out: &mut Vec<u8>) -> Result<(), AllocError>
-    ensures { OnOk result (out.new.items ≡ out.old.items ++ flat_map (λ block. block) log.now.memory.blocks) }
+    ensures { OnOk result (out.new.items ≡ out.old.items
+        ++ flat_map (λ block. block) log.now.memory.blocks) }
 {
     for address in 0..log.segments() * SEGMENT_BLOCKS {
         out.extend_from_slice(log.block(address))?;

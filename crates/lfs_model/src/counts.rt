@@ -53,7 +53,8 @@ impl Counts {
     /// Counts one more answer to a user's call.
     fn add_answer(&mut self, answer: &Answer)
         requires few { AreFew self.old }
-        ensures { (request : Request) → self.new ≡ counts_after (Event.User request answer.now) self.old }
+        ensures { (request : Request)
+            → self.new ≡ counts_after (Event.User request answer.now) self.old }
     {
         match answer {
             Answer::Served(_) => self.served += 1,
@@ -68,7 +69,8 @@ impl Counts {
     /// Counts one more call of the cleaner.
     fn add_outcome(&mut self, outcome: CleanerOutcome)
         requires few { AreFew self.old }
-        ensures { (act : CleanerAct) → self.new ≡ counts_after (Event.Cleaner act outcome) self.old }
+        ensures { (act : CleanerAct)
+            → self.new ≡ counts_after (Event.Cleaner act outcome) self.old }
     {
         self.cleaner += 1;
         match outcome {

@@ -57,7 +57,8 @@ impl Parts {
         ensures id { result ≡ self.old.next }
         ensures next { self.new.next ≡ self.old.next + 1 }
         ensures there { known self.new result ≡ Some (fresh (At place) row) }
-        ensures others { id_at self.old.index place ≡ None → (q : ℕ) → q ≢ result → known self.new q ≡ known self.old q }
+        ensures others { id_at self.old.index place ≡ None → (q : ℕ) → q ≢ result
+            → known self.new q ≡ known self.old q }
     {
         let _ = self.unhang(&place);
         let id = self.add(row);
@@ -69,7 +70,8 @@ impl Parts {
     fn count(&mut self, id: u64)
         requires { IsWhole self.old }
         ensures whole { IsWhole self.new }
-        ensures changed { (q : ℕ) → known self.new q ≡ changed_at id one_look_up_more (known self.old) q }
+        ensures changed { (q : ℕ)
+            → known self.new q ≡ changed_at id one_look_up_more (known self.old) q }
         ensures next { self.new.next ≡ self.old.next }
     {
         if let Some(node) = self.table.get(id) {
@@ -82,9 +84,13 @@ impl Parts {
     pub(crate) fn find(&mut self, alloc: Global, place: Place, row: u32) -> Result<u64, LookUpFault>
         requires { IsWhole self.old }
         ensures whole { IsWhole self.new }
-        ensures again { (id : ℕ) → IsKnownAs self.old place row id → (result ≡ Ok id) × ((q : ℕ) → known self.new q ≡ changed_at id one_look_up_more (known self.old) q) }
-        ensures fresh { ((id : ℕ) → IsKnownAs self.old place row id → ⊥) → IfOk result (λ id. (id ≡ self.old.next) × (self.new.next ≡ self.old.next + 1) × (known self.new id ≡ Some (fresh (At place) row))) }
-        ensures others { id_at self.old.index place ≡ None → IfOk result (λ id. (q : ℕ) → q ≢ id → known self.new q ≡ known self.old q) }
+        ensures again { (id : ℕ) → IsKnownAs self.old place row id → (result ≡ Ok id)
+            × ((q : ℕ) → known self.new q ≡ changed_at id one_look_up_more (known self.old) q) }
+        ensures fresh { ((id : ℕ) → IsKnownAs self.old place row id → ⊥)
+            → IfOk result (λ id. (id ≡ self.old.next) × (self.new.next ≡ self.old.next + 1)
+            × (known self.new id ≡ Some (fresh (At place) row))) }
+        ensures others { id_at self.old.index place ≡ None
+            → IfOk result (λ id. (q : ℕ) → q ≢ id → known self.new q ≡ known self.old q) }
         ensures failed { OnErr result ((q : ℕ) → known self.new q ≡ known self.old q) }
     {
         if let Some(id) = self.known_as(&place, row) {
@@ -106,11 +112,18 @@ impl Parts {
     pub(crate) fn forget(&mut self, id: u64, count: u64)
         requires { IsWhole self.old }
         ensures whole { IsWhole self.new }
-        ensures counted { (n : Node) → known self.old id ≡ Some n → is_known_held (Some (forgotten count n)) ≡ true → known self.new id ≡ Some (forgotten count n) }
-        ensures dropped { (n : Node) → known self.old id ≡ Some n → is_known_held (Some (forgotten count n)) ≡ false → children_in (node_at self.old.table id) ≡ Some 0 → known self.new id ≡ None }
-        ensures held { (q : ℕ) → q ≢ id → is_known_held (known self.old q) ≡ true → known self.new q ≡ known self.old q }
-        ensures others { (q : ℕ) (n : Node) → q ≢ id → known self.new q ≡ Some n → known self.old q ≡ Some n }
-        ensures nodes { (rows : Rows) → AreNodes rows (known self.old) → AreNodes rows (known self.new) }
+        ensures counted { (n : Node) → known self.old id ≡ Some n
+            → is_known_held (Some (forgotten count n)) ≡ true
+            → known self.new id ≡ Some (forgotten count n) }
+        ensures dropped { (n : Node) → known self.old id ≡ Some n
+            → is_known_held (Some (forgotten count n)) ≡ false
+            → children_in (node_at self.old.table id) ≡ Some 0 → known self.new id ≡ None }
+        ensures held { (q : ℕ) → q ≢ id → is_known_held (known self.old q) ≡ true
+            → known self.new q ≡ known self.old q }
+        ensures others { (q : ℕ) (n : Node) → q ≢ id → known self.new q ≡ Some n
+            → known self.old q ≡ Some n }
+        ensures nodes { (rows : Rows) → AreNodes rows (known self.old)
+            → AreNodes rows (known self.new) }
         ensures next { self.new.next ≡ self.old.next }
     {
         if let Some(node) = self.table.get(id) {
@@ -124,8 +137,10 @@ impl Parts {
     pub(crate) fn open(&mut self, id: u64)
         requires { IsWhole self.old }
         ensures whole { IsWhole self.new }
-        ensures opened { (q : ℕ) → known self.new q ≡ changed_at id one_handle_more (known self.old) q }
-        ensures nodes { (rows : Rows) → AreNodes rows (known self.old) → AreNodes rows (known self.new) }
+        ensures opened { (q : ℕ)
+            → known self.new q ≡ changed_at id one_handle_more (known self.old) q }
+        ensures nodes { (rows : Rows) → AreNodes rows (known self.old)
+            → AreNodes rows (known self.new) }
         ensures next { self.new.next ≡ self.old.next }
     {
         if let Some(node) = self.table.get(id) {
@@ -138,11 +153,18 @@ impl Parts {
     pub(crate) fn close(&mut self, id: u64)
         requires { IsWhole self.old }
         ensures whole { IsWhole self.new }
-        ensures counted { (n : Node) → known self.old id ≡ Some n → is_known_held (Some (one_handle_fewer n)) ≡ true → known self.new id ≡ Some (one_handle_fewer n) }
-        ensures dropped { (n : Node) → known self.old id ≡ Some n → is_known_held (Some (one_handle_fewer n)) ≡ false → children_in (node_at self.old.table id) ≡ Some 0 → known self.new id ≡ None }
-        ensures held { (q : ℕ) → q ≢ id → is_known_held (known self.old q) ≡ true → known self.new q ≡ known self.old q }
-        ensures others { (q : ℕ) (n : Node) → q ≢ id → known self.new q ≡ Some n → known self.old q ≡ Some n }
-        ensures nodes { (rows : Rows) → AreNodes rows (known self.old) → AreNodes rows (known self.new) }
+        ensures counted { (n : Node) → known self.old id ≡ Some n
+            → is_known_held (Some (one_handle_fewer n)) ≡ true
+            → known self.new id ≡ Some (one_handle_fewer n) }
+        ensures dropped { (n : Node) → known self.old id ≡ Some n
+            → is_known_held (Some (one_handle_fewer n)) ≡ false
+            → children_in (node_at self.old.table id) ≡ Some 0 → known self.new id ≡ None }
+        ensures held { (q : ℕ) → q ≢ id → is_known_held (known self.old q) ≡ true
+            → known self.new q ≡ known self.old q }
+        ensures others { (q : ℕ) (n : Node) → q ≢ id → known self.new q ≡ Some n
+            → known self.old q ≡ Some n }
+        ensures nodes { (rows : Rows) → AreNodes rows (known self.old)
+            → AreNodes rows (known self.new) }
         ensures next { self.new.next ≡ self.old.next }
     {
         if let Some(node) = self.table.get(id) {

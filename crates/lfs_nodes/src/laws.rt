@@ -13,6 +13,11 @@ use crate::nodes::Nodes;
 
 /// Nodes stay true of a tree in which the file of a row changes, or which gets a new row. It does nothing.
 pub fn stay_true(_nodes: &Nodes)
-    ensures changed { (w : World) (n : ℕ) (change : File → File) → AreNodes w.rows (known _nodes.now) → AreNodes (with_file (map.get w.rows n) n change w).rows (known _nodes.now) }
-    ensures grown { (w : World) (numbers : ℕ) (caller : Caller) (path : List (List ℕ)) (kind : Kind) (mode : ℕ) → map.get w.rows (least_unused w.rows numbers FIRST_INODE) ≡ None → AreNodes w.rows (known _nodes.now) → AreNodes (with_new numbers w caller path kind mode).rows (known _nodes.now) }
+    ensures changed { (w : World) (n : ℕ) (change : File → File)
+        → AreNodes w.rows (known _nodes.now)
+        → AreNodes (with_file (map.get w.rows n) n change w).rows (known _nodes.now) }
+    ensures grown { (w : World) (numbers : ℕ) (caller : Caller) (path : List (List ℕ)) (kind : Kind)
+        (mode : ℕ) → map.get w.rows (least_unused w.rows numbers FIRST_INODE) ≡ None
+        → AreNodes w.rows (known _nodes.now)
+        → AreNodes (with_new numbers w caller path kind mode).rows (known _nodes.now) }
 {}

@@ -18,7 +18,9 @@ impl Parts {
         requires room { 0 < room_in self.old.index }
         ensures whole { IsWhole self.new }
         ensures stays { from.now ≡ to → (q : ℕ) → known self.new q ≡ known self.old q }
-        ensures moved { from.now ≢ to → IsSome (node_at self.old.table to.parent) → (q : ℕ) → known self.new q ≡ moved_at (id_at self.old.index from.now) (id_at self.old.index to) to (known self.old) q }
+        ensures moved { from.now ≢ to → IsSome (node_at self.old.table to.parent) → (q : ℕ)
+            → known self.new q ≡ moved_at (id_at self.old.index from.now)
+            (id_at self.old.index to) to (known self.old) q }
         ensures next { self.new.next ≡ self.old.next }
     {
         if *from == to {

@@ -61,10 +61,17 @@ impl Nodes {
         name: Name,
         row: u32,
     ) -> Result<NodeId, LookUpFault>
-        ensures again { (id : ℕ) → IsKnownAs self.old (place_at parent.0 name) row id → (result ≡ Ok (record { 0 = id })) × ((q : ℕ) → known self.new q ≡ changed_at id one_look_up_more (known self.old) q) }
-        ensures fresh { ((id : ℕ) → IsKnownAs self.old (place_at parent.0 name) row id → ⊥) → IfOk result (λ id. (id.0 ≡ self.old.next) × (self.new.next ≡ self.old.next + 1) × (known self.new id.0 ≡ Some (fresh (At (place_at parent.0 name)) row))) }
-        ensures nodes { (rows : Rows) (p : ℕ) → IsTree rows → AreNodes rows (known self.old) → live_row (known self.old parent.0) ≡ Some p → IsChild rows p name row → AreNodes rows (known self.new) }
-        ensures others { id_at self.old.index (place_at parent.0 name) ≡ None → IfOk result (λ id. (q : ℕ) → q ≢ id.0 → known self.new q ≡ known self.old q) }
+        ensures again { (id : ℕ) → IsKnownAs self.old (place_at parent.0 name) row id
+            → (result ≡ Ok (record { 0 = id }))
+            × ((q : ℕ) → known self.new q ≡ changed_at id one_look_up_more (known self.old) q) }
+        ensures fresh { ((id : ℕ) → IsKnownAs self.old (place_at parent.0 name) row id → ⊥)
+            → IfOk result (λ id. (id.0 ≡ self.old.next) × (self.new.next ≡ self.old.next + 1)
+            × (known self.new id.0 ≡ Some (fresh (At (place_at parent.0 name)) row))) }
+        ensures nodes { (rows : Rows) (p : ℕ) → IsTree rows → AreNodes rows (known self.old)
+            → live_row (known self.old parent.0) ≡ Some p → IsChild rows p name row
+            → AreNodes rows (known self.new) }
+        ensures others { id_at self.old.index (place_at parent.0 name) ≡ None
+            → IfOk result (λ id. (q : ℕ) → q ≢ id.0 → known self.new q ≡ known self.old q) }
         ensures failed { OnErr result ((q : ℕ) → known self.new q ≡ known self.old q) }
     {
         let place = Place {
@@ -79,11 +86,18 @@ impl Nodes {
 
     /// The kernel forgets so many look-ups of a node. What nothing holds any more is dropped.
     pub fn forget(&mut self, node: NodeId, count: u64)
-        ensures counted { (n : Node) → known self.old node.0 ≡ Some n → is_known_held (Some (forgotten count n)) ≡ true → known self.new node.0 ≡ Some (forgotten count n) }
-        ensures dropped { (n : Node) → known self.old node.0 ≡ Some n → is_known_held (Some (forgotten count n)) ≡ false → children_in (node_at self.old.table node.0) ≡ Some 0 → known self.new node.0 ≡ None }
-        ensures held { (q : ℕ) → q ≢ node.0 → is_known_held (known self.old q) ≡ true → known self.new q ≡ known self.old q }
-        ensures others { (q : ℕ) (n : Node) → q ≢ node.0 → known self.new q ≡ Some n → known self.old q ≡ Some n }
-        ensures nodes { (rows : Rows) → AreNodes rows (known self.old) → AreNodes rows (known self.new) }
+        ensures counted { (n : Node) → known self.old node.0 ≡ Some n
+            → is_known_held (Some (forgotten count n)) ≡ true
+            → known self.new node.0 ≡ Some (forgotten count n) }
+        ensures dropped { (n : Node) → known self.old node.0 ≡ Some n
+            → is_known_held (Some (forgotten count n)) ≡ false
+            → children_in (node_at self.old.table node.0) ≡ Some 0 → known self.new node.0 ≡ None }
+        ensures held { (q : ℕ) → q ≢ node.0 → is_known_held (known self.old q) ≡ true
+            → known self.new q ≡ known self.old q }
+        ensures others { (q : ℕ) (n : Node) → q ≢ node.0 → known self.new q ≡ Some n
+            → known self.old q ≡ Some n }
+        ensures nodes { (rows : Rows) → AreNodes rows (known self.old)
+            → AreNodes rows (known self.new) }
         ensures next { self.new.next ≡ self.old.next }
     {
         self.parts.forget(node.0, count);
@@ -91,9 +105,13 @@ impl Nodes {
 
     /// An Unlink or Rmdir of this name was served: its node, if one is known, is gone.
     pub fn removed(&mut self, parent: NodeId, name: Name)
-        ensures gone { (id : ℕ) → id_at self.old.index (place_at parent.0 name) ≡ Some id → (q : ℕ) → known self.new q ≡ changed_at id (hung Gone) (known self.old) q }
-        ensures none { id_at self.old.index (place_at parent.0 name) ≡ None → (q : ℕ) → known self.new q ≡ known self.old q }
-        ensures nodes { (rows : Rows) (p n : ℕ) → IsTree rows → AreNodes rows (known self.old) → live_row (known self.old parent.0) ≡ Some p → IsChild rows p name n → children rows n ≡ [] → AreNodes (map.remove rows n) (known self.new) }
+        ensures gone { (id : ℕ) → id_at self.old.index (place_at parent.0 name) ≡ Some id → (q : ℕ)
+            → known self.new q ≡ changed_at id (hung Gone) (known self.old) q }
+        ensures none { id_at self.old.index (place_at parent.0 name) ≡ None → (q : ℕ)
+            → known self.new q ≡ known self.old q }
+        ensures nodes { (rows : Rows) (p n : ℕ) → IsTree rows → AreNodes rows (known self.old)
+            → live_row (known self.old parent.0) ≡ Some p → IsChild rows p name n
+            → children rows n ≡ [] → AreNodes (map.remove rows n) (known self.new) }
         ensures next { self.new.next ≡ self.old.next }
     {
         let place = Place {
@@ -122,8 +140,10 @@ impl Nodes {
 
     /// Counts one handle more that is open on a node. The count stays at the largest number.
     pub fn open(&mut self, node: NodeId)
-        ensures opened { (q : ℕ) → known self.new q ≡ changed_at node.0 one_handle_more (known self.old) q }
-        ensures nodes { (rows : Rows) → AreNodes rows (known self.old) → AreNodes rows (known self.new) }
+        ensures opened { (q : ℕ)
+            → known self.new q ≡ changed_at node.0 one_handle_more (known self.old) q }
+        ensures nodes { (rows : Rows) → AreNodes rows (known self.old)
+            → AreNodes rows (known self.new) }
         ensures next { self.new.next ≡ self.old.next }
     {
         self.parts.open(node.0);
@@ -131,11 +151,18 @@ impl Nodes {
 
     /// Counts one handle fewer. What nothing holds any more is dropped.
     pub fn close(&mut self, node: NodeId)
-        ensures counted { (n : Node) → known self.old node.0 ≡ Some n → is_known_held (Some (one_handle_fewer n)) ≡ true → known self.new node.0 ≡ Some (one_handle_fewer n) }
-        ensures dropped { (n : Node) → known self.old node.0 ≡ Some n → is_known_held (Some (one_handle_fewer n)) ≡ false → children_in (node_at self.old.table node.0) ≡ Some 0 → known self.new node.0 ≡ None }
-        ensures held { (q : ℕ) → q ≢ node.0 → is_known_held (known self.old q) ≡ true → known self.new q ≡ known self.old q }
-        ensures others { (q : ℕ) (n : Node) → q ≢ node.0 → known self.new q ≡ Some n → known self.old q ≡ Some n }
-        ensures nodes { (rows : Rows) → AreNodes rows (known self.old) → AreNodes rows (known self.new) }
+        ensures counted { (n : Node) → known self.old node.0 ≡ Some n
+            → is_known_held (Some (one_handle_fewer n)) ≡ true
+            → known self.new node.0 ≡ Some (one_handle_fewer n) }
+        ensures dropped { (n : Node) → known self.old node.0 ≡ Some n
+            → is_known_held (Some (one_handle_fewer n)) ≡ false
+            → children_in (node_at self.old.table node.0) ≡ Some 0 → known self.new node.0 ≡ None }
+        ensures held { (q : ℕ) → q ≢ node.0 → is_known_held (known self.old q) ≡ true
+            → known self.new q ≡ known self.old q }
+        ensures others { (q : ℕ) (n : Node) → q ≢ node.0 → known self.new q ≡ Some n
+            → known self.old q ≡ Some n }
+        ensures nodes { (rows : Rows) → AreNodes rows (known self.old)
+            → AreNodes rows (known self.new) }
         ensures next { self.new.next ≡ self.old.next }
     {
         self.parts.close(node.0);
@@ -164,7 +191,9 @@ impl Nodes {
     /// The names from the root to a node, which take at most 1,024 bytes with a slash before each.
     pub fn names(&self, alloc: Global, node: NodeId) -> Result<Vec<Name>, PathFault>
         ensures way { NamesDown (λ q. hang_in (node_at self.now.table q)) node.0 (items_of result) }
-        ensures leads { (rows : Rows) → IsTree rows → AreNodes rows (known self.now) → IfOk result (λ names. live_row (known self.now node.0) ≡ Some (reached rows root_row names.items)) }
+        ensures leads { (rows : Rows) → IsTree rows → AreNodes rows (known self.now)
+            → IfOk result (λ names. live_row (known self.now node.0)
+            ≡ Some (reached rows root_row names.items)) }
     {
         match names_up(alloc, &self.parts.table, node.0) {
             Ok(mut names) => {
@@ -191,9 +220,19 @@ impl Nodes {
     pub fn moved(&mut self, from: NodeId, name: Name, to: NodeId, new_name: Name, copy: Name)
         requires same { copy ≡ new_name }
         requires room { 0 < room_in self.old.index }
-        ensures moved { (place_at from.0 name ≢ place_at to.0 new_name) → IsSome (node_at self.old.table to.0) → (q : ℕ) → known self.new q ≡ moved_at (id_at self.old.index (place_at from.0 name)) (id_at self.old.index (place_at to.0 new_name)) (place_at to.0 new_name) (known self.old) q }
-        ensures stays { from.0 ≡ to.0 → name ≡ new_name → (q : ℕ) → known self.new q ≡ known self.old q }
-        ensures nodes { (w : World) (p t n : ℕ) → IsTree w.rows → AreNodes w.rows (known self.old) → live_row (known self.old from.0) ≡ Some p → live_row (known self.old to.0) ≡ Some t → IsChild w.rows p name n → ((m : ℕ) → child w.rows t new_name ≡ Some m → m ≢ n → children w.rows m ≡ []) → AreNodes (after_rename w n (child w.rows t new_name) t new_name).rows (known self.new) }
+        ensures moved { (place_at from.0 name ≢ place_at to.0 new_name)
+            → IsSome (node_at self.old.table to.0) → (q : ℕ)
+            → known self.new q ≡ moved_at (id_at self.old.index (place_at from.0 name))
+            (id_at self.old.index (place_at to.0 new_name)) (place_at to.0 new_name)
+            (known self.old) q }
+        ensures stays { from.0 ≡ to.0 → name ≡ new_name → (q : ℕ)
+            → known self.new q ≡ known self.old q }
+        ensures nodes { (w : World) (p t n : ℕ) → IsTree w.rows → AreNodes w.rows (known self.old)
+            → live_row (known self.old from.0) ≡ Some p → live_row (known self.old to.0) ≡ Some t
+            → IsChild w.rows p name n
+            → ((m : ℕ) → child w.rows t new_name ≡ Some m → m ≢ n → children w.rows m ≡ [])
+            → AreNodes (after_rename w n (child w.rows t new_name) t new_name).rows
+            (known self.new) }
         ensures next { self.new.next ≡ self.old.next }
     {
         let old = Place {

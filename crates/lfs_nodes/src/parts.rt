@@ -31,13 +31,17 @@ impl Parts {
         requires { IsWhole self.old }
         ensures whole { IsWhole self.new }
         ensures taken { result ≡ id_at self.old.index place.now }
-        ensures changed { IfSome result (λ id. (q : ℕ) → known self.new q ≡ changed_at id (hung Gone) (known self.old) q) }
+        ensures changed { IfSome result (λ id. (q : ℕ)
+            → known self.new q ≡ changed_at id (hung Gone) (known self.old) q) }
         ensures none { IfNone result ((q : ℕ) → known self.new q ≡ known self.old q) }
         ensures gone { id_at self.new.index place.now ≡ None }
         ensures nowhere { IfSome result (λ id. hang_in (node_at self.new.table id) ≡ Some Gone) }
-        ensures still { (q : ℕ) → hang_in (node_at self.old.table q) ≡ Some Gone → hang_in (node_at self.new.table q) ≡ Some Gone }
-        ensures there { (q : ℕ) → IsSome (node_at self.old.table q) → IsSome (node_at self.new.table q) }
-        ensures others { (q : Place) → q ≢ place.now → id_at self.new.index q ≡ id_at self.old.index q }
+        ensures still { (q : ℕ) → hang_in (node_at self.old.table q) ≡ Some Gone
+            → hang_in (node_at self.new.table q) ≡ Some Gone }
+        ensures there { (q : ℕ) → IsSome (node_at self.old.table q)
+            → IsSome (node_at self.new.table q) }
+        ensures others { (q : Place) → q ≢ place.now
+            → id_at self.new.index q ≡ id_at self.old.index q }
         ensures room { room_in self.old.index ≤ room_in self.new.index }
         ensures spare { spare_in self.new.table ≡ spare_in self.old.table }
         ensures next { self.new.next ≡ self.old.next }
@@ -58,7 +62,8 @@ impl Parts {
         requires same { key ≡ place }
         requires room { 0 < room_in self.old.index }
         ensures whole { IsWhole self.new }
-        ensures changed { (q : ℕ) → known self.new q ≡ changed_at id (hung (At place)) (known self.old) q }
+        ensures changed { (q : ℕ)
+            → known self.new q ≡ changed_at id (hung (At place)) (known self.old) q }
         ensures there { id_at self.new.index place ≡ Some id }
         ensures others { (q : Place) → q ≢ place → id_at self.new.index q ≡ id_at self.old.index q }
         ensures next { self.new.next ≡ self.old.next }
@@ -92,8 +97,10 @@ impl Parts {
         requires whole { IsWhole self.old }
         requires below { hang_in (node_at self.old.table id) ≢ Some Root }
         ensures whole { IsWhole self.new }
-        ensures changed { (q : ℕ) → known self.new q ≡ changed_at id (hung Gone) (known self.old) q }
-        ensures childless { children_in (node_at self.old.table id) ≡ Some 0 → children_in (node_at self.new.table id) ≡ Some 0 }
+        ensures changed { (q : ℕ)
+            → known self.new q ≡ changed_at id (hung Gone) (known self.old) q }
+        ensures childless { children_in (node_at self.old.table id) ≡ Some 0
+            → children_in (node_at self.new.table id) ≡ Some 0 }
         ensures next { self.new.next ≡ self.old.next }
         ensures as_many { nodes_in self.new.table ≡ nodes_in self.old.table }
     {
@@ -108,7 +115,8 @@ impl Parts {
         requires { IsWhole self.old }
         ensures whole { IsWhole self.new }
         ensures dropped { is_held (node_at self.old.table id) ≡ false → known self.new id ≡ None }
-        ensures held { is_held (node_at self.old.table id) ≡ true → known self.new id ≡ known self.old id }
+        ensures held { is_held (node_at self.old.table id) ≡ true
+            → known self.new id ≡ known self.old id }
         ensures others { (q : ℕ) → q ≢ id → known self.new q ≡ known self.old q }
         ensures next { self.new.next ≡ self.old.next }
         ensures fewer { OnSome result (nodes_in self.new.table + 1 ≡ nodes_in self.old.table) }
@@ -128,8 +136,10 @@ impl Parts {
         requires { IsWhole self.old }
         ensures whole { IsWhole self.new }
         ensures dropped { is_held (node_at self.old.table id) ≡ false → known self.new id ≡ None }
-        ensures held { (q : ℕ) → is_known_held (known self.old q) ≡ true → known self.new q ≡ known self.old q }
-        ensures others { (q : ℕ) (n : Node) → known self.new q ≡ Some n → known self.old q ≡ Some n }
+        ensures held { (q : ℕ) → is_known_held (known self.old q) ≡ true
+            → known self.new q ≡ known self.old q }
+        ensures others { (q : ℕ) (n : Node) → known self.new q ≡ Some n
+            → known self.old q ≡ Some n }
         ensures next { self.new.next ≡ self.old.next }
     {
         let mut above = self.drop_unheld(id);
@@ -142,8 +152,10 @@ impl Parts {
     pub(crate) fn set_look_ups(&mut self, id: u64, look_ups: u64)
         requires { IsWhole self.old }
         ensures whole { IsWhole self.new }
-        ensures changed { (q : ℕ) → known self.new q ≡ changed_at id (counted look_ups) (known self.old) q }
-        ensures children { (q : ℕ) → children_in (node_at self.new.table q) ≡ children_in (node_at self.old.table q) }
+        ensures changed { (q : ℕ)
+            → known self.new q ≡ changed_at id (counted look_ups) (known self.old) q }
+        ensures children { (q : ℕ)
+            → children_in (node_at self.new.table q) ≡ children_in (node_at self.old.table q) }
         ensures index { self.new.index ≡ self.old.index }
         ensures next { self.new.next ≡ self.old.next }
     {
@@ -154,8 +166,10 @@ impl Parts {
     pub(crate) fn set_handles(&mut self, id: u64, handles: u64)
         requires { IsWhole self.old }
         ensures whole { IsWhole self.new }
-        ensures changed { (q : ℕ) → known self.new q ≡ changed_at id (opened handles) (known self.old) q }
-        ensures children { (q : ℕ) → children_in (node_at self.new.table q) ≡ children_in (node_at self.old.table q) }
+        ensures changed { (q : ℕ)
+            → known self.new q ≡ changed_at id (opened handles) (known self.old) q }
+        ensures children { (q : ℕ)
+            → children_in (node_at self.new.table q) ≡ children_in (node_at self.old.table q) }
         ensures index { self.new.index ≡ self.old.index }
         ensures next { self.new.next ≡ self.old.next }
     {

@@ -67,7 +67,8 @@ impl Table {
     /// Hangs a node elsewhere, and gives where it hung.
     pub(crate) fn hang(&mut self, id: u64, hang: Hang) -> Option<Hang>
         ensures was { result ≡ hang_in (node_at self.old id) }
-        ensures changed { (q : ℕ) → node_at self.new q ≡ changed_at id (hung hang) (node_at self.old) q }
+        ensures changed { (q : ℕ)
+            → node_at self.new q ≡ changed_at id (hung hang) (node_at self.old) q }
         ensures as_many { nodes_in self.new ≡ nodes_in self.old }
         ensures spare { spare_in self.new ≡ spare_in self.old }
     {
@@ -79,7 +80,8 @@ impl Table {
 
     /// Counts one node more beneath a node.
     pub(crate) fn add_child(&mut self, id: u64)
-        ensures changed { (q : ℕ) → node_at self.new q ≡ changed_at id one_child_more (node_at self.old) q }
+        ensures changed { (q : ℕ)
+            → node_at self.new q ≡ changed_at id one_child_more (node_at self.old) q }
         ensures as_many { nodes_in self.new ≡ nodes_in self.old }
     {
         if let Some(node) = self.nodes.get_mut(&id) {
@@ -89,7 +91,8 @@ impl Table {
 
     /// Counts one node fewer beneath a node.
     pub(crate) fn drop_child(&mut self, id: u64)
-        ensures changed { (q : ℕ) → node_at self.new q ≡ changed_at id one_child_fewer (node_at self.old) q }
+        ensures changed { (q : ℕ)
+            → node_at self.new q ≡ changed_at id one_child_fewer (node_at self.old) q }
         ensures as_many { nodes_in self.new ≡ nodes_in self.old }
         ensures spare { spare_in self.new ≡ spare_in self.old }
     {
@@ -100,7 +103,8 @@ impl Table {
 
     /// Sets how many look-ups of a node the kernel holds.
     pub(crate) fn set_look_ups(&mut self, id: u64, look_ups: u64)
-        ensures changed { (q : ℕ) → node_at self.new q ≡ changed_at id (counted look_ups) (node_at self.old) q }
+        ensures changed { (q : ℕ)
+            → node_at self.new q ≡ changed_at id (counted look_ups) (node_at self.old) q }
         ensures as_many { nodes_in self.new ≡ nodes_in self.old }
     {
         if let Some(node) = self.nodes.get_mut(&id) {
@@ -110,7 +114,8 @@ impl Table {
 
     /// Sets how many handles are open on a node.
     pub(crate) fn set_handles(&mut self, id: u64, handles: u64)
-        ensures changed { (q : ℕ) → node_at self.new q ≡ changed_at id (opened handles) (node_at self.old) q }
+        ensures changed { (q : ℕ)
+            → node_at self.new q ≡ changed_at id (opened handles) (node_at self.old) q }
         ensures as_many { nodes_in self.new ≡ nodes_in self.old }
     {
         if let Some(node) = self.nodes.get_mut(&id) {

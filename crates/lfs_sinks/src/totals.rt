@@ -150,7 +150,8 @@ pub fn push_report(out: &mut Vec<u8>, tally: &Tally, counts: &Counts) -> Result<
 
 /// Appends the report of totals and of counts, added.
 fn push_sums(out: &mut Vec<u8>, totals: &Totals, counts: &Counts) -> Result<(), AllocError>
-    ensures { OnOk result (out.new.items ≡ out.old.items ++ counts_text (counts_sum totals.now counts.now)) }
+    ensures { OnOk result (out.new.items ≡ out.old.items
+        ++ counts_text (counts_sum totals.now counts.now)) }
 {
     let served = totals.served + u64::from(counts.served);
     let denied = totals.denied + u64::from(counts.denied);

@@ -66,7 +66,8 @@ fn copy_file<F: FileStore>(
 
 /// Gives a number an empty file of these attributes.
 fn begin_file(files: &mut FlatFiles, number: u32, attrs: Attrs) -> Result<(), AllocError>
-    requires { MayBegin (vec_len files.old.places) number attrs (content_of files.old.places.items) }
+    requires { MayBegin (vec_len files.old.places) number attrs
+        (content_of files.old.places.items) }
     ensures begun { OnOk result (content_of files.new.places.items
         ≡ map.insert (content_of files.old.places.items) number (file_of attrs [])) }
     ensures numbers { vec_len files.new.places ≡ vec_len files.old.places }

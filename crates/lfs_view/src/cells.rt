@@ -73,9 +73,11 @@ fn next_cell(parts: &Parts, walk: &mut Walk, segment: u32, address: u32) -> Cell
     requires inside { segment < parts.now.log.memory.segments }
     requires from { segment * SEGMENT_BLOCKS ≤ address }
     requires to { address < segment * SEGMENT_BLOCKS + SEGMENT_BLOCKS }
-    requires walked { walk.old ≡ expected (log_block parts.now.log.memory segment) (address - first_of segment) }
+    requires walked { walk.old ≡ expected (log_block parts.now.log.memory segment)
+        (address - first_of segment) }
     ensures cell { result ≡ cell_at parts.now address }
-    ensures walked { walk.new ≡ expected (log_block parts.now.log.memory segment) (address + 1 - first_of segment) }
+    ensures walked { walk.new ≡ expected (log_block parts.now.log.memory segment)
+        (address + 1 - first_of segment) }
 {
     if address == 0 {
         return Cell {

@@ -54,7 +54,8 @@ fn owners_in(alloc: Global, parts: &Parts, segment: u32) -> Result<Row, AllocErr
 fn push_owners(out: &mut Vec<u8>, parts: &Parts, cells: &[Cell]) -> Result<(), AllocError>
     requires store { IsStore parts.now }
     requires inside { All (IsIn parts.now) cells.now }
-    ensures { OnOk result (out.new.items ≡ out.old.items ++ flat_map (cell_owner parts.now) cells.now) }
+    ensures { OnOk result (out.new.items ≡ out.old.items
+        ++ flat_map (cell_owner parts.now) cells.now) }
 {
     for cell in cells {
         push_owner(out, parts, cell.address, cell.kind)?;

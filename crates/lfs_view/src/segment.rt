@@ -71,7 +71,8 @@ fn push_use(out: &mut Vec<u8>, parts: &Parts, segment: u32) -> Result<(), AllocE
 fn push_cells(out: &mut Vec<u8>, parts: &Parts, cells: &[Cell]) -> Result<(), AllocError>
     requires store { IsStore parts.now }
     requires inside { All (IsIn parts.now) cells.now }
-    ensures { OnOk result (out.new.items ≡ out.old.items ++ flat_map (cell_lines parts.now) cells.now) }
+    ensures { OnOk result (out.new.items ≡ out.old.items
+        ++ flat_map (cell_lines parts.now) cells.now) }
 {
     for cell in cells {
         push_kind(out, parts, cell.address, cell.kind)?;

@@ -73,7 +73,8 @@ fn push_share(
     how: &str,
     all: u32,
 ) -> Result<(), AllocError>
-    ensures { OnOk result (out.new.items ≡ out.old.items ++ share_line what.now number how.now all) }
+    ensures { OnOk result (out.new.items ≡ out.old.items
+        ++ share_line what.now number how.now all) }
 {
     out.extend_from_slice(what.as_bytes())?;
     push_number(out, u64::from(number))?;

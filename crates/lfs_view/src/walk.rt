@@ -56,7 +56,8 @@ impl Walk {
     /// What the next block of the log is.
     pub fn pass(&mut self, block: &Block) -> Standing
         ensures stands { result ≡ standing_at self.old block.now }
-        ensures next { self.new ≡ option_and_then (λ entries. after_block entries block.now) self.old }
+        ensures next { self.new ≡ option_and_then
+            (λ entries. after_block entries block.now) self.old }
     {
         if self.is_ended {
             return Standing::Unwritten;

@@ -24,7 +24,8 @@ impl Model for Line {
 impl Line {
     /// The line of those who are in these groups and not in those.
     pub(crate) fn new(inside: Vec<u32>, outside: Vec<u32>, denial: Option<Denial>) -> Line
-        ensures { result ≡ record { inside = inside.items; outside = outside.items; denial = denial } }
+        ensures { result
+            ≡ record { inside = inside.items; outside = outside.items; denial = denial } }
     {
         Line {
             inside,

@@ -77,7 +77,8 @@ pub fn push_who(out: &mut Vec<u8>, word: &str, who: &Who) -> Result<(), AllocErr
 
 /// Appends the lines of users who are told by name.
 fn push_named(out: &mut Vec<u8>, word: &str, named: &[Named]) -> Result<(), AllocError>
-    ensures { OnOk result (out.new.items ≡ out.old.items ++ flat_map (named_text word.now) named.now) }
+    ensures { OnOk result (out.new.items ≡ out.old.items
+        ++ flat_map (named_text word.now) named.now) }
 {
     for one in named {
         push_one(out, word, one)?;
@@ -153,7 +154,8 @@ fn push_groups(out: &mut Vec<u8>, word: &str, groups: &[u32]) -> Result<(), Allo
 
 /// Appends a group behind a word.
 fn push_group(out: &mut Vec<u8>, word: &str, group: u32) -> Result<(), AllocError>
-    ensures { OnOk result (out.new.items ≡ out.old.items ++ ((32 ∷ word.now) ++ 32 ∷ decimal group)) }
+    ensures { OnOk result (out.new.items ≡ out.old.items
+        ++ ((32 ∷ word.now) ++ 32 ∷ decimal group)) }
 {
     push_word(out, word)?;
     push_number(out, u64::from(group))

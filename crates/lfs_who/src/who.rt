@@ -202,7 +202,8 @@ fn who_of(alloc: Global, questions: &[Question]) -> Result<Who, AllocError>
 
 /// The users who have a part in what is asked.
 fn users_of(alloc: Global, questions: &[Question]) -> Result<Vec<u32>, AllocError>
-    ensures { IfOk result (λ users. (u : ℕ) → is_among u users.items ≡ has_part_in u questions.now) }
+    ensures { IfOk result (λ users. (u : ℕ)
+        → is_among u users.items ≡ has_part_in u questions.now) }
 {
     let mut users = Vec::new(alloc);
     for question in questions {
