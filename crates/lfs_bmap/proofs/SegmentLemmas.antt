@@ -38,9 +38,6 @@ empty_has_none l spare segment log inside empty n c h =
 
 -- Opening a segment keeps the log; nothing is spare then.
 module _ (old new : LogState) (spare segment : ℕ) (log : IsLog old spare) (h : Opens old new segment) where
-  opened_other : segment ≢ old.active
-  opened_other e = active_not_clean (sym log.segments.is_active ∙ ap old.state (sym e) ∙ h.was_clean)
-
   -- a segment is the opened one, the one that was active, or as it was
   opened_state : (s : ℕ) → s < old.segments → (P : SegState → Type 0) → (s ≡ segment → P Active)
       → (s ≡ old.active → P Dirty) → (s ≢ segment → s ≢ old.active → P (old.state s)) → P (new.state s)

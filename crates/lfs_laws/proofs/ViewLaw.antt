@@ -208,9 +208,6 @@ module _ (w v : World) (from to : List (List ℕ)) where
   abbrev OrFull : Option Denial → Option Denial → Type 0
   OrFull x y = (x ≡ y) ⊎ TellsEmpty w v (Rename from to) x y
 
-  abbrev full : Denial
-  full = record { rule = IsEmpty; path = 1; at = length to }
-
   empty_alike : (b c : Bool) (k : ℕ) (x y : Option Denial) → is_empty_at w to ≡ b → is_empty_at v to ≡ c → k ≡ length to
       → x ≡ y → MayFollow x
       → OrFull (cond b x (Some (record { rule = IsEmpty; path = 1; at = k })))

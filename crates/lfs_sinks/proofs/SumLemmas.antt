@@ -50,11 +50,6 @@ pub sums_none : (numbers : List ℕ) → sums numbers [] ≡ numbers
 sums_none [] = refl
 sums_none (n ∷ numbers) = refl
 
-pub length-sums : (numbers others : List ℕ) → length (sums numbers others) ≡ length numbers
-length-sums [] others = refl
-length-sums (n ∷ numbers) [] = refl
-length-sums (n ∷ numbers) (o ∷ others) = ap suc (length-sums numbers others)
-
 sums-next : (numbers others : List ℕ) (i : ℕ) → i < length numbers → i < length others
     → set (sums numbers (take i others)) i (get_or numbers i 0 + get_or others i 0) ≡ sums numbers (take (suc i) others)
 sums-next [] others i lt less = absurd (omega (arith, lt))
