@@ -1,12 +1,12 @@
 -- Writing what waits, and staging changes behind that, moves no key into a dirty segment and changes no block that was
--- written: `writes_waiting` for `writing::write_waiting`, `makes_changes` for `applying::apply`. What is written lies
--- in the active segment, which was active before or clean, so it wasn't dirty (`active_other`) and its old blocks lie
--- before the end (`outside`). That one opening is enough is arithmetic: what waits takes 41 blocks at most
--- (`waits_few`), changes take 22, and a segment has 63.
+-- written: `writes_ahead` for MarkedLemmas, `writes_waiting` for `writing::write_waiting`, `makes_changes` for
+-- `applying::apply`. What is written lies in the active segment, which was active before or clean, so it wasn't dirty
+-- (`active_other`) and its old blocks lie before the end (`outside`). That one opening is enough is arithmetic: what
+-- waits takes 41 blocks at most (`waits_few`), changes take 22, and a segment has 63; so two stay clean (`leaves_two`).
 use Rattle.std.proofs.Common.{◌≡◌, ◌≢◌, ◌⊎◌, ℕ, zero, suc, ◌+◌, ◌*◌, ◌/◌, ◌<◌, ◌≤◌, List, [], length, IsSome, refl, sym}
-use Rattle.std.proofs.Common.{ap, ◌∙◌, subst, inl, inr, arith}
-use Rattle.std.specs.Prelude.{slice_index_or, if◌then◌else◌, ◌==◌, true}
-use Rattle.std.proofs.lemmas.Bool.{cases_eq, cases_lt, false≢true}
+use Rattle.std.proofs.Common.{ap, ap₂, ◌∙◌, subst, inl, inr, arith}
+use Rattle.std.specs.Prelude.{slice_index_or, if◌then◌else◌, ◌||◌, ◌==◌, true, false}
+use Rattle.std.proofs.lemmas.Bool.{cases_eq, cases_lt, false≢true, le-ltb}
 use Rattle.lfs_types.specs.Changes.{applied}
 use Rattle.lfs_types.specs.declared.store.Change.{Change}
 use Rattle.lfs_types.specs.declared.store.Reserve.{Reserve}
@@ -24,31 +24,26 @@ use Rattle.lfs_bmap.proofs.LogLemmas.{dirty_not_active}
 use Rattle.lfs_bmap.proofs.MoveLemmas.{StaysDirty-trans, moves-same, moves-trans}
 use Rattle.lfs_staging.specs.declared.parts.Parts.{Parts}
 use Rattle.lfs_segwrite.specs.Applying.{HasRoom, HasRoomFor, versions_after, MakesChanges, MakesWay, StagesAll}
-use Rattle.lfs_segwrite.specs.Applying.{WritesAhead, WritesWaiting, blocks_for, frames_of_all, may_use_reserve}
-use Rattle.lfs_segwrite.specs.Applying.{needs_of, records_of_all, waiting_blocks}
+use Rattle.lfs_segwrite.specs.Applying.{WritesWaiting, blocks_for, frames_of_all, may_use_reserve}
+use Rattle.lfs_segwrite.specs.Applying.{needs_of, passes_limits, peak_of_all, records_of_all, waiting_blocks}
 use Rattle.lfs_segwrite.specs.Collecting.{blocks_of_entries, entries_of}
 use Rattle.lfs_staging.specs.Files.{content_of}
-use Rattle.lfs_segwrite.specs.Flushing.{Flushes, Waits}
+use Rattle.lfs_segwrite.specs.Flushing.{Flushes, Waits, WritesAhead}
 use Rattle.lfs_staging.specs.Keys.{log_state}
 use Rattle.lfs_segwrite.specs.Room.{KeepsFiles}
 use Rattle.lfs_staging.specs.Store.{IsSettled, IsStore}
 use Rattle.lfs_staging.specs.Changing.{StaysInLog}
+use Rattle.lfs_staging.specs.Staging.{IsStaged}
 use Rattle.lfs_staging.proofs.KeptLemmas.{staged_store, store_staged}
+use Rattle.lfs_staging.proofs.StagedLemmas.{stays-refl}
 use Rattle.lfs_ifile.specs.Tables.{row_at}
 use Rattle.lfs_inodes.specs.declared.inode.Inode.{Inode}
 use Rattle.lfs_segments.specs.Log.{Expects}
 use Rattle.lfs_staging.specs.View.{key_of, version_of, waiting_in}
 use Rattle.lfs_segwrite.proofs.BoundLemmas.{blocks_more, blocks_sum}
-use Rattle.lfs_segwrite.proofs.ChangedLemmas.{stages_refl}
 use Rattle.lfs_segwrite.proofs.OrderLemmas.{entries_of-same}
 use Rattle.lfs_segwrite.proofs.CollectingLemmas.{entries_of-length}
 use Rattle.lfs_segwrite.proofs.AdvanceLemmas.{cases_Waits}
-
--- A segment was opened, where it left more than these clean, or nothing was done.
-pub record Opened (reserve : ℕ) (old new : Parts) : Type 0 where
-  pub reserved : reserve < old.log.clean
-  pub clean : new.log.clean + 1 ≡ old.log.clean
-  pub was_clean : state_of old.log.tables new.log.memory.active ≡ Clean
 
 -- an address outside a segment lies before it or behind it
 apart : (a segment fill : ℕ) → a / 64 ≢ segment → (a < segment * 64 + fill) ⊎ (64 * segment + 64 ≤ a)
@@ -57,38 +52,19 @@ apart a segment fill other = elim (cases_lt a (segment * 64 + fill)) [
   | inr not_before ↦ inr (omega arith)
 ]
 
--- room was made or there was room
-pub opened_or : (old new : Parts) (blocks reserve : ℕ) → (blocks ≤ room_of old.log.memory → new ≡ old)
-    → (room_of old.log.memory < blocks → (reserve < old.log.clean) × (new.log.clean + 1 ≡ old.log.clean)
-    × (state_of old.log.tables new.log.memory.active ≡ Clean))
-    → (new ≡ old) ⊎ Opened reserve old new
-opened_or old new blocks reserve enough opened = elim (cases_lt (room_of old.log.memory) blocks) [
-  | inl short ↦ let o = opened short in inr (record { reserved = o.0; clean = o.1; was_clean = o.2 })
-  | inr room ↦ inl (enough room)
-]
-
--- what waits fits into the room for it
-pub staged_fits : (p : Parts) (changes : List Change) → length p.cache.locked ≤ frames_of_all changes
-    → length p.waiting ≤ records_of_all changes
-    → blocks_of_entries (entries_of p) ≤ needs_of changes
-staged_fits p changes frames records =
-    let more = blocks_more (length p.cache.locked) (frames_of_all changes) (length p.waiting)
-    (records_of_all changes) frames records in
-    subst (λ n. (if n == 0 then 0 else n + 1) ≤ needs_of changes) (sym (entries_of-length p)) more
-
-module _ (changes : List Change) (reserve : ℕ) (old a b new : Parts) (kept : KeepsFiles old a) (either : (a ≡ old)
-    ⊎ Opened reserve old a) (stages : StagesAll changes a b) (flushes : Flushes b new) where
+module _ (old a b new : Parts) (kept : KeepsFiles old a) (fewer : a.log.clean ≤ old.log.clean)
+    (stays : StaysInLog a b) (staged : IsStaged b 0) (flushes : Flushes b new) where
   abbrev active : ℕ
   active = b.log.memory.active
 
   segments_same : b.log.memory.segments ≡ old.log.memory.segments
-  segments_same = ap (λ (m : SegmentMemory). m.segments) stages.log.memory ∙ kept.dirty.segments
+  segments_same = ap (λ (m : SegmentMemory). m.segments) stays.memory ∙ kept.dirty.segments
 
   -- ---- the states
   staged_dirty : StaysDirty (log_state a) (log_state b)
   staged_dirty = record {
-    segments = ap (λ (m : SegmentMemory). m.segments) stages.log.memory;
-    dirty = λ s low dirty. ap (λ (xs : List SegState). slice_index_or xs s Clean) stages.log.states ∙ dirty;
+    segments = ap (λ (m : SegmentMemory). m.segments) stays.memory;
+    dirty = λ s low dirty. ap (λ (xs : List SegState). slice_index_or xs s Clean) stays.states ∙ dirty;
   }
 
   flushed_dirty : StaysDirty (log_state b) (log_state new)
@@ -104,8 +80,8 @@ module _ (changes : List Change) (reserve : ℕ) (old a b new : Parts) (kept : K
   active_other : DirtyIn (log_state old) active → ⊥
   active_other dirty =
       let low : active < old.log.memory.segments =
-      subst (λ n. active < n) segments_same stages.staged.log.segments.inside in
-      dirty_not_active (sym (until_dirty.dirty active low dirty) ∙ stages.staged.log.segments.is_active)
+      subst (λ n. active < n) segments_same staged.log.segments.inside in
+      dirty_not_active (sym (until_dirty.dirty active low dirty) ∙ staged.log.segments.is_active)
 
   -- ---- the keys
   moved_active : (n c : ℕ) → IsPlaced (log_state new) n c → Waits b n c → seg_of ((log_state new).at n c) ≡ active
@@ -127,9 +103,9 @@ module _ (changes : List Change) (reserve : ℕ) (old a b new : Parts) (kept : K
 
   staged_moves : Moves (DirtyIn (log_state old)) (log_state a) (log_state b)
   staged_moves = record {
-    numbers = stages.log.moves.numbers;
-    places = λ n c there dirty. stages.log.moves.places n c there tt;
-    versions = λ n c there dirty. stages.log.moves.versions n c there tt;
+    numbers = stays.moves.numbers;
+    places = λ n c there dirty. stays.moves.places n c there tt;
+    versions = λ n c there dirty. stays.moves.versions n c there tt;
   }
 
   moves_ahead : Moves (DirtyIn (log_state old)) (log_state old) (log_state new)
@@ -144,38 +120,33 @@ module _ (changes : List Change) (reserve : ℕ) (old a b new : Parts) (kept : K
   outside : (x : ℕ) → state_of old.log.tables (x / SEGMENT_BLOCKS) ≢ Clean
       → (x / SEGMENT_BLOCKS ≡ old.log.memory.active → x < next_address old.log.memory)
       → (x < next_address b.log.memory) ⊎ (SEGMENT_BLOCKS * active + SEGMENT_BLOCKS ≤ x)
-  outside x used before = elim either [
+  outside x used before = elim kept.end [
     | inl same ↦
-        let memory : b.log.memory ≡ old.log.memory = stages.log.memory ∙ ap (λ (p : Parts). p.log.memory) same in
+        let memory : b.log.memory ≡ old.log.memory = stays.memory ∙ same in
         subst (λ (m : SegmentMemory). (x < next_address m) ⊎ (64 * m.active + 64 ≤ x)) (sym memory)
         (elim (cases_eq (x / 64) old.log.memory.active) [
           | inl here ↦ inl (before here)
           | inr other ↦ apart x old.log.memory.active old.log.memory.fill other
         ])
-    | inr opened ↦
+    | inr clean ↦
         let was : state_of old.log.tables active
-        ≡ Clean = ap (λ (m : SegmentMemory). state_of old.log.tables m.active) stages.log.memory
-        ∙ opened.was_clean in
+        ≡ Clean = ap (λ (m : SegmentMemory). state_of old.log.tables m.active) stays.memory ∙ clean in
         apart x active b.log.memory.fill (λ here. used (ap (state_of old.log.tables) here ∙ was))
   ]
 
   clean_less : new.log.clean ≤ old.log.clean
   clean_less =
-      let same : new.log.clean ≡ a.log.clean = flushes.clean ∙ stages.log.clean in
-      elim either [
-        | inl is ↦ let one = ap (λ (p : Parts). p.log.clean) is in omega arith
-        | inr opened ↦ omega (arith, opened.clean)
-      ]
+      let same : new.log.clean ≡ a.log.clean = flushes.clean ∙ stays.clean in omega (arith, fewer)
 
   pub writes_ahead : WritesAhead old new
   writes_ahead = record {
     segments = flushes.segments ∙ segments_same;
-    numbers = flushes.numbers ∙ stages.log.numbers ∙ ap (λ (rs : List InodeRow). length rs) kept.rows;
+    numbers = flushes.numbers ∙ stays.numbers ∙ ap (λ (rs : List InodeRow). length rs) kept.rows;
     clean = clean_less;
     moves = moves_ahead;
     dirty = StaysDirty-trans (log_state old) (log_state b) (log_state new) until_dirty flushed_dirty;
     blocks = λ x used before.
-        flushes.blocks x (outside x used before) ∙ ap (λ (m : SegmentMemory). block_at m x) stages.log.memory
+        flushes.blocks x (outside x used before) ∙ ap (λ (m : SegmentMemory). block_at m x) stays.memory
         ∙ kept.blocks x used;
   }
 
@@ -192,19 +163,24 @@ waiting_same old a kept = ap blocks_of_entries (entries_of-same old a kept.cache
 
 module _ (old a new : Parts) (blocks : ℕ) (is : blocks ≡ waiting_blocks old) (store : IsStore a)
     (kept : KeepsFiles old a) (enough : blocks ≤ room_of old.log.memory → a ≡ old)
-    (opened : room_of old.log.memory < blocks → (0 < old.log.clean) × (a.log.clean + 1 ≡ old.log.clean)
+    (opened : room_of old.log.memory < blocks → (a.log.clean + 1 ≡ old.log.clean)
     × (state_of old.log.tables a.log.memory.active ≡ Clean))
     (fresh : room_of old.log.memory < blocks → 64 ≤ room_of a.log.memory + 1) (flushes : Flushes a new) where
   same : waiting_blocks a ≡ waiting_blocks old
   same = waiting_same old a kept
+
+  fewer : a.log.clean ≤ old.log.clean
+  fewer = elim (cases_lt (room_of old.log.memory) blocks) [
+    | inl short ↦ let one = (opened short).0 in omega arith
+    | inr room ↦ let one : a.log.clean ≡ old.log.clean = ap (λ (p : Parts). p.log.clean) (enough room) in omega arith
+  ]
 
   pub writes_waiting : WritesWaiting old new
   writes_waiting = record {
     store = flushes.store;
     settled = flushes.settled;
     content = flushes.content ∙ kept.content;
-    log = writes_ahead [] 0 old a a new kept (opened_or old a blocks 0 enough opened)
-        (stages_refl a (store_staged a store)) flushes;
+    log = writes_ahead old a a new kept fewer (stays-refl a) (store_staged a store) flushes;
     used = λ n. flushes.used n ∙ ap (λ (rs : List InodeRow). (row_at rs n).used) kept.rows;
     versions = λ n. flushes.versions n ∙ ap (λ (rs : List InodeRow). (row_at rs n).version) kept.rows;
     still = λ n c low below none.
@@ -221,7 +197,7 @@ module _ (old a new : Parts) (blocks : ℕ) (is : blocks ≡ waiting_blocks old)
           | inl short ↦
               let o = opened short in
               let new_room = fresh short in
-              inr (omega (arith, is), omega (arith, o.1), omega (arith, is))
+              inr (omega (arith, is), omega (arith, o.0), omega (arith, is))
           | inr enough_room ↦
               let nothing = enough enough_room in
               let first : room_of a.log.memory ≡ room_of old.log.memory =
@@ -328,10 +304,32 @@ more_or by changes p has short = elim has [
   | inr giving ↦ inl giving.0
 ]
 
+-- changes that may not use what is kept back leave two segments clean once they are written, where the log has the room
+-- still that they had
+leaves_two : (by : Reserve) (changes : List Change) (old b last : Parts) → HasRoomFor by changes old
+    → may_use_reserve by (content_of old) changes ≡ false → b.log.clean ≡ old.log.clean
+    → waiting_blocks b + room_of old.log.memory ≤ room_of b.log.memory + (waiting_blocks old + needs_of changes)
+    → WritesWaiting b last → 2 ≤ last.log.clean
+leaves_two by changes old b last has plain clean_is fits w = elim has [
+  | inl taking ↦ elim w.left [
+    | inl here ↦ let clean = here.2 in elim taking [ inl more ↦ omega arith | inr two ↦ omega (arith, two.0) ]
+    | inr opened ↦ let clean = opened.1 in let short = opened.2 in
+        elim taking [ inl more ↦ omega arith | inr two ↦ absurd (omega (arith, two.1)) ]
+  ]
+  | inr giving ↦ absurd (false≢true (sym plain ∙ giving.0))
+]
+
+-- where no block waits and few records, the limits aren't passed
+few_pass : (changes : List Change) (p : Parts) → length p.cache.locked ≡ 0 → length p.waiting + 4 ≤ 64
+    → peak_of_all changes ≤ 24 → length changes ≤ 4 → passes_limits p changes ≡ false
+few_pass changes p none few peak count =
+    ap₂ (λ x y. x || y) (le-ltb 24 (length p.cache.locked + peak_of_all changes) (omega arith))
+    (le-ltb 64 (length p.waiting + length changes) (omega arith))
+
 pub makes_changes : (by : Reserve) (changes : List Change) (old a b : Parts) → HasRoom old → HasRoomFor by changes old
-    → waiting_blocks old ≤ 41 → needs_of changes ≤ 22
+    → waiting_blocks old ≤ 41 → needs_of changes ≤ 22 → peak_of_all changes ≤ 24 → length changes ≤ 4
     → MakesWay changes old a → StagesAll changes a b → MakesChanges by changes old b
-makes_changes by changes old a b had has few most way stages =
+makes_changes by changes old a b had has few most peak count way stages =
     let free_or = room_or by changes old has in
     elim way.either [
       | inl nothing ↦
@@ -348,9 +346,11 @@ makes_changes by changes old a b had has few most way stages =
             versions = from.versions_are;
             log = stays_ahead old b from.log;
             reserve = λ fewer. absurd (omega arith);
+            leaves = λ plain last w. leaves_two by changes old b last has plain clean (omega arith) w;
             opened = omega arith;
             enough = λ _. clean;
             delayed = λ _. from.log;
+            few = λ _ _. from.log;
             between = a;
             way = way;
             stages = stages;
@@ -379,6 +379,17 @@ makes_changes by changes old a b had has few most way stages =
               | inl here ↦ let second = here.2 in absurd (omega arith)
               | inr opened ↦ (has, more_or by changes old has opened.2)
             ];
+            leaves = λ plain last next. elim w.left [
+              | inl here ↦ let second = here.1 in
+                  leaves_two by changes old b last has plain (clean ∙ here.2) (omega arith) next
+              | inr opened ↦ elim (more_or by changes old has opened.2) [
+                | inl may ↦ absurd (false≢true (sym plain ∙ may))
+                | inr more ↦ let one = opened.1 in let whole = opened.0 in elim next.left [
+                  | inl still ↦ let all = still.2 in omega arith
+                  | inr again ↦ let short = again.2 in absurd (omega arith)
+                ]
+              ]
+            ];
             opened = elim w.left [
               | inl here ↦ let second = here.2 in omega arith
               | inr opened ↦ let one = opened.1 in omega arith
@@ -388,6 +399,7 @@ makes_changes by changes old a b had has few most way stages =
               | inr opened ↦ let short = opened.2 in absurd (omega arith)
             ];
             delayed = λ no. absurd (false≢true (sym no ∙ written.0));
+            few = λ none few. absurd (false≢true (sym (few_pass changes old none few peak count) ∙ written.0));
             between = a;
             way = way;
             stages = stages;

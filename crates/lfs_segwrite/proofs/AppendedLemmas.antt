@@ -87,9 +87,6 @@ module _ (p q : Parts) (a : ℕ) (block : List ℕ) (put : AppendsBlock p q a bl
         owners = step.owners;
       }
 
-  same_waiting : q.waiting ≡ p.waiting
-  same_waiting = put.waiting
-
   pub appended_staged : IsParts q.log → IsStaged p 0 → IsStaged q 512
   appended_staged parts staged =
       let files = alike_files p q appended_alike staged.whole parts

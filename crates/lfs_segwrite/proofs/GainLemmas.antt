@@ -281,7 +281,7 @@ pub marked_gone : (old new : Parts) (marks : List BlockInfo) (count : ℕ) (info
     → MarksSettled marks count old new → Contains marks info
     → DirtyIn (log_state old) (info.addr / 64) → IsNamed (log_state new) info → ⊥
 marked_gone old new marks count info m has dirty h =
-    let before = named_before (log_state old) (log_state new) info m.moves dirty h in
+    let before = named_before (log_state old) (log_state new) info m.log.moves dirty h in
     let listed = m.are_named.each info has before in
     let again : IsRewritten (log_state old) (log_state new) info
     = subst (IsRewritten (log_state old) (log_state new)) listed.2 (m.rewritten listed.0 info listed.1) in
@@ -310,7 +310,7 @@ pub moves_more : (old mid new : Parts) (marks : List BlockInfo) (count : ℕ) �
 moves_more old mid new marks count h store settled content m =
     let still : (s : ℕ) → s < old.log.memory.segments → DirtyIn (log_state old) s
     → DirtyIn (log_state mid) s = h.dirty.dirty in
-    let all : new.log.memory.segments ≡ old.log.memory.segments = m.segments ∙ h.segments in
+    let all : new.log.memory.segments ≡ old.log.memory.segments = m.log.segments ∙ h.segments in
     let inside : (n c : ℕ) → IsPlaced (log_state new) n c → seg_of ((log_state new).at n c) < old.log.memory.segments
     = λ n c there. let place = (store.log.keys n c there).in_volume in omega arith in
     record {
@@ -318,18 +318,18 @@ moves_more old mid new marks count h store settled content m =
       settled = settled;
       content = content ∙ h.content;
       segments = all;
-      numbers = m.numbers ∙ h.numbers;
+      numbers = m.log.numbers ∙ h.numbers;
       used = λ n. m.used n ∙ h.used n;
       versions = λ n. m.versions n ∙ h.versions n;
       moves = moves-trans (DirtyIn (log_state old)) (log_state old) (log_state mid) (log_state new) h.moves (record {
-        numbers = m.moves.numbers;
-        places = λ n c there dirty. m.moves.places n c there (still _ (inside n c there) dirty);
-        versions = λ n c there dirty. m.moves.versions n c there (still _ (inside n c there) dirty);
+        numbers = m.log.moves.numbers;
+        places = λ n c there dirty. m.log.moves.places n c there (still _ (inside n c there) dirty);
+        versions = λ n c there dirty. m.log.moves.versions n c there (still _ (inside n c there) dirty);
       });
-      dirty = StaysDirty-trans (log_state old) (log_state mid) (log_state new) h.dirty m.dirty;
+      dirty = StaysDirty-trans (log_state old) (log_state mid) (log_state new) h.dirty m.log.dirty;
       blocks = λ a low dirty.
           let was = still (a / 64) low dirty in
-          m.blocks a (λ clean. dirty_not_clean (sym was ∙ clean))
+          m.log.blocks a (λ clean. dirty_not_clean (sym was ∙ clean))
           (λ here. absurd (dirty_not_active (sym was ∙ ap (state_of mid.log.tables) here
           ∙ h.store.log.segments.is_active)))
           ∙ h.blocks a low dirty;
@@ -365,7 +365,7 @@ eights_more infos k count old mid new worth lie low h store settled content m =
     let first : All (λ (info : BlockInfo). IsNamed (log_state new) info → ⊥) (take (8 * k) infos) =
     λ j d less named.
     let info = get_or (take (8 * k) infos) j d in
-    h.gone j d less (named_before (log_state mid) (log_state new) info m.moves
+    h.gone j d less (named_before (log_state mid) (log_state new) info m.log.moves
     (dirty info (part_of_first (LiesDirty old) infos (8 * k) lie j d less)) named) in
     let next : All (λ (info : BlockInfo). IsNamed (log_state new) info → ⊥) (eight infos k) =
     λ j d less named.

@@ -6,7 +6,6 @@ pub mod PutLemmas
 pub mod OrderLemmas
 pub mod RoomLemmas
 pub mod AskedLemmas
-pub mod ChangedLemmas
 pub mod StepLemmas
 pub mod BoundLemmas
 pub mod AheadLemmas

@@ -3,24 +3,23 @@
 -- the content is the same, and a key that waited lies behind the old end of the log, elsewhere than before
 -- (`elsewhere`) and in no dirty segment (`outside`). Where nothing waited before, what waits is on those ways
 -- (`on_way`); a mark over waiting changes would move other keys too.
-use Rattle.std.proofs.Common.{◌≡◌, ◌≢◌, ◌⊎◌, ℕ, zero, suc, ◌+◌, ◌*◌, ◌/◌, ◌<◌, ◌≤◌, List, All, get_or, length, refl}
+use Rattle.std.proofs.Common.{◌≡◌, ◌≢◌, ℕ, zero, suc, ◌+◌, ◌/◌, ◌<◌, ◌≤◌, List, All, get_or, length, refl}
 use Rattle.std.proofs.Common.{sym, ap, ◌∙◌, subst, inl, inr, arith}
-use Rattle.std.specs.Prelude.{Contains, if◌then◌else◌, ◌==◌, slice_index_or}
+use Rattle.std.specs.Prelude.{Contains, if◌then◌else◌, ◌==◌, ⊤}
 use Rattle.std.specs.List.{flat_map}
 use Rattle.std.proofs.lemmas.Bool.{cases_eq, cases_lt, cond-true, cond-false, eq-eqb, ne_eqb}
 use Rattle.lfs_types.specs.declared.cleaner.BlockInfo.{BlockInfo}
 use Rattle.lfs_ifile.specs.declared.inode.InodeRow.{InodeRow}
-use Rattle.lfs_ifile.specs.declared.segment.SegState.TheVariants.{Clean, Dirty}
+use Rattle.lfs_ifile.specs.declared.segment.SegState.TheVariants.{Dirty}
 use Rattle.lfs_ifile.specs.Tables.{row_at}
 use Rattle.lfs_cache.specs.Contents.{Contents}
-use Rattle.lfs_segments.specs.Memory.{SegmentMemory, block_at, next_address, room_of}
+use Rattle.lfs_segments.specs.Memory.{next_address, room_of}
 use Rattle.lfs_log.specs.Parts.{LogParts, state_of}
 use Rattle.lfs_bmap.specs.declared.blocks.TheConstants.{BLOCK_CODES}
 use Rattle.lfs_bmap.specs.Counting.{seg_of}
 use Rattle.lfs_bmap.specs.Log.{IsPlaced}
-use Rattle.lfs_bmap.specs.Moves.{DirtyIn, Moves}
-use Rattle.lfs_bmap.proofs.MoveLemmas.{StaysDirty-trans, moves-trans}
-use Rattle.lfs_ifile.specs.declared.segment.SegState.{SegState}
+use Rattle.lfs_bmap.specs.Moves.{DirtyIn}
+use Rattle.lfs_bmap.proofs.MoveLemmas.{StaysDirty-trans, moves-same, moves-trans}
 use Rattle.lfs_segwrite.specs.Applying.{WritesWaiting}
 use Rattle.lfs_bmap.proofs.LogLemmas.{dirty_not_active, dirty_not_clean}
 use Rattle.lfs_staging.specs.declared.parts.Parts.{Parts}
@@ -35,17 +34,28 @@ use Rattle.lfs_segwrite.specs.Room.{KeepsFiles}
 use Rattle.lfs_staging.specs.Store.{IsSettled, IsStore}
 use Rattle.lfs_staging.specs.View.{key_of, version_of}
 use Rattle.lfs_segwrite.proofs.CollectingLemmas.{entries_of-length}
+use Rattle.lfs_staging.specs.Changing.{StaysInLog}
 use Rattle.lfs_staging.proofs.KeptLemmas.{keys_kept}
 use Rattle.lfs_segwrite.proofs.PutLemmas.{next_some}
 use Rattle.lfs_segwrite.proofs.NamedLemmas.{named_there}
 use Rattle.lfs_staging.proofs.SameContentLemmas.{content_of-same, file_at-kept}
-use Rattle.lfs_segwrite.proofs.AdvanceLemmas.{cases_Waits}
+use Rattle.lfs_segwrite.proofs.AheadLemmas.{writes_ahead}
 
 -- what shows the same has the same content
 pub shown_content : (old new : Parts) → SameShown old new → content_of new ≡ content_of old
 shown_content old new h =
     content_of-same old new (ap (λ (l : LogParts). length l.tables.rows) h.log)
     (λ n low. file_at-kept old new n (h.records n) (h.blocks n))
+
+-- and nothing was written
+stays_shown : (old new : Parts) → SameShown old new → StaysInLog old new
+stays_shown old new h = record {
+  memory = ap (λ (l : LogParts). l.memory) h.log;
+  states = ap (λ (l : LogParts). l.tables.states) h.log;
+  clean = ap (λ (l : LogParts). l.clean) h.log;
+  numbers = ap (λ (l : LogParts). length l.tables.rows) h.log;
+  moves = moves-same (λ segment. ⊤) (log_state old) (log_state new) (keys_kept old new h.log h.addresses);
+}
 
 -- nothing waits still where a segment was opened
 pub settled_still : (old new : Parts) → KeepsFiles old new → IsSettled old → IsSettled new
@@ -160,48 +170,6 @@ module _ (old mid staged new : Parts) (marks named : List BlockInfo) (keeps : Ke
   version_all : (n : ℕ) → version_of new n ≡ version_of old n
   version_all n = flushes.versions n ∙ ap (λ (rs : List InodeRow). (row_at rs n).version) rows
 
-  moves : Moves (DirtyIn (log_state old)) (log_state old) (log_state new)
-  moves = record {
-    numbers = flushes.numbers ∙ numbers;
-    places = λ n c there within.
-        let low : n < length old.log.tables.rows = subst (λ m. n < m) (flushes.numbers ∙ numbers) there.number_below in
-        elim (cases_Waits staged n c) [
-          | inl waits ↦ absurd (outside n c low there.code_below waits within)
-          | inr free ↦ sym (flushes.still n c (subst (λ m. n < m) (sym numbers) low) there.code_below free
-              ∙ place_staged n c low there.code_below)
-        ];
-    versions = λ n c there within. sym (version_all n);
-  }
-
-  -- no block changed that was written before
-  not_end : (a : ℕ) → state_of old.log.tables (a / 64) ≢ Clean
-      → (a / 64 ≡ old.log.memory.active → a < next_address old.log.memory)
-      → (a < next_address staged.log.memory) ⊎ (64 * staged.log.memory.active + 64 ≤ a)
-  not_end a used end =
-      let from = stages.staged.log.segments.from in
-      elim (cases_eq (a / 64) staged.log.memory.active) [
-        | inl here ↦ elim keeps.end [
-          | inl same ↦
-              let memory : staged.log.memory ≡ old.log.memory = ap (λ (l : LogParts). l.memory) log ∙ same in
-              let before = end (here ∙ ap (λ (m : SegmentMemory). m.active) memory) in
-              inl (subst (λ m. a < m) (sym (ap next_address memory)) before)
-          | inr clean ↦
-              let active : staged.log.memory.active ≡ mid.log.memory.active =
-              ap (λ (l : LogParts). l.memory.active) log in
-              absurd (used (ap (state_of old.log.tables) (here ∙ active) ∙ clean))
-        ]
-        | inr other ↦ elim (cases_lt (a / 64) staged.log.memory.active) [
-          | inl less ↦ inl (omega arith)
-          | inr more ↦ inr (omega arith)
-        ]
-      ]
-
-  blocks : (a : ℕ) → state_of old.log.tables (a / 64) ≢ Clean
-      → (a / 64 ≡ old.log.memory.active → a < next_address old.log.memory)
-      → block_at new.log.memory a ≡ block_at old.log.memory a
-  blocks a used end =
-      flushes.blocks a (not_end a used end) ∙ ap (λ (l : LogParts). block_at l.memory a) log ∙ keeps.blocks a used
-
   -- what waited was on a way to a named block
   on_way : (n c : ℕ) → Waits staged n c → IsOnWay named old n c
   on_way n zero waits = stages.only_records n waits
@@ -219,16 +187,9 @@ module _ (old mid staged new : Parts) (marks named : List BlockInfo) (keeps : Ke
     are_named = are;
     counted = refl;
     rewritten = rewritten;
-    moves = moves;
-    segments = flushes.segments ∙ segments;
-    numbers = flushes.numbers ∙ numbers;
+    log = writes_ahead old mid staged new keeps fewer (stays_shown mid staged stages.same) stages.staged flushes;
     used = λ n. flushes.used n ∙ ap (λ (rs : List InodeRow). (row_at rs n).used) rows;
     versions = version_all;
-    blocks = blocks;
-    clean =
-        let same : staged.log.clean ≡ mid.log.clean = ap (λ (l : LogParts). l.clean) log in
-        let kept = flushes.clean in
-        omega arith;
     opened =
         let same : staged.log.clean ≡ mid.log.clean = ap (λ (l : LogParts). l.clean) log in
         let kept = flushes.clean in
@@ -238,11 +199,6 @@ module _ (old mid staged new : Parts) (marks named : List BlockInfo) (keeps : Ke
               omega arith
         ];
     enough = λ fits. flushes.clean ∙ ap (λ (l : LogParts). l.clean) log ∙ ap (λ (p : Parts). p.log.clean) (enough fits);
-    dirty = StaysDirty-trans (log_state old) (log_state mid) (log_state new) keeps.dirty (record {
-      segments = flushes.segments ∙ ap (λ (l : LogParts). l.memory.segments) log;
-      dirty = λ s low dirty. ap (λ (xs : List SegState). slice_index_or xs s Clean) (flushes.states
-          ∙ ap (λ (l : LogParts). l.tables.states) log) ∙ dirty;
-    });
     none = λ is. absurd (omega arith);
     still = λ n c low below other.
         flushes.still n c (subst (λ m. n < m) (sym numbers) low) below (λ waits. other (on_way n c waits))
@@ -284,7 +240,7 @@ pub marks_after : (marks : List BlockInfo) (count : ℕ) (old mid new : Parts) �
 marks_after marks count old mid new first before store w m last =
     let still : (s : ℕ) → s < old.log.memory.segments → DirtyIn (log_state old) s
     → DirtyIn (log_state mid) s = w.log.dirty.dirty in
-    let all : new.log.memory.segments ≡ old.log.memory.segments = m.segments ∙ w.log.segments in
+    let all : new.log.memory.segments ≡ old.log.memory.segments = m.log.segments ∙ w.log.segments in
     let inside : (n c : ℕ) → IsPlaced (log_state new) n c → seg_of ((log_state new).at n c) < old.log.memory.segments
     = λ n c there. let place = (store.log.keys n c there).in_volume in omega arith in
     record {
@@ -300,14 +256,14 @@ marks_after marks count old mid new first before store w m last =
           ];
       moves = moves-trans (DirtyIn (log_state old)) (log_state old) (log_state mid) (log_state new) w.log.moves
           (record {
-            numbers = m.moves.numbers;
-            places = λ n c there dirty. m.moves.places n c there (still _ (inside n c there) dirty);
-            versions = λ n c there dirty. m.moves.versions n c there (still _ (inside n c there) dirty);
+            numbers = m.log.moves.numbers;
+            places = λ n c there dirty. m.log.moves.places n c there (still _ (inside n c there) dirty);
+            versions = λ n c there dirty. m.log.moves.versions n c there (still _ (inside n c there) dirty);
           });
-      dirty = StaysDirty-trans (log_state old) (log_state mid) (log_state new) w.log.dirty m.dirty;
+      dirty = StaysDirty-trans (log_state old) (log_state mid) (log_state new) w.log.dirty m.log.dirty;
       blocks = λ a low dirty.
           let was = still (a / 64) low dirty in
-          m.blocks a (λ clean. dirty_not_clean (sym was ∙ clean))
+          m.log.blocks a (λ clean. dirty_not_clean (sym was ∙ clean))
           (λ here. absurd (dirty_not_active (sym was ∙ ap (state_of mid.log.tables) here
           ∙ before.log.segments.is_active)))
           ∙ w.log.blocks a (λ clean. dirty_not_clean (sym dirty ∙ clean))

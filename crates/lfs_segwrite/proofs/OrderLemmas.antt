@@ -203,11 +203,6 @@ pub in_order-after : (keys : List Key) (j i : ℕ) (d : Key) → j ≤ i → i <
     → rank_of (get_or (in_order keys) j d).lbn.0 ≤ rank_of (get_or (in_order keys) i d).lbn.0
 in_order-after keys j i d before low = passes_after 3 keys j i d before low
 
-entries_of-split : (p : Parts) → entries_of p ≡ map entry_of (in_order (keys_of p.cache.locked))
-    ++ replicate (inode_blocks (length p.waiting)) inodes_entry
-unfolding entries_of
-entries_of-split p = refl
-
 -- the entries by place: those of the keys in order, and behind them those of inode blocks
 pub entries_of-block : (p : Parts) (k : ℕ) (d : Key) (e : SummaryEntry) → k < length p.cache.locked
     → get_or (entries_of p) k e ≡ entry_of (get_or (in_order (keys_of p.cache.locked)) k d)

@@ -141,9 +141,6 @@ module _ (p q : Parts) (v : Inode) (front : List Inode) (address slot : ℕ) (h 
   present : IsPresent p v.number v.version
   present = last_present p v front address slot 0 h.staged h.items h.stands
 
-  low_number : v.number < length p.log.tables.rows
-  low_number = last_low p v front address slot 0 h.staged h.items h.stands
-
   some_address : address ≢ 0
   some_address = first_least p.log.memory.active address h.stands.from
 

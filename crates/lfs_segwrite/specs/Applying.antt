@@ -1,5 +1,5 @@
 -- Changes of a store's content, made one after another, and written all together.
-use Rattle.std.specs.Prelude.{◌≡◌, ◌≢◌, ◌⊎◌, ◌||◌, ℕ, ◌+◌, ◌/◌, ◌<◌, ◌≤◌, Bool, true, false, List, [], ◌∷◌, length}
+use Rattle.std.specs.Prelude.{◌≡◌, ◌⊎◌, ◌||◌, ℕ, ◌+◌, ◌<◌, ◌≤◌, Bool, true, false, List, [], ◌∷◌, length}
 use Rattle.std.specs.Prelude.{max, nat_lt, if◌then◌else◌, ◌==◌, sum_by, Option, None, Some}
 use Rattle.std.specs.List.{list_any}
 use Rattle.lfs_types.specs.Changes.{applied, changed}
@@ -15,14 +15,11 @@ use Rattle.lfs_types.specs.declared.store.Change.{Change}
 use Rattle.lfs_types.specs.declared.store.Change.TheVariants.{Make, Remove, SetAttrs, Put, SetLength}
 use Rattle.lfs_types.specs.declared.store.Reserve.{Reserve}
 use Rattle.lfs_types.specs.declared.store.Reserve.TheVariants.{Users, Superuser}
-use Rattle.lfs_ifile.specs.declared.segment.SegState.TheVariants.{Clean}
-use Rattle.lfs_log.specs.Parts.{state_of}
-use Rattle.lfs_segments.specs.Memory.{block_at, next_address, room_of}
-use Rattle.lfs_bmap.specs.Moves.{DirtyIn, Moves, StaysDirty}
+use Rattle.lfs_segments.specs.Memory.{next_address, room_of}
 use Rattle.lfs_staging.specs.declared.parts.Parts.{Parts}
 use Rattle.lfs_staging.specs.Changing.{StaysInLog, frames_of, records_of, version_after}
 use Rattle.lfs_segwrite.specs.Collecting.{blocks_of_entries, entries_of, inode_blocks}
-use Rattle.lfs_segwrite.specs.Flushing.{Waits}
+use Rattle.lfs_segwrite.specs.Flushing.{Waits, WritesAhead}
 use Rattle.lfs_ifile.specs.Tables.{row_of}
 use Rattle.lfs_cache.specs.declared.cache.TheConstants.{LOCKED_LIMIT}
 use Rattle.lfs_bmap.specs.declared.blocks.TheConstants.{BLOCK_CODES}
@@ -119,18 +116,6 @@ abbrev pub StagesAll : List Change → Parts → Parts → Type 0
 StagesAll changes old new = StagesTo (applied changes (content_of old)) (versions_after changes) (frames_of_all changes)
     (records_of_all changes) old new
 
--- Blocks were written at the log's end, perhaps in a clean segment that was opened for them. No key came to lie in a
--- segment that was dirty, each of these is dirty still, and no block that was written is another.
-pub record WritesAhead (old new : Parts) : Type 0 where
-  pub segments : new.log.memory.segments ≡ old.log.memory.segments
-  pub numbers : length new.log.tables.rows ≡ length old.log.tables.rows
-  pub clean : new.log.clean ≤ old.log.clean
-  pub moves : Moves (DirtyIn (log_state old)) (log_state old) (log_state new)
-  pub dirty : StaysDirty (log_state old) (log_state new)
-  pub blocks : (a : ℕ) → state_of old.log.tables (a / SEGMENT_BLOCKS) ≢ Clean
-      → (a / SEGMENT_BLOCKS ≡ old.log.memory.active → a < next_address old.log.memory)
-      → block_at new.log.memory a ≡ block_at old.log.memory a
-
 -- the blocks of the log that what waits takes, with the summary before them
 abbrev pub waiting_blocks : Parts → ℕ
 waiting_blocks p = blocks_of_entries (entries_of p)
@@ -212,7 +197,8 @@ pub record MakesWay (changes : List Change) (old new : Parts) : Type 0 where
 -- What waited before them was written where with the changes more could wait than may, and nothing else was. Then all
 -- the changes were made, in order, and wait, with nothing beside them. A number that was made has the version behind
 -- its last, each other one the version that it had. One segment was opened at most, and only where what waited had no
--- room and the changes had some; two stay clean where the changes may not use what is kept back.
+-- room and the changes had some. Where the changes may not use what is kept back, two segments stay clean, also once all
+-- that waits is written. Nothing was written where no block waited and at most 60 records.
 pub record MakesChanges (by : Reserve) (changes : List Change) (old new : Parts) : Type 0 where
   pub store : IsStore new
   pub room : HasRoom new
@@ -221,9 +207,12 @@ pub record MakesChanges (by : Reserve) (changes : List Change) (old new : Parts)
   pub log : WritesAhead old new
   pub reserve : new.log.clean < old.log.clean → HasRoomFor by changes old
       × ((may_use_reserve by (content_of old) changes ≡ true) ⊎ (2 < old.log.clean))
+  pub leaves : may_use_reserve by (content_of old) changes ≡ false → (last : Parts) → WritesWaiting new last
+      → 2 ≤ last.log.clean
   pub opened : old.log.clean ≤ new.log.clean + 1
   pub enough : waiting_blocks old ≤ room_of old.log.memory → new.log.clean ≡ old.log.clean
   pub delayed : passes_limits old changes ≡ false → StaysInLog old new
+  pub few : length old.cache.locked ≡ 0 → length old.waiting + 4 ≤ WAITING_LIMIT → StaysInLog old new
   pub between : Parts
   pub way : MakesWay changes old between
   pub stages : StagesAll changes between new

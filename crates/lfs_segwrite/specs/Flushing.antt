@@ -1,16 +1,31 @@
--- All that waits was written into the log.
-use Rattle.std.specs.Prelude.{◌≡◌, ◌⊎◌, ℕ, ◌+◌, ◌*◌, ◌/◌, ◌<◌, ◌≤◌, zero, suc, IsSome, length}
+-- What is written at the log's end, and that all that waits was.
+use Rattle.std.specs.Prelude.{◌≡◌, ◌≢◌, ◌⊎◌, ℕ, ◌+◌, ◌*◌, ◌/◌, ◌<◌, ◌≤◌, zero, suc, IsSome, length}
 use Rattle.lfs_types.specs.declared.limits.TheConstants.{SEGMENT_BLOCKS}
 use Rattle.lfs_cache.specs.Contents.{IsLocked}
+use Rattle.lfs_ifile.specs.declared.segment.SegState.TheVariants.{Clean}
 use Rattle.lfs_ifile.specs.Tables.{row_of}
 use Rattle.lfs_segments.specs.Memory.{block_at, next_address}
+use Rattle.lfs_log.specs.Parts.{state_of}
 use Rattle.lfs_bmap.specs.declared.blocks.TheConstants.{BLOCK_CODES}
+use Rattle.lfs_bmap.specs.Moves.{DirtyIn, Moves, StaysDirty}
 use Rattle.lfs_staging.specs.declared.parts.Parts.{Parts}
 use Rattle.lfs_segwrite.specs.Collecting.{blocks_of_entries, entries_of}
 use Rattle.lfs_staging.specs.Files.{content_of}
 use Rattle.lfs_staging.specs.Keys.{log_state}
 use Rattle.lfs_staging.specs.Store.{IsSettled, IsStore}
 use Rattle.lfs_staging.specs.View.{key_of, version_of, waiting_in}
+
+-- Blocks were written at the log's end, perhaps in a clean segment that was opened for them. No key came to lie in a
+-- segment that was dirty, each of these is dirty still, and no block that was written is another.
+pub record WritesAhead (old new : Parts) : Type 0 where
+  pub segments : new.log.memory.segments ≡ old.log.memory.segments
+  pub numbers : length new.log.tables.rows ≡ length old.log.tables.rows
+  pub clean : new.log.clean ≤ old.log.clean
+  pub moves : Moves (DirtyIn (log_state old)) (log_state old) (log_state new)
+  pub dirty : StaysDirty (log_state old) (log_state new)
+  pub blocks : (a : ℕ) → state_of old.log.tables (a / SEGMENT_BLOCKS) ≢ Clean
+      → (a / SEGMENT_BLOCKS ≡ old.log.memory.active → a < next_address old.log.memory)
+      → block_at new.log.memory a ≡ block_at old.log.memory a
 
 -- a key waits to be written: a record, or another block of a number in use
 abbrev pub Waits : Parts → ℕ → ℕ → Type 0

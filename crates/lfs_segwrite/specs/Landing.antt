@@ -59,7 +59,7 @@ pub record MayLand (p : Parts) (v : Inode) (block : FileBlock) : Type 0 where
   pub parent : (i : ℕ) (up : List ℕ) → way_to block ≡ i ∷ up → HolderWaits p.cache v.number v.version up
 
 -- A block of a file landed at an address: the log has it there with the bytes that it meant, and no data block of any
--- file reads otherwise.
+-- file reads otherwise. It waits no more, and its frame stays in the cache, clean, with its bytes.
 pub record LandsBlock (old new : Parts) (v : Inode) (block : FileBlock) (a : ℕ) : Type 0 where
   pub lands : (i : ℕ) (up : List ℕ) → way_to block ≡ i ∷ up → Lands (tree_of old v.number) (tree_of new v.number) i up a
   pub records : (number : ℕ) → number ≢ v.number → record_of new number ≡ record_of old number
@@ -69,6 +69,8 @@ pub record LandsBlock (old new : Parts) (v : Inode) (block : FileBlock) (a : ℕ
       ≡ data_block (tree_of old number) n
   pub rows : new.log.tables.rows ≡ old.log.tables.rows
   pub settled : block_in (key_of v.number v.version (code_of block)) new.cache.locked ≡ None
+  pub cached : block_in (key_of v.number v.version (code_of block)) new.cache.lru
+      ≡ block_in (key_of v.number v.version (code_of block)) old.cache.locked
 
 -- A key took a place in the block at an address that the log just got, at its end: every other key kept the place that
 -- it had. Live bytes apart, nothing else of the log changed.

@@ -1,28 +1,26 @@
 -- Blocks that are written again at the log's end, as a cleaner asks.
-use Rattle.std.specs.Prelude.{◌≡◌, ◌≢◌, ◌⊎◌, ℕ, zero, suc, ◌+◌, ◌/◌, ◌<◌, ◌≤◌, ◌==◌, List, [], ◌∷◌, ◌++◌, All}
+use Rattle.std.specs.Prelude.{◌≡◌, ◌≢◌, ◌⊎◌, ℕ, zero, suc, ◌+◌, ◌<◌, ◌≤◌, ◌==◌, List, [], ◌∷◌, ◌++◌, All}
 use Rattle.std.specs.Prelude.{Contains, AllPairs, length, map, min, if◌then◌else◌, nat_lt, IsSome}
 use Rattle.std.specs.List.{flat_map}
 use Rattle.std.specs.Set.{distinct_count}
 use Rattle.lfs_types.specs.declared.cleaner.BlockInfo.{BlockInfo}
 use Rattle.lfs_types.specs.declared.limits.TheConstants.{SEGMENT_BLOCKS}
-use Rattle.lfs_ifile.specs.declared.segment.SegState.TheVariants.{Clean}
 use Rattle.lfs_ifile.specs.Tables.{row_of}
-use Rattle.lfs_segments.specs.Memory.{block_at, next_address, room_of}
+use Rattle.lfs_segments.specs.Memory.{room_of}
 use Rattle.lfs_cache.specs.declared.key.Key.{Key}
 use Rattle.lfs_cache.specs.Contents.{IsLocked}
 use Rattle.lfs_cache.specs.Keys.{same_key}
-use Rattle.lfs_log.specs.Parts.{state_of}
 use Rattle.lfs_segments.specs.Reading.{block_from}
 use Rattle.lfs_bmap.specs.declared.blocks.TheConstants.{BLOCK_CODES}
 use Rattle.lfs_bmap.specs.Blocks.{code_of, file_block_of}
 use Rattle.lfs_bmap.specs.Counting.{seg_of}
 use Rattle.lfs_bmap.specs.Log.{LogState}
-use Rattle.lfs_bmap.specs.Moves.{DirtyIn, Moves, StaysDirty, present_address}
+use Rattle.lfs_bmap.specs.Moves.{DirtyIn, present_address}
 use Rattle.lfs_bmap.specs.Reading.{address, data_block}
 use Rattle.lfs_bmap.specs.Ways.{IsBlockWay, codes_on, way_of}
 use Rattle.lfs_staging.specs.declared.parts.Parts.{Parts}
 use Rattle.lfs_segwrite.specs.Collecting.{inode_blocks}
-use Rattle.lfs_segwrite.specs.Flushing.{Waits}
+use Rattle.lfs_segwrite.specs.Flushing.{Waits, WritesAhead}
 use Rattle.lfs_staging.specs.Keys.{log_state}
 use Rattle.lfs_staging.specs.Staging.{IsStaged, TakesOnly}
 use Rattle.lfs_staging.specs.View.{key_of, record_of, tree_of, version_of, waiting_in}
@@ -118,25 +116,17 @@ pub record IsRewritten (old new : LogState) (info : BlockInfo) : Type 0 where
 
 -- The blocks that some infos name were written again, so many, and nothing was done where none is named. Each key that
 -- is on no way to one of them has the place that it had, and the log grew by no more than the blocks that they take:
--- where it ended, or from the start of a segment that was opened for them, where they had no room. What moved went to
--- segments that weren't dirty. No block changed that was written before, and no segment became clean.
+-- where it ended, or from the start of a segment that was opened for them, where they had no room.
 pub record MarksSettled (marks : List BlockInfo) (count : ℕ) (old new : Parts) : Type 0 where
   pub named : List BlockInfo
   pub are_named : AreNamed (log_state old) marks named
   pub counted : count ≡ length named
   pub rewritten : All (IsRewritten (log_state old) (log_state new)) named
-  pub moves : Moves (DirtyIn (log_state old)) (log_state old) (log_state new)
-  pub segments : new.log.memory.segments ≡ old.log.memory.segments
-  pub numbers : length new.log.tables.rows ≡ length old.log.tables.rows
+  pub log : WritesAhead old new
   pub used : (number : ℕ) → (row_of new.log.tables number).used ≡ (row_of old.log.tables number).used
   pub versions : (number : ℕ) → version_of new number ≡ version_of old number
-  pub blocks : (a : ℕ) → state_of old.log.tables (a / SEGMENT_BLOCKS) ≢ Clean
-      → (a / SEGMENT_BLOCKS ≡ old.log.memory.active → a < next_address old.log.memory)
-      → block_at new.log.memory a ≡ block_at old.log.memory a
-  pub clean : new.log.clean ≤ old.log.clean
   pub opened : old.log.clean ≤ new.log.clean + 1
   pub enough : blocks_to_mark named ≤ room_of old.log.memory → new.log.clean ≡ old.log.clean
-  pub dirty : StaysDirty (log_state old) (log_state new)
   pub none : count ≡ 0 → new ≡ old
   pub still : (number code : ℕ) → number < length old.log.tables.rows → code < BLOCK_CODES
       → (IsOnWay named old number code → ⊥)

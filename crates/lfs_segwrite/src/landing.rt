@@ -44,8 +44,8 @@ pub(crate) fn append_block(parts: &mut Parts, bytes: &Block) -> u32
 }
 
 /// Writes a block of a file that waits to the log's end, which expects it, and gives its address.
-/// The address is set in what holds it, the live bytes move, and the block waits no more: its frame is
-/// clean.
+/// The address is set in what holds it, the live bytes move, and the block waits no more: its frame
+/// stays, clean.
 pub fn land_block(parts: &mut Parts, inode: &Inode, block: FileBlock) -> u32
     requires files { AreFiles parts.old }
     requires log { IsLog (log_state parts.old) 0 }
@@ -72,10 +72,11 @@ pub fn land_block(parts: &mut Parts, inode: &Inode, block: FileBlock) -> u32
     let to = append_block(parts, &bytes);
     parts.set_address(inode, block, to);
     parts.log.move_live(block, from, to);
-    parts.cache.settle(Key {
+    let key = Key {
         ino: inode.number,
         version: inode.version,
         lbn: BlockCode(block.code()),
-    });
+    };
+    parts.cache.settle(key);
     to
 }

@@ -92,7 +92,7 @@ pub(crate) fn mark_settled(
     ensures few { IfOk result (λ count. count ≤ length marks.now) }
     ensures refused { OnErr result (parts.new ≡ parts.old) }
     ensures lacking { OnErr result (LacksRoomFor marks.now parts.old) }
-    ensures reserved { OnErr result ((careful ≡ true) ⊎ (parts.old.log.clean ≤ 0)) }
+    ensures reserved { OnErr result ((careful ≡ true) ⊎ (parts.old.log.clean ≡ 0)) }
     ensures exceeds { OnErr result (careful ≡ false → ExceedsRoom marks.now parts.old) }
 {
     let named = named(parts, marks);
@@ -121,20 +121,20 @@ fn make_room_to_mark(
     ensures room { OnOk result (blocks ≤ room_of parts.new.log.memory) }
     ensures enough { blocks ≤ room_of parts.old.log.memory → parts.new ≡ parts.old }
     ensures opened { OnOk result (room_of parts.old.log.memory < blocks
-        → (0 < parts.old.log.clean) × (parts.new.log.clean + 1 ≡ parts.old.log.clean)
+        → (parts.new.log.clean + 1 ≡ parts.old.log.clean)
         × (state_of parts.old.log.tables parts.new.log.memory.active ≡ Clean)) }
     ensures fresh { OnOk result (room_of parts.old.log.memory < blocks
         → SEGMENT_BLOCKS ≤ room_of parts.new.log.memory + 1) }
     ensures last { OnOk result (careful ≡ true → SomeIsFinishable infos.now blocks parts.old) }
     ensures refused { OnErr result (parts.new ≡ parts.old) }
     ensures lacking { OnErr result (LacksRoomToMark infos.now blocks parts.old) }
-    ensures reserved { OnErr result ((careful ≡ true) ⊎ (parts.old.log.clean ≤ 0)) }
+    ensures reserved { OnErr result ((careful ≡ true) ⊎ (parts.old.log.clean ≡ 0)) }
     ensures short { OnErr result (careful ≡ false → room_of parts.old.log.memory < blocks) }
 {
     if careful && !has_finishable(parts, infos, blocks) {
         return Err(NoRoom);
     }
-    make_room(parts, blocks, 0)
+    make_room(parts, blocks)
 }
 
 /// The infos of a list that name a block, each once.

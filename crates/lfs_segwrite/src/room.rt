@@ -25,8 +25,8 @@ pub const USERS_SPARE: u32 = 32;
 pub struct NoRoom;
 
 /// Makes room in the active segment for so many blocks, at most 63. Where it has fewer left, a
-/// clean segment is opened if more than `reserve` segments are clean; else nothing changes.
-pub fn make_room(parts: &mut Parts, blocks: u32, reserve: u32) -> Result<(), NoRoom>
+/// clean segment is opened; where none is clean, nothing changes.
+pub fn make_room(parts: &mut Parts, blocks: u32) -> Result<(), NoRoom>
     requires store { IsStore parts.old }
     requires at_most { blocks < SEGMENT_BLOCKS }
     ensures store { IsStore parts.new }
@@ -34,18 +34,18 @@ pub fn make_room(parts: &mut Parts, blocks: u32, reserve: u32) -> Result<(), NoR
     ensures room { OnOk result (blocks ≤ room_of parts.new.log.memory) }
     ensures enough { blocks ≤ room_of parts.old.log.memory → parts.new ≡ parts.old }
     ensures opened { OnOk result (room_of parts.old.log.memory < blocks
-        → (reserve < parts.old.log.clean) × (parts.new.log.clean + 1 ≡ parts.old.log.clean)
+        → (parts.new.log.clean + 1 ≡ parts.old.log.clean)
         × (state_of parts.old.log.tables parts.new.log.memory.active ≡ Clean)) }
     ensures fresh { OnOk result (room_of parts.old.log.memory < blocks
         → SEGMENT_BLOCKS ≤ room_of parts.new.log.memory + 1) }
     ensures refused { OnErr result (parts.new ≡ parts.old) }
     ensures short { OnErr result (room_of parts.old.log.memory < blocks) }
-    ensures reserved { OnErr result (parts.old.log.clean ≤ reserve) }
+    ensures none { OnErr result (parts.old.log.clean ≡ 0) }
 {
     if parts.log.room() >= blocks {
         return Ok(());
     }
-    if parts.log.clean() <= reserve {
+    if parts.log.clean() == 0 {
         return Err(NoRoom);
     }
     open_segment(parts);

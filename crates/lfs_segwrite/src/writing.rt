@@ -15,7 +15,7 @@ pub fn write_waiting(parts: &mut Parts)
     ensures { WritesWaiting parts.old parts.new }
 {
     let blocks = blocks_to_write(parts);
-    match make_room(parts, blocks, 0) {
+    match make_room(parts, blocks) {
         Ok(()) => flush(parts),
         Err(_) => unreachable!(),
     }

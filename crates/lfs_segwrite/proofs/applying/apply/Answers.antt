@@ -28,5 +28,6 @@ returns-clause-made c =
     makes_changes c.args.by c.args.changes.now c.args.parts.now c.make_way.new.parts c.stage_changes.new.parts
     c.requires.room c.in_ok-check_room.ensures.has
     (waits_few c.args.parts.now c.requires.store)
-    (needs_few c.args.changes.now frames (omega (arith, c.requires.can.few))) c.make_way.ensures
+    (needs_few c.args.changes.now frames (omega (arith, c.requires.can.few)))
+    (peak_most _ c.args.changes.now _ c.requires.can) c.requires.can.few c.make_way.ensures
     c.stage_changes.ensures

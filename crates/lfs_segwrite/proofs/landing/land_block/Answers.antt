@@ -4,7 +4,7 @@ use Rattle.lfs_inodes.specs.Reading.{fields_of}
 use Rattle.lfs_ifile.specs.Tables.{Tables}
 use Rattle.lfs_segments.specs.Log.{Expects}
 use Rattle.lfs_segments.specs.Memory.{SegmentMemory, next_address}
-use Rattle.lfs_cache.specs.Contents.{Contents, IsLocked, block_in, block_of}
+use Rattle.lfs_cache.specs.Contents.{Contents, IsLocked, block_in, block_of, or_else}
 use Rattle.lfs_cache.specs.Keys.{same_key}
 use Rattle.lfs_log.specs.Parts.{LogParts, live_of}
 use Rattle.lfs_log.specs.Parts as log
@@ -142,6 +142,25 @@ steps c i up way =
           ∙ waits_read p v c.args.block i up waits.0 may.is way waits.1;
     }
 
+-- the block's own frame stays, and is clean now
+own_clean : (c : goal.After-settle) (i : ℕ) (up : List ℕ) → way_to c.args.block ≡ i ∷ up
+    → block_in (key_of c.args.inode.now.number c.args.inode.now.version (code_of c.args.block)) (after c).cache.lru
+    ≡ block_in (key_of c.args.inode.now.number c.args.inode.now.version (code_of c.args.block))
+    c.args.parts.now.cache.locked
+unfolding after
+own_clean c i up way =
+    let p = c.args.parts.now in let v = c.args.inode.now in let may = c.requires.may_land in
+    let s = c.set_address.new.self.cache in let q = c.settle.new.self in
+    let k = key_of v.number v.version (code_of c.args.block) in
+    let waits = some_there (block_in k p.cache.locked) may.waits in
+    let set_waits = waits_set p c.append_block-to.new.parts c.set_address.new.self v c.args.block
+    c.append_block-to.result i up c.block_of.result.now may.can way c.append_block-to.ensures.put
+    (c.set_address.ensures.set i up way) in
+    let held = subst (λ n. block_of (key_of v.number v.version n) q
+    ≡ block_of (key_of v.number v.version n) s) c.code.ensures c.settle.ensures.kept in
+    sym (ap (λ o. or_else o (block_in k q.lru)) (steps c i up way).gone) ∙ held
+    ∙ ap (λ o. or_else o (block_in k s.lru)) (set_waits ∙ waits.1) ∙ sym waits.1
+
 pub returns-clause-landed : goal.returns-clause-landed
 unfolding after
 returns-clause-landed c =
@@ -159,6 +178,7 @@ returns-clause-landed c =
           (waited_parent p v may.is w.1 (may.parent w.0 w.1 w.2)) number n low;
       rows = st.rows ∙ ap (λ (t : Tables). t.rows) st.put.tables;
       settled = st.gone;
+      cached = own_clean c w.0 w.1 w.2;
     }
 
 pub returns-clause-log : goal.returns-clause-log

@@ -37,7 +37,7 @@ flush-requires-clause-room c =
 
 fewer : (c : goal.After-flush) → c.make_room_to_mark.new.parts.log.clean ≤ c.args.parts.now.log.clean
 fewer c = elim (cases_lt (room_of c.args.parts.now.log.memory) c.blocks_to_mark.result) [
-  | inl short ↦ let opened = (c.in_ok-make_room_to_mark.ensures.opened short).1 in omega arith
+  | inl short ↦ let opened = (c.in_ok-make_room_to_mark.ensures.opened short).0 in omega arith
   | inr room ↦ let same : c.make_room_to_mark.new.parts.log.clean
       ≡ c.args.parts.now.log.clean = ap (λ (p : Parts). p.log.clean) (c.in_ok-make_room_to_mark.ensures.enough room) in
       omega arith
@@ -67,7 +67,7 @@ returns-clause-marked c =
     room.files c.stage_named.ensures c.flush.ensures (are_last c) (fewer c) (some_named c)
     (subst (λ n. n ≤ room_of old.log.memory → mid ≡ old) c.blocks_to_mark.ensures.blocks room.enough)
     (subst (λ n. room_of old.log.memory < n → mid.log.clean + 1 ≡ old.log.clean) c.blocks_to_mark.ensures.blocks
-    (λ short. (room.opened short).1))
+    (λ short. (room.opened short).0))
     (subst (λ n. room_of old.log.memory < n → 64 ≤ room_of mid.log.memory
     + 1) c.blocks_to_mark.ensures.blocks room.fresh)
 
