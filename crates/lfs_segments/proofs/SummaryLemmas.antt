@@ -6,9 +6,9 @@ use Rattle.std.proofs.lemmas.List.{ext_get_or}
 use Rattle.std.proofs.Props.{props}
 use mathlib.Core.HLevel.{is_prop→PathP}
 use Rattle.lfs_segments.specs.declared.summary.Summary.{Summary}
-use Rattle.lfs_segments.specs.Entry.{IsEntry, AreNamed-prop, AreEntriesAt, unused}
+use Rattle.lfs_segments.specs.Entry.{IsEntry, IsEntryAt, AreNamed-prop, AreEntriesAt, unused}
 use Rattle.lfs_segments.specs.Summary.{IsSummaryBlock}
-use Rattle.lfs_segments.specs.Bytes.{IsBlock}
+use Rattle.lfs_segments.specs.Bytes.{IsBlock, half_at, word_at}
 use Rattle.lfs_segments.proofs.BytesLemmas.{word_bytes, half_bytes}
 use Rattle.lfs_segments.proofs.EntryLemmas.{same_entries, entry_bytes}
 
@@ -43,10 +43,29 @@ same_summary bytes s t p q =
     (same_entries bytes t.count s.entries t.entries
     (subst (λ (n : ℕ). AreEntriesAt bytes n s.entries) count (entries_of bytes s p)) (entries_of bytes t q))
 
--- of two blocks that spell one summary, each byte is the same
-same_byte : (xs ys : List ℕ) (s : Summary) → IsBlock xs → IsBlock ys → IsSummaryBlock xs s → IsSummaryBlock ys s
-    → (i : ℕ) → slice_index xs i ≡ slice_index ys i
-same_byte xs ys s p q r t i =
+-- what all bytes of a summary but 12 to 15 spell
+pub record SpellsRest (bytes : List ℕ) (s : Summary) : Type 0 where
+  pub mark : word_at bytes 0 ≡ 0x4c46_5353
+  pub segment : word_at bytes 4 ≡ s.segment
+  pub offset : half_at bytes 8 ≡ s.offset
+  pub count : half_at bytes 10 ≡ s.count
+  pub entries : (k : ℕ) → k < s.count → IsEntryAt bytes (16 + 12 * k) (get_or s.entries k unused)
+  pub rest : (i : ℕ) → 16 + 12 * s.count ≤ i → slice_index bytes i ≡ 0
+
+pub rest_of : (bytes : List ℕ) (s : Summary) → IsSummaryBlock bytes s → SpellsRest bytes s
+rest_of bytes s p = record {
+  mark = p.mark;
+  segment = p.segment;
+  offset = p.offset;
+  count = p.count;
+  entries = p.entries;
+  rest = p.rest;
+}
+
+-- of two blocks that spell one summary, each byte is the same where those of bytes 12 to 15 are
+same_byte : (xs ys : List ℕ) (s : Summary) → IsBlock xs → IsBlock ys → word_at xs 12 ≡ word_at ys 12 → SpellsRest xs s
+    → SpellsRest ys s → (i : ℕ) → slice_index xs i ≡ slice_index ys i
+same_byte xs ys s p q gap r t i =
     let k : ℕ = (i - 16) / 12 in
     ⊎_elim
     (λ lt. word_bytes xs ys 0 i p q (r.mark ∙ sym t.mark) (omega arith) lt)
@@ -57,7 +76,7 @@ same_byte xs ys s p q r t i =
     (λ from10. ⊎_elim
     (λ lt. half_bytes xs ys 10 i p q (r.count ∙ sym t.count) from10 lt)
     (λ from12. ⊎_elim
-    (λ lt. word_bytes xs ys 12 i p q (r.gap ∙ sym t.gap) from12 lt)
+    (λ lt. word_bytes xs ys 12 i p q gap from12 lt)
     (λ from16. ⊎_elim
     (λ lt. let below : k < s.count = omega arith in
     entry_bytes xs ys (16 + 12 * k) i _ p q (r.entries k below) (t.entries k below) (omega arith) (omega arith))
@@ -69,8 +88,12 @@ same_byte xs ys s p q r t i =
     (cases_lt i 8))
     (cases_lt i 4)
 
+pub same_block : (xs ys : List ℕ) (s : Summary) → IsBlock xs → IsBlock ys → word_at xs 12 ≡ word_at ys 12
+    → SpellsRest xs s → SpellsRest ys s → xs ≡ ys
+same_block xs ys s p q gap r t =
+    ext_get_or 0 xs ys (p.whole ∙ sym q.whole) (λ i _. same_byte xs ys s p q gap r t i)
+
 -- one block spells a summary
 pub same_spelling : (xs ys : List ℕ) (s : Summary) → IsBlock xs → IsBlock ys → IsSummaryBlock xs s → IsSummaryBlock ys s
     → xs ≡ ys
-same_spelling xs ys s p q r t =
-    ext_get_or 0 xs ys (p.whole ∙ sym q.whole) (λ i _. same_byte xs ys s p q r t i)
+same_spelling xs ys s p q r t = same_block xs ys s p q (r.gap ∙ sym t.gap) (rest_of xs s r) (rest_of ys s t)

@@ -4,4 +4,5 @@ pub mod Entry
 pub mod Log
 pub mod Memory
 pub mod Reading
+pub mod Serial
 pub mod Summary

@@ -8,5 +8,6 @@ mod bytes;
 pub mod entry;
 pub mod log;
 pub mod segments;
+pub mod serial;
 pub mod sizes;
 pub mod summary;
