@@ -22,7 +22,7 @@ ghost use Rattle.lfs_calls.specs.Arrivals.{IsArrival};
 ghost use Rattle.lfs_calls.specs.Removes.{IsRemoval};
 
 use crate::arriving::{Arrival, judge_arrival, judge_there};
-use crate::directory::{Room, find_room, seen_block, take_name};
+use crate::directory::{Room, find_room, keep_room, seen_block, take_name};
 use crate::not_served::NotServed;
 use crate::removing::{Removal, judge_remove};
 use crate::tree::Tree;
@@ -461,6 +461,7 @@ fn move_free<F: FileStore>(
         number,
     };
     put_blocks(store, old_dir, &taken, new_dir, &room, &names)?;
+    keep_room(store, new_dir, &room, new);
     Ok(())
 }
 
