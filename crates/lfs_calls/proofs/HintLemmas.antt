@@ -1,9 +1,10 @@
 -- Where directories have no room, by their hints: what a hint says of the stored blocks goes for those that are seen, but
--- for the one that is read in place of a stored one (`full_apart`), which is asked itself (`full_seen`, `room_in`).
+-- for the one that is read in place of a stored one (`full_apart`), which is asked itself (`full_seen`, `room_in`). So it
+-- is with a name that isn't listed (`absent_seen`, `swap_in`).
 -- Behind a Rename the blocks before that of the new name have no room for it still (`full_written`).
 use Rattle.std.proofs.Common.{◌≡◌, ◌≢◌, ℕ, ◌+◌, ◌*◌, ◌/◌, ◌%◌, ◌<◌, ◌≤◌, List, [], ◌∷◌, ◌++◌, length, take, drop, Option, None}
 use Rattle.std.proofs.Common.{Some, sym, ap, subst, ◌∙◌, ⊎_elim, arith}
-use Rattle.std.specs.Prelude.{IfSome, IsSomeAnd}
+use Rattle.std.specs.Prelude.{IfSome, IsSome, IsSomeAnd}
 use Rattle.std.specs.Borrow.{Bor}
 use Rattle.std.specs.FinMap as map
 use Rattle.std.proofs.lemmas.Bool.{cases_eq}
@@ -11,14 +12,14 @@ use Rattle.lfs_types.specs.Splicing.{splice}
 use Rattle.lfs_types.specs.Stored.{bytes_of, bytes_of_file}
 use Rattle.lfs_types.specs.Tree.{Content, File}
 use Rattle.lfs_types.specs.declared.limits.TheConstants.{FILE_BYTES}
-use Rattle.lfs_dirs.specs.Directory.{IsDirectoryBlock, number_in, used_of}
+use Rattle.lfs_dirs.specs.Directory.{IsDirectoryBlock, number_in, renumbered, used_of}
 use Rattle.lfs_dirs.specs.Reading.{entries_of}
 use Rattle.lfs_known.specs.Full.{IsFullBefore}
 use Rattle.lfs_known.specs.declared.hints.Hint.{Hint}
 use Rattle.lfs_known.proofs.FullLemmas.{changed-bytes, full_spliced}
 use Rattle.lfs_calls.specs.Content.{AreBlocks, all_entries, block_at}
 use Rattle.lfs_calls.specs.Makes.{IsRoom, IsRoomIn, StandsIn, with_block}
-use Rattle.lfs_calls.specs.Renames.{WritesBlocks, block_put}
+use Rattle.lfs_calls.specs.Renames.{IsSwap, IsSwapIn, WritesBlocks, block_put}
 use Rattle.lfs_calls.specs.declared.directory.Room.{Room}
 use Rattle.lfs_calls.proofs.Listings.{absent_in_block}
 use Rattle.lfs_calls.proofs.WithBlock.{length-stood, stood-here, stood-other}
@@ -54,6 +55,53 @@ full_seen bytes (Some room) first long stands was here j before = ⊎_elim
     (λ apart. full_apart bytes room.now stands first long was j before apart)
     (cases_eq (512 * j) room.now.off)
 
+-- it is a directory block
+pub block_seen : (bytes : List ℕ) (taken : Option (Bor Room)) → IfSome taken (λ room. StandsIn bytes room.now)
+    → length bytes % 512 ≡ 0 → AreBlocks (with_block bytes taken)
+    → IfSome taken (λ room. IsDirectoryBlock room.now.block (entries_of room.now.block))
+block_seen bytes None stands whole blocks = tt
+block_seen bytes (Some room) stands whole blocks =
+    let seen = splice bytes room.now.off room.now.block in
+    let k = room.now.off / 512 in
+    let is : block_at seen k ≡ room.now.block = block_there bytes room.now stands k (omega (arith, stands.aligned)) in
+    let within : k < length seen / 512 = omega (arith, stands.aligned, stands.within, whole,
+    length-stood bytes room.now stands whole) in
+    subst (λ b. IsDirectoryBlock b (entries_of b)) is (blocks k within)
+
+-- where it doesn't list a name, and a stored block doesn't, the block that is seen doesn't
+pub absent_seen : (bytes : List ℕ) (taken : Option (Bor Room)) (name : List ℕ)
+    → IfSome taken (λ room. StandsIn bytes room.now)
+    → IfSome taken (λ room. number_in name (entries_of room.now.block) ≡ None)
+    → (j : ℕ) → number_in name (entries_of (block_at bytes j)) ≡ None
+    → number_in name (entries_of (block_at (with_block bytes taken) j)) ≡ None
+absent_seen bytes None name stands here j absent = absent
+absent_seen bytes (Some room) name stands here j absent = ⊎_elim
+    (λ same. ap (λ b. number_in name (entries_of b)) (block_there bytes room.now stands j same) ∙ here)
+    (λ apart. ap (λ b. number_in name (entries_of b)) (stood-other bytes room.now stands (512 * j) (omega arith) apart)
+    ∙ absent)
+    (cases_eq (512 * j) room.now.off)
+
+-- with another number for the name it is the block that lists the name
+pub swap_in : (bytes : List ℕ) (taken : Option (Bor Room)) (name : List ℕ) (number : ℕ) (room : Room)
+    → IfSome taken (λ room. StandsIn bytes room.now) → length bytes % 512 ≡ 0
+    → IsSomeAnd taken (λ block. IsSwapIn block.now name number room)
+    → (k : ℕ) × IsSwap (with_block bytes taken) name number room k
+swap_in bytes None name number room stands whole there = absurd there
+swap_in bytes (Some block) name number room stands whole there =
+    let seen = splice bytes block.now.off block.now.block in
+    let k = block.now.off / 512 in
+    let same : 512 * k ≡ block.now.off = omega (arith, stands.aligned) in
+    let is : block_at seen k ≡ block.now.block = block_there bytes block.now stands k same in (
+      k,
+      record {
+        off = there.off ∙ sym same;
+        within = omega (arith, stands.aligned, stands.within, whole, length-stood bytes block.now stands whole);
+        listed = subst (λ b. IsSome (number_in name (entries_of b))) (sym is) there.listed;
+        block = there.block;
+        swaps = there.swaps ∙ ap (λ b. renumbered name number (entries_of b)) (sym is);
+      },
+    )
+
 -- it is a directory block, in which the name is free
 pub free_there : (bytes : List ℕ) (taken : Option (Bor Room)) (name : List ℕ)
     → IfSome taken (λ room. StandsIn bytes room.now) → length bytes % 512 ≡ 0 → AreBlocks (with_block bytes taken)
@@ -67,7 +115,7 @@ free_there bytes (Some room) name stands whole blocks free =
     let is : block_at seen k ≡ room.now.block = block_there bytes room.now stands k (omega (arith, stands.aligned)) in
     let within : k < length seen / 512 = omega (arith, stands.aligned, stands.within, whole,
     length-stood bytes room.now stands whole) in (
-      subst (λ b. IsDirectoryBlock b (entries_of b)) is (blocks k within),
+      block_seen bytes (Some room) stands whole blocks,
       ap (λ b. number_in name (entries_of b)) (sym is) ∙ absent_in_block name seen k within free,
     )
 
