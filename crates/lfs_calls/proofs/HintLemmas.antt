@@ -6,11 +6,10 @@ use Rattle.std.proofs.Common.{◌≡◌, ◌≢◌, ℕ, ◌+◌, ◌*◌, ◌/�
 use Rattle.std.proofs.Common.{Some, sym, ap, subst, ◌∙◌, ⊎_elim, arith}
 use Rattle.std.specs.Prelude.{IfSome, IsSome, IsSomeAnd}
 use Rattle.std.specs.Borrow.{Bor}
-use Rattle.std.specs.FinMap as map
 use Rattle.std.proofs.lemmas.Bool.{cases_eq}
 use Rattle.lfs_types.specs.Splicing.{splice}
 use Rattle.lfs_types.specs.Stored.{bytes_of, bytes_of_file}
-use Rattle.lfs_types.specs.Tree.{Content, File}
+use Rattle.lfs_types.specs.Tree.{Content}
 use Rattle.lfs_types.specs.declared.limits.TheConstants.{FILE_BYTES}
 use Rattle.lfs_dirs.specs.Directory.{IsDirectoryBlock, number_in, renumbered, used_of}
 use Rattle.lfs_dirs.specs.Reading.{entries_of}
@@ -64,8 +63,13 @@ block_seen bytes (Some room) stands whole blocks =
     let seen = splice bytes room.now.off room.now.block in
     let k = room.now.off / 512 in
     let is : block_at seen k ≡ room.now.block = block_there bytes room.now stands k (omega (arith, stands.aligned)) in
-    let within : k < length seen / 512 = omega (arith, stands.aligned, stands.within, whole,
-    length-stood bytes room.now stands whole) in
+    let within : k < length seen / 512 = omega (
+      arith,
+      stands.aligned,
+      stands.within,
+      whole,
+      length-stood bytes room.now stands whole,
+    ) in
     subst (λ b. IsDirectoryBlock b (entries_of b)) is (blocks k within)
 
 -- where it doesn't list a name, and a stored block doesn't, the block that is seen doesn't
@@ -113,8 +117,13 @@ free_there bytes (Some room) name stands whole blocks free =
     let seen = splice bytes room.now.off room.now.block in
     let k = room.now.off / 512 in
     let is : block_at seen k ≡ room.now.block = block_there bytes room.now stands k (omega (arith, stands.aligned)) in
-    let within : k < length seen / 512 = omega (arith, stands.aligned, stands.within, whole,
-    length-stood bytes room.now stands whole) in (
+    let within : k < length seen / 512 = omega (
+      arith,
+      stands.aligned,
+      stands.within,
+      whole,
+      length-stood bytes room.now stands whole,
+    ) in (
       block_seen bytes (Some room) stands whole blocks,
       ap (λ b. number_in name (entries_of b)) (sym is) ∙ absent_in_block name seen k within free,
     )
