@@ -50,6 +50,13 @@ pub record StandsIn (bytes : List ℕ) (room : Room) : Type 0 where
   pub within : room.off < length bytes
   pub size : length room.block ≡ BLOCK_SIZE
 
+-- a block that stands before that of an index, with an entry more
+pub record IsRoomIn (seen : Room) (first number : ℕ) (name : List ℕ) (room : Room) : Type 0 where
+  pub off : room.off ≡ seen.off
+  pub before : seen.off / BLOCK_SIZE < first
+  pub block : IsDirectoryBlock room.block (entries_of room.block)
+  pub adds : entries_of room.block ≡ entries_of seen.block ++ (number, name) ∷ []
+
 -- a directory's bytes, with a block read in place of the stored one, if one is given
 abbrev pub with_block : List ℕ → Option (Bor Room) → List ℕ
 with_block bytes None = bytes

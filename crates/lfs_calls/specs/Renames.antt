@@ -108,6 +108,13 @@ pub record IsSwap (bytes : List ℕ) (name : List ℕ) (number : ℕ) (room : Ro
   pub block : IsDirectoryBlock room.block (entries_of room.block)
   pub swaps : entries_of room.block ≡ renumbered name number (entries_of (block_at bytes k))
 
+-- a block with another number for a name that it lists
+pub record IsSwapIn (seen : Room) (name : List ℕ) (number : ℕ) (room : Room) : Type 0 where
+  pub off : room.off ≡ seen.off
+  pub listed : IsSome (number_in name (entries_of seen.block))
+  pub block : IsDirectoryBlock room.block (entries_of room.block)
+  pub swaps : entries_of room.block ≡ renumbered name number (entries_of seen.block)
+
 -- a row hangs in a directory under a name, and another row under a name in the directory to which it goes
 pub record GoesOver (c : Content) (rows : Rows) (move : Move) (old new : List ℕ) (there : ℕ) : Type 0 where
   pub leaves : Leaves c rows move old

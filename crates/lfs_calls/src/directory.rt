@@ -1,16 +1,16 @@
 //! Directories in a store, block by block: a name is looked up, names are listed, room is found, a name is taken out.
 
-ghost use Rattle.std.specs.Prelude.{◌≡◌, ◌+◌, ◌≤◌, IsSome, length, take, drop, ℕ, [], ◌∷◌, ◌%◌, ◌<◌, IfSome, Some, None, is_none, MatchOption, ◌↔◌, ◌/◌, IsTrue, ◌++◌, IfOk, map};
+ghost use Rattle.std.specs.Prelude.{◌≡◌, ◌+◌, ◌≤◌, IsSome, IsSomeAnd, length, take, drop, ℕ, [], ◌∷◌, ◌%◌, ◌<◌, IfSome, Some, None, is_none, MatchOption, ◌↔◌, ◌/◌, IsTrue, ◌++◌, IfOk, map};
 ghost use Rattle.std.specs.FinMap.{get};
 ghost use Rattle.lfs_types.specs.declared.block.TheConstants.{BLOCK_SIZE};
 ghost use Rattle.lfs_types.specs.Stored.{bytes_of};
 ghost use Rattle.lfs_types.specs.declared.limits.TheConstants.{FILE_BYTES};
 ghost use Rattle.lfs_types.specs.Naming.{name_fault};
-ghost use Rattle.lfs_dirs.specs.Directory.{number_in, IsDirectoryBlock};
+ghost use Rattle.lfs_dirs.specs.Directory.{number_in, IsDirectoryBlock, used_of};
 ghost use Rattle.lfs_dirs.specs.Reading.{entries_of};
 ghost use Rattle.lfs_known.specs.Full.{IsFullBefore};
 ghost use Rattle.lfs_calls.specs.Content.{HasBlocks, IsDirectoryAt, all_entries, FitsNowhere, AreBlocks, block_at};
-ghost use Rattle.lfs_calls.specs.Makes.{CanEnter, IsRoom, StandsIn, with_block};
+ghost use Rattle.lfs_calls.specs.Makes.{CanEnter, IsRoom, IsRoomIn, StandsIn, with_block};
 ghost use Rattle.lfs_calls.specs.Removes.{IsTaking, ListsName};
 
 use crate::tree::Tree;
@@ -170,7 +170,7 @@ pub fn is_empty_directory<F: FileStore>(store: &mut Tree<F>, dir: u32, size: u64
 
 /// The first block of a directory that has room for a new entry, with that entry, else a new block at the end; None
 /// where the directory has all the blocks that it may have. The block `taken`, if there is one, is read in place of
-/// the stored one; without one, blocks that are known to have no room are passed over.
+/// the stored one. Stored blocks that are known to have no room are passed over.
 pub(crate) fn find_room<F: FileStore>(
     store: &mut Tree<F>,
     dir: u32,
@@ -189,7 +189,10 @@ pub(crate) fn find_room<F: FileStore>(
     ensures state { F.state store.new ≡ F.state store.old }
 {
     let block_size = BLOCK_SIZE as u64;
-    let first = first_to_try(store, dir, taken, name);
+    let first = first_to_try(store, dir, name);
+    if let Some(room) = taken_room(taken, first, name, number) {
+        return Some(room);
+    }
     for k in first..size / block_size {
         let off = block_size * k;
         let block = seen_block(store, dir, off, taken);
@@ -206,16 +209,38 @@ pub(crate) fn find_room<F: FileStore>(
     Some(Room { off: size, block })
 }
 
-/// The index of a block of a directory before which a name fits in none: that of the directory's hint, where no block is
-/// read in place of a stored one and the name is no shorter than the hint's.
-fn first_to_try<F: FileStore>(store: &Tree<F>, dir: u32, taken: Option<&Room>, name: &Name) -> u64
-    ensures { IsFullBefore (with_block (bytes_of (F.state store.now).content dir) taken.entry)
+/// The index of a block of a directory before which a name fits in no stored one: that of the directory's hint, where the
+/// name is no shorter than the hint's.
+fn first_to_try<F: FileStore>(store: &Tree<F>, dir: u32, name: &Name) -> u64
+    ensures { IsFullBefore (bytes_of (F.state store.now).content dir)
         (record { block = result; length = length name.now }) }
 {
     match store.hint(dir) {
-        Some(hint) if taken.is_none() && hint.length <= name.as_bytes().len() => hint.block,
+        Some(hint) if hint.length <= name.as_bytes().len() => hint.block,
         _ => 0,
     }
+}
+
+/// The block that is read in place of a stored one, if it stands before that of index `first` and a name fits, with an
+/// entry of the name more.
+fn taken_room(taken: Option<&Room>, first: u64, name: &Name, number: u32) -> Option<Room>
+    requires above { 0 < number }
+    requires free { IfSome taken (λ room. IsDirectoryBlock room.now.block (entries_of room.now.block)
+        × (number_in name.now (entries_of room.now.block) ≡ None)) }
+    ensures { MatchOption result
+        (IfSome taken.entry (λ room. room.now.off / BLOCK_SIZE < first
+        → BLOCK_SIZE < used_of (entries_of room.now.block) + 5 + length name.now))
+        (λ found. IsSomeAnd taken.entry (λ room. IsRoomIn room.now first number name.now found)) }
+{
+    let room = taken?;
+    if room.off / BLOCK_SIZE as u64 >= first {
+        return None;
+    }
+    let block = added(&room.block, name, number)?;
+    Some(Room {
+        off: room.off,
+        block,
+    })
 }
 
 /// Keeps in mind that a name fits in none of the first `block` blocks of a directory, where no block is read in place of
@@ -234,6 +259,20 @@ fn keep_hint<F: FileStore>(
     if taken.is_none() {
         let length = name.as_bytes().len();
         store.enter_hint(dir, Hint { block, length });
+    }
+}
+
+/// Keeps in mind that a name fits in no block of a directory before that of `room`, unless more is known.
+pub(crate) fn keep_room<F: FileStore>(store: &mut Tree<F>, dir: u32, room: &Room, name: &Name)
+    requires { IsFullBefore (bytes_of (F.state store.old).content dir)
+        (record { block = room.now.off / BLOCK_SIZE; length = length name.now }) }
+    ensures { store.new ≡ store.old }
+{
+    let block = room.off / BLOCK_SIZE as u64;
+    let length = name.as_bytes().len();
+    match store.hint(dir) {
+        Some(hint) if block <= hint.block && hint.length <= length => {}
+        _ => store.enter_hint(dir, Hint { block, length }),
     }
 }
 
@@ -293,7 +332,7 @@ pub(crate) fn take_name<F: FileStore>(store: &mut Tree<F>, dir: u32, size: u64, 
 }
 
 /// The block of a directory's hint without a name, and where it goes, if it lists the name, as where the name was made
-/// last.
+/// last. It isn't read where the table says that the name doesn't stand there.
 fn take_hinted<F: FileStore>(store: &mut Tree<F>, dir: u32, size: u64, name: &Name) -> Option<Room>
     requires { ListsName (F.state store.old).content dir size name.now }
     ensures room { IfSome result (λ room. (k : ℕ)
@@ -301,7 +340,7 @@ fn take_hinted<F: FileStore>(store: &mut Tree<F>, dir: u32, size: u64, name: &Na
     ensures state { F.state store.new ≡ F.state store.old }
 {
     let Hint { block, .. } = store.hint(dir)?;
-    if block < size / BLOCK_SIZE as u64 {
+    if block < size / BLOCK_SIZE as u64 && store.next_block(dir, name, block) == block {
         take_from(store, dir, block, name)
     } else {
         None

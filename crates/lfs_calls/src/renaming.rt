@@ -1,6 +1,6 @@
 //! The call that gives a row another name.
 
-ghost use Rattle.std.specs.Prelude.{◌≡◌, ◌≤◌, ◌<◌, ◌+◌, ℕ, [], ◌∷◌, Some, None, true, false, length, Ok, IfErr, IsSome, OnOk, MatchOption};
+ghost use Rattle.std.specs.Prelude.{◌≡◌, ◌≤◌, ◌<◌, ◌+◌, ℕ, [], ◌∷◌, Some, None, true, false, length, Ok, IfErr, IfSome, IsSome, IsSomeAnd, OnOk, MatchOption};
 ghost use Rattle.std.specs.FinMap.{get};
 ghost use Rattle.lfs_types.specs.declared.path.TheConstants.{PATH_MAX};
 ghost use Rattle.lfs_types.specs.declared.block.TheConstants.{BLOCK_SIZE};
@@ -9,20 +9,22 @@ ghost use Rattle.lfs_types.specs.Tree.{Content, World, root};
 ghost use Rattle.lfs_types.specs.declared.rule.Rule.TheVariants.{IsNotBeneathItself};
 ghost use Rattle.lfs_model.specs.Rules.{Judges, apart_test, arriving, first_failing, front, judged, last, moving_tests, position, reached, rule_table, visited};
 ghost use Rattle.lfs_calls.specs.Asked.{Asks, IsAsked, OnPlaced};
+ghost use Rattle.lfs_dirs.specs.Directory.{IsDirectoryBlock, number_in};
+ghost use Rattle.lfs_dirs.specs.Reading.{entries_of};
 ghost use Rattle.lfs_calls.specs.Calls.{ChangesTo, IsCall, answered};
 ghost use Rattle.lfs_calls.specs.Volumes.{HasWorld, InWorld, IsVolume};
 ghost use Rattle.lfs_calls.specs.Content.{FitsNowhere};
 ghost use Rattle.lfs_calls.specs.Names.{MovesName};
 ghost use Rattle.lfs_model.specs.Walks.{is_on_way};
 ghost use Rattle.lfs_calls.specs.Makes.{IsBlockOf, with_block};
-ghost use Rattle.lfs_calls.specs.Renames.{ArePlaces, AreSwapped, CanSwap, GoesOver, GoesTo, GoesWith, HasNoRoom, IsMove, IsSwap, IsTarget, MovesOver, MovesTo, PlacedAt, PlacesRow, PutsRow, StaysInPlace, SwapsBlocks, WritesBlocks, name_left, target_number};
+ghost use Rattle.lfs_calls.specs.Renames.{ArePlaces, AreSwapped, CanSwap, GoesOver, GoesTo, GoesWith, HasNoRoom, IsMove, IsSwap, IsSwapIn, IsTarget, MovesOver, MovesTo, PlacedAt, PlacesRow, PutsRow, StaysInPlace, SwapsBlocks, WritesBlocks, name_left, target_number};
 ghost use Rattle.lfs_model.specs.Walks.{walked};
 ghost use Rattle.lfs_model.specs.World.{child};
 ghost use Rattle.lfs_calls.specs.Arrivals.{IsArrival};
 ghost use Rattle.lfs_calls.specs.Removes.{IsRemoval};
 
 use crate::arriving::{Arrival, judge_arrival, judge_there};
-use crate::directory::{Room, find_room, seen_block, take_name};
+use crate::directory::{Room, find_room, keep_room, seen_block, take_name};
 use crate::not_served::NotServed;
 use crate::removing::{Removal, judge_remove};
 use crate::tree::Tree;
@@ -311,7 +313,8 @@ fn find_swap<F: FileStore>(
 }
 
 /// The block of a directory that lists a name, with another number for it, and where it goes. The block `taken`, if there
-/// is one, is read in place of the stored one.
+/// is one, is read in place of the stored one, and first. Stored blocks in which the name is known not to stand are passed
+/// over.
 fn swap_number<F: FileStore>(
     store: &mut Tree<F>,
     dir: u32,
@@ -325,16 +328,39 @@ fn swap_number<F: FileStore>(
         (with_block (bytes_of (F.state store.old).content dir) taken.entry) name.now number result k }
     ensures state { F.state store.new ≡ F.state store.old }
 {
+    if let Some(room) = swap_taken(taken, name, number) {
+        return room;
+    }
     let block_size = BLOCK_SIZE as u64;
-    for k in 0..size / block_size {
+    let mut k = store.next_block(dir, name, 0);
+    while k < size / block_size {
         let off = block_size * k;
         let block = seen_block(store, dir, off, taken);
         if find(&block, name).is_some() {
             let block = replaced(&block, name, number);
             return Room { off, block };
         }
+        k = store.next_block(dir, name, k + 1);
     }
     unreachable!()
+}
+
+/// The block that is read in place of a stored one, with another number for a name, if it lists the name.
+fn swap_taken(taken: Option<&Room>, name: &Name, number: u32) -> Option<Room>
+    requires above { 0 < number }
+    requires block { IfSome taken
+        (λ room. IsDirectoryBlock room.now.block (entries_of room.now.block)) }
+    ensures { MatchOption result
+        (IfSome taken.entry (λ room. number_in name.now (entries_of room.now.block) ≡ None))
+        (λ found. IsSomeAnd taken.entry (λ room. IsSwapIn room.now name.now number found)) }
+{
+    let room = taken?;
+    find(&room.block, name)?;
+    let block = replaced(&room.block, name, number);
+    Some(Room {
+        off: room.off,
+        block,
+    })
 }
 
 /// Writes two blocks of directories, one after the other, and removes a file; where both blocks stand at one place, the
@@ -461,6 +487,7 @@ fn move_free<F: FileStore>(
         number,
     };
     put_blocks(store, old_dir, &taken, new_dir, &room, &names)?;
+    keep_room(store, new_dir, &room, new);
     Ok(())
 }
 

@@ -1,19 +1,20 @@
--- The entries of a block written again without those of one name.
-use Rattle.std.proofs.Common.{◌≡◌, ℕ, ◌+◌, ◌≤◌, true, false, List, [], ◌∷◌, ◌++◌, length, None, sym, ap, ◌∙◌, subst}
-use Rattle.std.proofs.Common.{arith, append_assoc}
-use Rattle.std.proofs.lemmas.List.{append-nil}
-use Rattle.lfs_dirs.specs.Directory.{Entry, used_of, has_name, number_in, without, IsEntry, AreEntries}
-use Rattle.lfs_dirs.specs.Directory.{IsDirectoryBlock}
-use Rattle.lfs_dirs.proofs.Laws.{used_of-append, used_of-block}
-use Rattle.lfs_dirs.proofs.Changes.{without-nil, without-here, without-later, AreEntries-without, AreEntries-middle}
-use Rattle.lfs_dirs.proofs.Changes.{used_of-without_le}
+-- The entries of a block without that of one name: the bytes before it and those behind it, and zeros (`closed_up`, for
+-- `removed`). The bytes behind are those of the entries behind, as a block spells one list. For `behind`: what is known
+-- of the bytes that were passed, one entry after the other. And what `replaced` needs of entries written again.
+use Rattle.std.proofs.Common.{◌≡◌, ℕ, ◌+◌, ◌≤◌, false, List, [], ◌∷◌, ◌++◌, length, take, replicate, None}
+use Rattle.std.proofs.Common.{refl, sym, ap, ◌∙◌, subst, arith, append_assoc, length-append}
+use Rattle.std.proofs.lemmas.Grind.{flat_map-append}
+use Rattle.std.proofs.lemmas.List.{append-nil, append_cancel_left, length-replicate, replicate-append-replicate, take_at}
+use Rattle.lfs_dirs.specs.Directory.{Entry, entry_bytes, used_of, has_name, number_in, without, IsEntry, AreEntries}
+use Rattle.lfs_dirs.specs.Directory.{IsDirectoryBlock, Spells}
+use Rattle.lfs_dirs.specs.Reading.{StandsBehind, StandsFirst, entries_of}
+use Rattle.lfs_dirs.proofs.Laws.{bytes_of, length-entry_bytes, Spells-bytes, Spells-from_bytes}
+use Rattle.lfs_dirs.proofs.Adding.{bytes_of-added}
+use Rattle.lfs_dirs.proofs.Changes.{has_name-same, number_in-append, number_in-later, number_in-nil}
+use Rattle.lfs_dirs.proofs.Changes.{number_in-none, without-absent}
+use Rattle.lfs_dirs.proofs.Changes.{without-here, without-later, AreEntries-without}
 
--- the next entry, of another name, is the next that is kept
-pub keeps_next : (name : List ℕ) (done left next es : List Entry) (e : Entry)
-    → done ++ without name left ≡ without name es → left ≡ e ∷ next → has_name name e ≡ false
-    → done ++ (e ∷ without name next) ≡ without name es
-keeps_next name done left next es e kept is_left other =
-    ap (λ xs. done ++ xs) (sym (ap (without name) is_left ∙ without-later name e next other)) ∙ kept
+-- ---- entries written again
 
 -- an entry that may be written behind others
 pub record MayFollow (done : List Entry) (e : Entry) : Type 0 where
@@ -21,39 +22,137 @@ pub record MayFollow (done : List Entry) (e : Entry) : Type 0 where
   pub absent : number_in e.1 done ≡ None
   pub room : used_of done + 5 + length e.1 ≤ 512
 
-pub may_follow : (name block : List ℕ) (es done : List Entry) (e : Entry) (rest : List Entry)
-    → IsDirectoryBlock block es → done ++ (e ∷ rest) ≡ without name es → MayFollow done e
-may_follow name block es done e rest h kept =
-    let entries = AreEntries-middle done e rest (subst AreEntries (sym kept) (AreEntries-without name es h.entries)) in
-    record {
-      entry = entries.0;
-      absent = entries.1;
-      room =
-          omega (
-            arith,
-            used_of-append done (e ∷ rest),
-            ap used_of kept,
-            used_of-block block es h,
-            used_of-without_le name es,
-          );
-    }
-
 -- what is written and what is left, once the next entry is written
 pub written_next : (done more : List Entry) (e : Entry) (rest total : List Entry)
     → more ≡ done ++ e ∷ [] → done ++ (e ∷ rest) ≡ total → more ++ rest ≡ total
 written_next done more e rest total is_more kept =
     ap (λ xs. xs ++ rest) is_more ∙ append_assoc done (e ∷ []) rest ∙ kept
 
--- an entry of the name is passed over
-pub skips_next : (name : List ℕ) (done left next es : List Entry) (e : Entry)
-    → done ++ without name left ≡ without name es → left ≡ e ∷ next → has_name name e ≡ true
-    → done ++ without name next ≡ without name es
-skips_next name done left next es e kept is_left same =
-    ap (λ xs. done ++ xs) (sym (ap (without name) is_left ∙ without-here name e next same)) ∙ kept
+-- ---- the bytes behind a name
 
--- at the end all that is kept is written
-pub all_written : (name other : List ℕ) (done left es : List Entry)
-    → done ++ without name left ≡ without name es → left ≡ [] → name ≡ other → done ≡ without other es
-all_written name other done left es kept none same =
-    sym (append-nil done) ∙ ap (λ xs. done ++ xs) (sym (ap (without name) none ∙ without-nil name)) ∙ kept
-    ∙ ap (λ n. without n es) same
+-- entries that were passed, none of them of a name, and the bytes behind them
+pub record IsFront (bytes name rest : List ℕ) : Type 0 where
+  pub before : List Entry
+  pub absent : number_in name before ≡ None
+  pub read : entries_of bytes ≡ before ++ entries_of rest
+  pub spelled : bytes ≡ bytes_of before ++ rest
+
+pub front_first : (bytes name : List ℕ) → IsFront bytes name bytes
+front_first bytes name = record { before = []; absent = number_in-nil name; read = refl; spelled = refl }
+
+module _ (bytes name rest others : List ℕ) (e : Entry) (front : IsFront bytes name rest)
+    (first : StandsFirst rest e others) where
+  -- one more, of another name
+  pub front_next : has_name name e ≡ false → IsFront bytes name others
+  front_next other = record {
+    before = front.before ++ e ∷ [];
+    absent = number_in-append name front.before (e ∷ []) front.absent ∙ number_in-later name e [] other
+        ∙ number_in-nil name;
+    read = front.read ∙ ap (λ es. front.before ++ es) first.read
+        ∙ sym (append_assoc front.before (e ∷ []) (entries_of others));
+    spelled = front.spelled ∙ ap (λ bs. bytes_of front.before ++ bs) first.spelled
+        ∙ sym (append_assoc (bytes_of front.before) (entry_bytes e) others)
+        ∙ ap (λ bs. bs ++ others) (bytes_of-added front.before e);
+  }
+
+  -- and one of the name
+  pub front_found : e.1 ≡ name → StandsBehind bytes name others
+  front_found named = record {
+    before = front.before;
+    entry = e;
+    absent = front.absent;
+    named = named;
+    read = front.read ∙ ap (λ es. front.before ++ es) first.read;
+    spelled = front.spelled ∙ ap (λ bs. bytes_of front.before ++ bs) first.spelled;
+  }
+
+-- where no more are left, none has the name
+pub front_last : (bytes name rest : List ℕ) → IsFront bytes name rest → entries_of rest ≡ []
+    → number_in name (entries_of bytes) ≡ None
+front_last bytes name rest front none =
+    ap (number_in name) (front.read ∙ ap (λ es. front.before ++ es) none ∙ append-nil front.before) ∙ front.absent
+
+-- ---- the block without the name
+
+-- what is behind entries are entries
+AreEntries-behind : (es fs : List Entry) → AreEntries (es ++ fs) → AreEntries fs
+AreEntries-behind [] fs a = a
+AreEntries-behind (e ∷ es) fs a = AreEntries-behind es fs a.2
+
+-- the entries without one are those before it and those behind it
+without_one : (name : List ℕ) (es : List Entry) (e : Entry) (fs : List Entry) → number_in name es ≡ None → e.1 ≡ name
+    → AreEntries (es ++ e ∷ fs) → without name (es ++ e ∷ fs) ≡ es ++ fs
+without_one name [] e fs absent named a =
+    without-here name e fs (has_name-same name e named)
+    ∙ without-absent name fs (subst (λ n. number_in n fs ≡ None) named a.1)
+without_one name (d ∷ es) e fs absent named a =
+    let none = number_in-none name d es absent in
+    without-later name d (es ++ e ∷ fs) none.0
+    ∙ ap (λ xs. d ∷ xs) (without_one name es e fs none.1 named a.2)
+
+module _ (block name rest : List ℕ) (h : IsDirectoryBlock block (entries_of block))
+    (b : StandsBehind block name rest) where
+  -- how many bytes are before the entry
+  pub place : length (bytes_of b.before) + (5 + length name) + length rest ≡ 512
+  place = omega (
+    arith,
+    ap length b.spelled,
+    h.size,
+    length-append (bytes_of b.before) (entry_bytes b.entry ++ rest),
+    length-append (entry_bytes b.entry) rest,
+    length-entry_bytes b.entry,
+    ap length b.named,
+  )
+
+  -- the bytes behind it are those of the entries behind it, and zeros
+  rest_is : (n : ℕ) × (rest ≡ bytes_of (entries_of rest) ++ replicate n 0)
+  rest_is =
+      let spelled = Spells-bytes block (entries_of block) h.spelled in
+      let zeros : List ℕ = replicate spelled.0 0 in
+      let all : bytes_of b.before ++ (entry_bytes b.entry ++ rest)
+      ≡ bytes_of b.before ++ (entry_bytes b.entry ++ (bytes_of (entries_of rest) ++ zeros)) =
+      sym b.spelled ∙ spelled.1
+      ∙ ap (λ es. bytes_of es ++ zeros) b.read
+      ∙ ap (λ bs. bs ++ zeros) (flat_map-append entry_bytes b.before (b.entry ∷ entries_of rest))
+      ∙ append_assoc (bytes_of b.before) (entry_bytes b.entry ++ bytes_of (entries_of rest)) zeros
+      ∙ ap (λ bs. bytes_of b.before ++ bs) (append_assoc (entry_bytes b.entry) (bytes_of (entries_of rest)) zeros) in (
+        spelled.0,
+        append_cancel_left (entry_bytes b.entry) rest (bytes_of (entries_of rest) ++ zeros)
+            (append_cancel_left (bytes_of b.before) (entry_bytes b.entry ++ rest)
+            (entry_bytes b.entry ++ (bytes_of (entries_of rest) ++ zeros)) all),
+      )
+
+  kept_is : without name (entries_of block) ≡ b.before ++ entries_of rest
+  kept_is = ap (without name) b.read
+      ∙ without_one name b.before b.entry (entries_of rest) b.absent b.named (subst AreEntries b.read h.entries)
+
+  -- what is left is a directory block without the name
+  pub closed_up : (out : List ℕ) (at k : ℕ) → at ≡ length (bytes_of b.before)
+      → out ≡ take at block ++ (rest ++ replicate k 0) → at + length rest + k ≡ 512
+      → IsDirectoryBlock out (without name (entries_of block))
+  closed_up out at k is_at is_out long =
+      let n = rest_is.0 in
+      let front : take at block ≡ bytes_of b.before =
+      ap (take at) b.spelled ∙ take_at (bytes_of b.before) (entry_bytes b.entry ++ rest) at (sym is_at) in
+      let parts : out ≡ bytes_of (b.before ++ entries_of rest) ++ replicate (n + k) 0 =
+      is_out ∙ ap (λ bs. bs ++ (rest ++ replicate k 0)) front
+      ∙ ap (λ bs. bytes_of b.before ++ (bs ++ replicate k 0)) rest_is.1
+      ∙ ap (λ bs. bytes_of b.before ++ bs) (append_assoc (bytes_of (entries_of rest)) (replicate n 0) (replicate k 0))
+      ∙ ap (λ bs. bytes_of b.before ++ (bytes_of (entries_of rest) ++ bs)) (replicate-append-replicate n k 0)
+      ∙ sym (append_assoc (bytes_of b.before) (bytes_of (entries_of rest)) (replicate (n + k) 0))
+      ∙ ap (λ bs. bs ++ replicate (n + k) 0) (sym (flat_map-append entry_bytes b.before (entries_of rest))) in
+      let P : List Entry → Type 0 = λ es. IsDirectoryBlock out es in
+      subst P (sym kept_is) (record {
+        size = omega (
+          arith,
+          ap length is_out,
+          ap length front,
+          length-append (take at block) (rest ++ replicate k 0),
+          length-append rest (replicate k 0),
+          length-replicate {A = ℕ} k 0,
+          is_at,
+          long,
+        );
+        entries = subst AreEntries kept_is (AreEntries-without name (entries_of block) h.entries);
+        spelled = subst (λ bs. Spells bs (b.before ++ entries_of rest)) (sym parts) (Spells-from_bytes (n + k) (b.before ++ entries_of rest));
+      })

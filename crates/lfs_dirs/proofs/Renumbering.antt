@@ -1,5 +1,5 @@
 -- The entries of a block written again, one of them with another number.
-use Rattle.std.proofs.Common.{◌≡◌, ℕ, ◌+◌, ◌<◌, ◌^◌, List, [], ◌∷◌, ◌++◌, sym, ap, ◌∙◌, subst, arith}
+use Rattle.std.proofs.Common.{◌≡◌, ℕ, ◌<◌, ◌^◌, List, [], ◌∷◌, ◌++◌, sym, ap, ◌∙◌, subst, arith}
 use Rattle.std.proofs.lemmas.List.{append-nil}
 use Rattle.lfs_dirs.specs.Directory.{Entry, used_of, renumbered, with_number, AreEntries, IsDirectoryBlock}
 use Rattle.lfs_dirs.proofs.Laws.{used_of-append, used_of-block}

@@ -1,8 +1,8 @@
 -- The entries that any bytes begin with.
 use Rattle.std.specs.Prelude.{◌≡◌, ℕ, zero, suc, ◌^◌, ◌<◌, Bool, ◌&&◌, nat_lt, nat_le, List, [], ◌∷◌, ◌++◌, length}
-use Rattle.std.specs.Prelude.{take, if◌then◌else◌}
+use Rattle.std.specs.Prelude.{take, flat_map, None, if◌then◌else◌}
 use Rattle.std.specs.Int.{w32, from_be_bytes}
-use Rattle.lfs_dirs.specs.Directory.{Entry, entry_bytes}
+use Rattle.lfs_dirs.specs.Directory.{Entry, entry_bytes, number_in}
 
 -- whether a number, the length of a name and as many bytes as are left begin with an entry
 abbrev pub is_entry : ℕ → ℕ → ℕ → Bool
@@ -33,3 +33,12 @@ pub record StandsFirst (bytes : List ℕ) (e : Entry) (rest : List ℕ) : Type 0
   pub spelled : bytes ≡ entry_bytes e ++ rest
   pub above : 0 < e.0
   pub fits : e.0 < 2 ^ 32
+
+-- the bytes behind the first entry of a name, with those before it
+pub record StandsBehind (bytes name rest : List ℕ) : Type 0 where
+  pub before : List Entry
+  pub entry : Entry
+  pub absent : number_in name before ≡ None
+  pub named : entry.1 ≡ name
+  pub read : entries_of bytes ≡ before ++ entry ∷ entries_of rest
+  pub spelled : bytes ≡ flat_map entry_bytes before ++ (entry_bytes entry ++ rest)

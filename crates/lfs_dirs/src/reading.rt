@@ -3,7 +3,7 @@
 ghost use Rattle.std.specs.Prelude.{◌≡◌, ℕ, ◌≤◌, ◌↔◌, List, [], ◌∷◌, All, None, IsTrue, MatchOption, length};
 ghost use Rattle.lfs_types.specs.Naming.{name_fault};
 ghost use Rattle.lfs_dirs.specs.Directory.{IsDirectoryBlock, number_in};
-ghost use Rattle.lfs_dirs.specs.Reading.{StandsFirst, entries_of};
+ghost use Rattle.lfs_dirs.specs.Reading.{StandsBehind, StandsFirst, entries_of};
 
 use lfs_types::block::Block;
 use lfs_types::name::{NAME_MAX, Name};
@@ -92,6 +92,21 @@ fn first_entry(bytes: &[u8]) -> Option<(u32, &[u8], &[u8])>
     }
     let (name, rest) = rest.split_at(name_length);
     Some((number, name, rest))
+}
+
+/// The bytes behind the first entry of this name.
+pub(crate) fn behind<'a>(block: &'a Block, name: &[u8]) -> Option<&'a [u8]>
+    ensures { MatchOption result (number_in name.now (entries_of block.now) ≡ None)
+        (λ rest. StandsBehind block.now name.now rest.now) }
+{
+    let mut rest: &[u8] = block;
+    while let Some((_, found, others)) = first_entry(rest) {
+        if found == name {
+            return Some(others);
+        }
+        rest = others;
+    }
+    None
 }
 
 /// The number of the first of the entries that has this name.

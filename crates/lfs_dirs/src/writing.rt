@@ -1,10 +1,10 @@
 //! Blocks with an entry more or less, or with another number.
 
-ghost use Rattle.std.specs.Prelude.{◌≡◌, ◌+◌, ◌<◌, ◌≤◌, ◌++◌, ◌∷◌, ◌↔◌, [], None, drop, length, IfSome, IsSome};
+ghost use Rattle.std.specs.Prelude.{◌≡◌, ◌+◌, ◌-◌, ◌<◌, ◌≤◌, ◌++◌, ◌∷◌, ◌↔◌, [], None, drop, length, replicate, IfSome, IsSome};
 ghost use Rattle.lfs_dirs.specs.Directory.{IsDirectoryBlock, IsEntry, entry_bytes, number_in, renumbered, used_of, with_number, without};
 ghost use Rattle.lfs_dirs.specs.Reading.{entries_of};
 
-use crate::reading::{HEAD_SIZE, are_zeros, entries};
+use crate::reading::{HEAD_SIZE, are_zeros, behind, entries};
 use byteorder::{BigEndian, ByteOrder};
 use lfs_types::block::{BLOCK_SIZE, Block};
 use lfs_types::name::Name;
@@ -41,14 +41,23 @@ pub fn removed(block: &Block, name: &Name) -> Block
     ensures listed { entries_of result ≡ without name.now (entries_of block.now) }
 {
     let unwanted = name.as_bytes();
-    let mut shorter = [0; BLOCK_SIZE];
-    let mut end = 0;
-    for (number, name) in entries(block) {
-        if name != unwanted {
-            end = push_entry(&mut shorter, end, number, name);
-        }
-    }
-    shorter
+    let Some(rest) = behind(block, unwanted) else {
+        return *block;
+    };
+    let at = BLOCK_SIZE - rest.len() - HEAD_SIZE - unwanted.len();
+    joined(&block[..at], rest)
+}
+
+/// The block of these bytes, one after the other, and zeros.
+fn joined(front: &[u8], rest: &[u8]) -> Block
+    requires { length front.now + length rest.now ≤ 512 }
+    ensures { result ≡ front.now ++ (rest.now ++ replicate (512 - length front.now - length rest.now) 0) }
+{
+    let end = front.len();
+    let mut block = [0; BLOCK_SIZE];
+    block[..end].copy_from_slice(front);
+    block[end..end + rest.len()].copy_from_slice(rest);
+    block
 }
 
 /// The block with another number in the entry of this name.

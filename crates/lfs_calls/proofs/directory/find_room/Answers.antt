@@ -7,13 +7,33 @@ use Rattle.lfs_dirs.specs.Reading.{entries_of}
 use Rattle.lfs_calls.specs.Content.{block_at}
 use Rattle.lfs_calls.specs.Makes.{with_block}
 use Rattle.lfs_known.specs.Full.{IsFullBefore}
-use Rattle.lfs_calls.proofs.HintLemmas.{full_before}
+use Rattle.lfs_calls.proofs.HintLemmas.{free_there, full_before, full_seen, room_in}
 use Rattle.lfs_calls.proofs.Listings.{absent_in_block, none_at_end}
 use Rattle.lfs_calls.proofs.WithBlock.{length-with_block}
 use Rattle.lfs_calls.proofs.directory.find_room.Goals as goal
 
+pub taken_room-requires-clause-free : goal.taken_room-requires-clause-free
+taken_room-requires-clause-free g c =
+    let stored = bytes_of (g.F.FileStore.state c.args.store.now).content c.args.dir in
+    free_there stored c.args.taken c.args.name.now c.requires.stands
+    (ap (λ n. n % 512) (sym c.requires.stored.sized) ∙ c.requires.stored.whole) c.requires.blocks c.requires.free
+
+pub returns-in-Some-clause-room : goal.returns-in-Some-clause-room
+returns-in-Some-clause-room g c =
+    let stored = bytes_of (g.F.FileStore.state c.args.store.now).content c.args.dir in
+    room_in stored c.args.taken c.first_to_try-first.result c.args.number c.args.name.now c.in-Some.room
+    c.requires.stands (ap (λ n. n % 512) (sym c.requires.stored.sized) ∙ c.requires.stored.whole)
+    (omega (arith, c.requires.stored.sized, c.requires.bounded)) c.first_to_try-first.ensures
+    c.in-Some.ensures
+
 pub loop-k-init : goal.loop-k-init
-loop-k-init g c = record { full = c.first_to_try-first.ensures.full; state = refl }
+loop-k-init g c =
+    let stored = bytes_of (g.F.FileStore.state c.args.store.now).content c.args.dir in
+    record {
+      full = full_seen stored c.args.taken c.first_to_try-first.result (length c.args.name.now) c.requires.stands
+          c.first_to_try-first.ensures c.in_default.ensures;
+      state = refl;
+    }
 
 pub keep_hint-requires : goal.keep_hint-requires
 keep_hint-requires g c =
@@ -90,5 +110,5 @@ returns-then-size-eq-FILE_BYTES-clause-room g c =
 pub added-requires-clause-directory : goal.added-requires-clause-directory
 added-requires-clause-directory g c = grind (arith, common_steps)
 
-pub returns-in-Some-clause-room : goal.returns-in-Some-clause-room
-returns-in-Some-clause-room g c = grind (arith, common_steps)
+pub returns-in-Some-added-clause-room : goal.returns-in-Some-added-clause-room
+returns-in-Some-added-clause-room g c = grind (arith, common_steps)

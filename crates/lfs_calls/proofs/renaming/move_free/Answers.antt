@@ -6,6 +6,7 @@ use Rattle.lfs_calls.specs.Makes.{IsBlockOf}
 use Rattle.lfs_calls.specs.Names.{MovesName}
 use Rattle.lfs_calls.specs.Renames.{HasNoRoom, MovesTo, PutsRow, WritesBlocks}
 use Rattle.lfs_calls.proofs.AskedLemmas.{asks_from, on_refusal}
+use Rattle.lfs_calls.proofs.HintLemmas.{full_written}
 use Rattle.lfs_calls.proofs.MovedNames.{moves_free}
 use Rattle.lfs_calls.proofs.PlacedBlocks.{new_block, old_block}
 use Rattle.lfs_calls.proofs.MovedPlaces.{somewhere}
@@ -75,11 +76,22 @@ returns-in_err-put_blocks-clause-asked g c =
     ))
     c.in_err-put_blocks.ensures.asked))
 
+pub keep_room-requires : goal.keep_room-requires
+keep_room-requires g c =
+    let m = c.args.planned.now in
+    let places = c.in-Some.places in
+    full_written (g.F.FileStore.state c.args.store.now).content (g.F.FileStore.state c.put_blocks.new.store).content
+    m.removal.dir.number places.taken m.dir.number places.room m.removal.file.number c.args.new.now _
+    c.in-Some.ensures.places.room.1
+    (subst (λ x. WritesBlocks x (g.F.FileStore.state c.put_blocks.new.store).content m.removal.dir.number places.taken
+    m.dir.number places.room)
+    (same_content c.find_places.ensures.state) c.in_ok-put_blocks.ensures.changes.ok)
+
 pub returns-clause-asked : goal.returns-clause-asked
 returns-clause-asked g c =
     let m = c.args.planned.now in
     let places = c.in-Some.places in
-    asks_from g.F.FileStore.state g.F.FileStore.made c.find_places.ensures.state (λ after writes. (
+    rw c.keep_room.ensures (asks_from g.F.FileStore.state g.F.FileStore.made c.find_places.ensures.state (λ after writes. (
       places,
       (
         c.in-Some.ensures.places,
@@ -87,4 +99,4 @@ returns-clause-asked g c =
             (same_content c.find_places.ensures.state) writes,
       ),
     ))
-    c.in_ok-put_blocks.ensures.asked
+    c.in_ok-put_blocks.ensures.asked)

@@ -1,12 +1,13 @@
-use Rattle.std.proofs.Common.{◌≡◌, ℕ, ◌/◌, ◌<◌, true, List, length, Option, None, Some, is_some, refl, sym, ap, subst}
+use Rattle.std.proofs.Common.{◌≡◌, ℕ, ◌/◌, ◌%◌, ◌<◌, true, List, length, Option, None, Some, is_some, refl, sym, ap, subst}
 use Rattle.std.proofs.Common.{◌∙◌, arith}
 use Rattle.std.specs.Prelude.{IsSome}
 use Rattle.lfs_types.specs.Stored.{bytes_of}
 use Rattle.lfs_dirs.specs.Directory.{IsDirectoryBlock, number_in, renumbered}
 use Rattle.lfs_dirs.specs.Reading.{entries_of}
-use Rattle.lfs_calls.specs.Content.{block_at, entries_below}
+use Rattle.lfs_calls.specs.Content.{block_at}
 use Rattle.lfs_calls.specs.Makes.{with_block}
-use Rattle.lfs_calls.proofs.Listings.{absent_further, absent_at_first}
+use Rattle.lfs_calls.proofs.HintLemmas.{absent_seen, block_seen, swap_in}
+use Rattle.lfs_calls.proofs.SearchLemmas.{absent_in_all, absent_passed}
 use Rattle.lfs_calls.proofs.StateLemmas.{same_content}
 use Rattle.lfs_calls.proofs.WithBlock.{length-with_block}
 use Rattle.lfs_calls.proofs.renaming.swap_number.Goals as goal
@@ -34,8 +35,25 @@ within g c =
     c.requires.stands c.requires.stored.sized c.requires.stored.whole in
     subst (λ n. c.loop-k.k < n / 512) (sym size) c.loop-k-test.true
 
+pub swap_taken-requires-clause-block : goal.swap_taken-requires-clause-block
+swap_taken-requires-clause-block g c =
+    block_seen (bytes_of (g.F.FileStore.state c.args.store.now).content c.args.dir) c.args.taken c.requires.stands
+    (ap (λ n. n % 512) (sym c.requires.stored.sized) ∙ c.requires.stored.whole) c.requires.blocks
+
+pub returns-in-Some-clause-room : goal.returns-in-Some-clause-room
+returns-in-Some-clause-room g c =
+    swap_in (bytes_of (g.F.FileStore.state c.args.store.now).content c.args.dir) c.args.taken c.args.name.now
+    c.args.number c.in-Some.room c.requires.stands
+    (ap (λ n. n % 512) (sym c.requires.stored.sized) ∙ c.requires.stored.whole) c.in-Some.ensures
+
 pub loop-k-init : goal.loop-k-init
-loop-k-init g c = record { absent = absent_at_first _ _; state = refl }
+loop-k-init g c = record {
+  absent = λ j low.
+      absent_seen (bytes_of (g.F.FileStore.state c.args.store.now).content c.args.dir) c.args.taken c.args.name.now
+      c.requires.stands c.in_default.ensures j (c.next_block-k.ensures.absent j (omega arith) low);
+  taken = c.in_default.ensures;
+  state = refl;
+}
 
 pub replaced-block-requires-clause-directory : goal.replaced-block-requires-clause-directory
 replaced-block-requires-clause-directory g c =
@@ -61,11 +79,18 @@ returns-then-is_some-clause-room g c =
 pub loop-k-preserved : goal.loop-k-preserved
 loop-k-preserved g c =
     let k = (goal.at.loop-k-preserved g c).After-seen_block-block in
+    let stored = bytes_of (g.F.FileStore.state c.args.store.now).content c.args.dir in
+    let state = c.seen_block-block.ensures.state ∙ c.loop-k.invariant.state in
     record {
-      absent = absent_further c.args.name.now (bytes g k) c.loop-k.k c.loop-k.invariant.absent
+      absent = absent_passed c.args.name.now (bytes g k) c.loop-k.k c.next_block-k-in-loop-k.result
+          c.loop-k.invariant.absent
           (ap (λ b. number_in c.args.name.now (entries_of b)) (sym (block_is g k)) ∙ sym c.find.ensures
-          ∙ not_some c.find.result (sym c.if-is_some.ensures));
-      state = c.seen_block-block.ensures.state ∙ c.loop-k.invariant.state;
+          ∙ not_some c.find.result (sym c.if-is_some.ensures))
+          (λ j past low. absent_seen stored c.args.taken c.args.name.now c.requires.stands c.loop-k.invariant.taken j
+          (ap (λ x. number_in c.args.name.now (entries_of (block_at (bytes_of x c.args.dir) j))) (sym (same_content state))
+          ∙ c.next_block-k-in-loop-k.ensures.absent j past low));
+      taken = c.loop-k.invariant.taken;
+      state = state;
     }
 
 pub unreachable-requires : goal.unreachable-requires
@@ -74,10 +99,7 @@ unreachable-requires g c =
     let size : length (with_block stored c.args.taken)
     ≡ c.args.size = length-with_block stored c.args.taken c.args.size c.requires.stands c.requires.stored.sized
     c.requires.stored.whole in
-    let most = c.loop-k.auto.k-end in
-    let count : length (with_block stored c.args.taken) / 512 ≡ c.loop-k.k = ap (λ n. n / 512) size
-    ∙ omega (arith, most, c.loop-k-test.false) in
-    let none = ap (λ n. number_in c.args.name.now (entries_below (with_block stored c.args.taken) n)) count
-    ∙ c.loop-k.invariant.absent in
+    let none = absent_in_all c.args.name.now (with_block stored c.args.taken) c.args.size c.loop-k.k (sym size)
+    c.loop-k-test.false c.loop-k.invariant.absent in
     let found = (there_of _ c.requires.listed).is in
     absurd (cc)
