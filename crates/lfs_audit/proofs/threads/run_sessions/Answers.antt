@@ -36,7 +36,7 @@ returns-in_err-print_closed-clause-fault g c =
 
 pub returns-in_err-closed-clause-fault : goal.returns-in_err-closed-clause-fault
 returns-in_err-closed-clause-fault g c =
-    let residual = c.from_residual-in_err-closed in
+    let residual = c.from_residual in
     let exit = err_from_is_err_and residual.result residual.ensures.1 in
     let p = c.args.params in
     let scripts = c.args.sessions.1 in
@@ -46,7 +46,7 @@ returns-in_err-closed-clause-fault g c =
 
 pub returns-in_err-closed-clause-unsettled : goal.returns-in_err-closed-clause-unsettled
 returns-in_err-closed-clause-unsettled g c =
-    let residual = c.from_residual-in_err-closed in
+    let residual = c.from_residual in
     let exit = err_from_is_err_and residual.result residual.ensures.1 in
     let p = c.args.params in
     let served = c.in_err-closed.ensures in
@@ -58,7 +58,7 @@ pub returns-in_err-print_closed-clause-unsettled : goal.returns-in_err-print_clo
 returns-in_err-print_closed-clause-unsettled g c =
     let residual = c.from_residual-in_err-print_closed in
     let exit = err_from_is_err_and residual.result residual.ensures.1 in
-    rw (exit.1, exit.2) (unwritten_named _ _ c.in_err-print_closed.ensures.fault)
+    rw (exit.1, exit.2) (unwritten_named {T = Unit {0}} (λ session left. ⊥) _ c.in_err-print_closed.ensures.fault)
 
 pub returns-in_err-print_closed-clause-unwritten : goal.returns-in_err-print_closed-clause-unwritten
 returns-in_err-print_closed-clause-unwritten g c =

@@ -31,7 +31,7 @@ returns-clause-written g c =
 
 pub returns-in_err-setup-clause-fault : goal.returns-in_err-setup-clause-fault
 returns-in_err-setup-clause-fault g c =
-    let residual = c.from_residual-in_err-setup in
+    let residual = c.from_residual in
     let exit = err_from_is_err_and residual.result residual.ensures.1 in
     let p = c.args.params in
     rw (exit.1, exit.2) (split_cause (g.R.Read.remaining c.args.reader.now) p.segments p.inodes p.frames _
@@ -39,9 +39,9 @@ returns-in_err-setup-clause-fault g c =
 
 pub returns-in_err-setup-clause-unsettled : goal.returns-in_err-setup-clause-unsettled
 returns-in_err-setup-clause-unsettled g c =
-    let residual = c.from_residual-in_err-setup in
+    let residual = c.from_residual in
     let exit = err_from_is_err_and residual.result residual.ensures.1 in
-    rw (exit.1, exit.2) (unsplit_named _ (g.R.Read.remaining c.args.reader.now) _ c.in_err-setup.ensures.fault)
+    rw (exit.1, exit.2) (unsplit_named {T = Unit {0}} (λ session left. ⊥) (g.R.Read.remaining c.args.reader.now) _ c.in_err-setup.ensures.fault)
 
 pub returns-in_err-closed-clause-fault : goal.returns-in_err-closed-clause-fault
 returns-in_err-closed-clause-fault g c =
@@ -83,7 +83,7 @@ pub returns-in_err-print_closed-clause-unsettled : goal.returns-in_err-print_clo
 returns-in_err-print_closed-clause-unsettled g c =
     let residual = c.from_residual-in_err-print_closed in
     let exit = err_from_is_err_and residual.result residual.ensures.1 in
-    rw (exit.1, exit.2) (unwritten_named _ _ c.in_err-print_closed.ensures.fault)
+    rw (exit.1, exit.2) (unwritten_named {T = Unit {0}} (λ session left. ⊥) _ c.in_err-print_closed.ensures.fault)
 
 pub returns-in_err-print_closed-clause-unwritten : goal.returns-in_err-print_closed-clause-unwritten
 returns-in_err-print_closed-clause-unwritten g c =
