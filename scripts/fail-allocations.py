@@ -11,9 +11,8 @@ once to see what each word prints and how many allocations it takes with ample m
 each case the script asks
 
 - that the run ends with status 0, alike on the interpreter and compiled (on threads compiled alone);
-- of `run`, that it prints what it prints with ample memory, or that a Read is refused NoMemory, left out of the
-  report and nothing else is, or that it ends in `no memory`, `script line N: Memory`
-  or `format Memory`;
+- of `run`, that it prints what it prints with ample memory, or that a Read is refused NoMemory, counted in the report as
+  one without entry, and nothing else is, or that it ends in `no memory`, `script line N: Memory` or `format Memory`;
 - of `threads` and `serve` the same, also of a List and with `serve Thread`; what the cleaner did is not compared,
   since it depends on who is first, and a ring may be lost;
 - of each other word, that the lines are those with ample memory, but that at most one is the named refusal of what
@@ -23,7 +22,7 @@ each case the script asks
 
 A word is done where each of its allocations failed once, and so did three more, which it doesn't make. On threads
 those are tried that are made near to where the threads begin; there, which allocation is the Nth changes from run
-to run. The status is 1 where a case is another, or no allocation of a word was refused.
+to run, and `refuse-growths.py` tries all. The status is 1 where a case is another, or no allocation of a word was refused.
 """
 import argparse
 import os
@@ -243,12 +242,15 @@ def is_refused_once(word, lines, ample):
 
 
 def without_shown(lines, ample):
-    """The ample lines of a run, with that line refused NoMemory that is so in these, and the report without it."""
+    """The ample lines of a run, with that line refused NoMemory that is so in these, and in the report no entry of it."""
     for place, line in enumerate(ample[:len(lines)]):
         shown = SHOWN.match(line)
         if shown and lines[place] == shown.group(1) + " refused NoMemory":
             changed = list(ample)
             changed[place] = lines[place]
+            if any(line.startswith("entries ") for line in changed):
+                # The report ends before the line that tells how the run ended.
+                changed.insert(-1, "unentered NoMemory 1")
             return [less_one(line) if line.startswith(("entries ", "served ")) else line for line in changed]
     return None
 

@@ -12,7 +12,7 @@ use Rattle.lfs_script.specs.Plans.{plan_of}
 use Rattle.lfs_script.specs.declared.fault.ScriptFault.{ScriptFault}
 use Rattle.lfs_audit.specs.Faults.{HasPlan, IsFaultOf, IsRead, IsReadingFault, MayHaveWritten}
 use Rattle.lfs_audit.specs.Scripts.{IsScriptFault}
-use Rattle.lfs_audit.specs.Threads.{HasSessions, IsSplit, IsThreadsFault}
+use Rattle.lfs_audit.specs.Threads.{HasSessions, IsSplit, IsSplittingFault, IsThreadsFault}
 use Rattle.lfs_audit.specs.Threads.{MayHaveWrittenThreads}
 use Rattle.lfs_audit.specs.declared.fault.RunFault.{RunFault}
 use Rattle.lfs_audit.specs.declared.fault.RunFault.TheVariants.{Read, TooLong, Script, Format, Memory, Write}
@@ -120,8 +120,20 @@ late_script_faults known segments inodes frames result plan ranges p =
 
 -- ---- a run on threads
 
+-- the fault of a script that may not be split
+pub split_cause : (known : Option (List ℕ)) (segments inodes frames : ℕ) (fault : ThreadsFault)
+    → IsSplittingFault known fault → IsThreadsFault known segments inodes frames fault
+split_cause known segments inodes frames (threads.Run Read) cause = cause
+split_cause known segments inodes frames (threads.Run TooLong) cause = cause
+split_cause known segments inodes frames (threads.Run (Script fault)) cause = cause
+split_cause known segments inodes frames (threads.Run (Format fault)) cause = cause
+split_cause known segments inodes frames (threads.Run Memory) cause = cause
+split_cause known segments inodes frames (threads.Run Write) cause = absurd cause
+split_cause known segments inodes frames threads.CleanerLine cause = cause
+split_cause known segments inodes frames (threads.Serve fault) cause = absurd cause
+
 -- a script that was split has so many sessions
-has_sessions : (script : List ℕ) (setup : List (Caller × Request)) (scripts : List (List (Caller × Request)))
+pub has_sessions : (script : List ℕ) (setup : List (Caller × Request)) (scripts : List (List (Caller × Request)))
     → IsSplit script setup scripts → HasSessions script (length scripts)
 has_sessions script setup scripts is = record { plan = is.plan; read = is.read; users = is.users; count = is.count }
 
@@ -152,14 +164,3 @@ late_threads_fault known segments inodes frames sessions setup scripts threads.C
     absurd p
 late_threads_fault known segments inodes frames sessions setup scripts
     (threads.Serve fault) split count served ranges p = absurd p
-
--- a fault once something may have been written is one of the run
-pub late_threads_faults : {A : Type 0} (known : Option (List ℕ)) (segments inodes frames sessions : ℕ)
-    (setup : List (Caller × Request)) (scripts : List (List (Caller × Request))) (result : Result A ThreadsFault)
-    → IfSome known (λ script. IsSplit script setup scripts) → sessions ≡ length scripts → (0 < sessions)
-    × (sessions ≤ 8) → IsInRange segments inodes frames
-    → IfErr result MayHaveWrittenThreads → IfErr result (IsThreadsFault known segments inodes frames)
-late_threads_faults known segments inodes frames sessions setup scripts result split count served ranges p =
-    if_err result MayHaveWrittenThreads (IsThreadsFault known segments inodes frames) p
-    (λ fault may. late_threads_fault known segments inodes frames sessions setup scripts fault split count served ranges
-    may)

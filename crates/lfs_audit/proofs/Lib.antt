@@ -4,3 +4,4 @@ pub mod ThreadLemmas
 pub mod ScriptLemmas
 pub mod ShiftLemmas
 pub mod FiledLemmas
+pub mod UndoneLemmas

@@ -247,17 +247,6 @@ threads_run known shape segments inodes journal limit after_limit setup sessions
       closed,
     ))
 
--- what follows from what a run left follows where the result is Ok
-pub ok_further : {A E : Type 0} (P Q : Type 0) (result : Result A E) → OnOk result P → (P → Q) → OnOk result Q
-ok_further P Q (Ok a) p further = further p
-ok_further P Q (Err fault) p further = tt
-
--- a fault once something may have been written says nothing of what was
-pub late_threads : {A : Type 0} (X : Type 0) (result : Result A ThreadsFault) → IfErr result MayHaveWrittenThreads
-    → IfErr result (λ fault. (MayHaveWrittenThreads fault → ⊥) → X)
-late_threads X (Ok a) p = tt
-late_threads X (Err fault) p = λ not. absurd (not p)
-
 -- a run on threads was settled: its text, and the entries of its journal
 pub filed_threads : (known : Option (List ℕ)) (shape : Shape) (segments inodes : ℕ) (journal : List Entry)
     (limit after_limit : ℕ) (setup : List (Caller × Request)) (sessions : List (List (Caller × Request)))

@@ -5,3 +5,4 @@ pub mod Threads
 pub mod Scripts
 pub mod Filing
 pub mod FiledRuns
+pub mod Undone

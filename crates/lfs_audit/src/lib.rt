@@ -6,6 +6,7 @@ pub mod filing;
 pub mod passing;
 pub mod run;
 pub mod threads;
+pub mod undone;
 
 pub use lfs_io::tell;
 pub use lfs_print::{print, report};

@@ -9,11 +9,14 @@ ghost use Rattle.lfs_audit.specs.Faults.{MayHaveWritten};
 ghost use Rattle.lfs_audit.specs.FiledRuns.{IsFiledThreads};
 ghost use Rattle.lfs_audit.specs.Filing.{Takes};
 ghost use Rattle.lfs_audit.specs.Threads.{IsClosedText, IsSplit, IsSplittingFault, IsThreadsFault, IsThreadsOutput, MayHaveWrittenThreads, answers_of, transcript_text, transcripts_text};
+ghost use Rattle.lfs_audit.specs.Undone.{IsUnsettledRun, IsUnsettledScript, NamesUndone, why};
 ghost use Rattle.lfs_sinks.specs.Refusals.{refusals_of};
 
 use crate::fault::{RunFault, ThreadsFault};
 use crate::run::{print_report, read_plan};
+use crate::undone::Undone;
 use lfs_io::output::write_full;
+use lfs_logstore::LogStore;
 use lfs_model::journal::Entry;
 use lfs_print::print::append_answer;
 use lfs_server::serve::serve;
@@ -31,14 +34,14 @@ use std::thread::Threads;
 
 /// Reads a script whole, parses it whole, runs the calls of session 0 and then those of the other sessions on threads, with
 /// the cleaner beside them, on a fresh volume over the log store, and writes the setup's answers, each session's in turn,
-/// and the report.
+/// and the report. Sessions that are not settled are handed out with what they left.
 pub fn run_threads<S, R, W>(
     rt: &S,
     alloc: Global,
     reader: &mut R,
     writer: &mut W,
     params: Params,
-) -> Result<(), ThreadsFault>
+) -> Result<(), Undone<Closed<LogStore>>>
 where
     S: Threads + Wait + Sync,
     R: Read,
@@ -46,18 +49,23 @@ where
     ensures written { OnOk result (IfSome (R.remaining reader.old) (λ script. (text : List ℕ)
         × IsThreadsOutput script params.segments params.inodes params.journal text
         × Appends (W.contents writer.old) (W.contents writer.new) text)) }
-    ensures fault { IfErr result
-        (IsThreadsFault (R.remaining reader.old) params.segments params.inodes params.frames) }
-    ensures unwritten { IfErr result (λ fault. (MayHaveWrittenThreads fault → ⊥)
+    ensures fault { IfErr result (λ undone. IsThreadsFault (R.remaining reader.old)
+        params.segments params.inodes params.frames (why undone)) }
+    ensures unsettled { IfErr result (NamesUndone (λ session closed. IsUnsettledScript
+        (R.remaining reader.old) params.segments params.inodes params.journal
+        closed.volume closed.setup.items closed.transcripts.items session)) }
+    ensures unwritten { IfErr result (λ undone. (MayHaveWrittenThreads (why undone) → ⊥)
         → Keeps (W.contents writer.old) (W.contents writer.new)) }
 {
     let (setup, sessions) = read_sessions(alloc, reader)?;
     let closed = serve(rt, alloc, params, setup, sessions, &())?;
-    print_closed(alloc, &closed, writer)
+    print_closed(alloc, &closed, writer)?;
+    Ok(())
 }
 
 /// Runs the calls of session 0 and then those of the other sessions on threads, as `run_threads` does, gives a sink all
-/// entries, and then writes what that does. Why the sink didn't take all, if it didn't.
+/// entries, and then writes what that does. Why the sink didn't take all, if it didn't. Sessions that are not settled are
+/// handed out with what they left.
 pub fn run_sessions<S, J, W>(
     rt: &S,
     alloc: Global,
@@ -65,7 +73,7 @@ pub fn run_sessions<S, J, W>(
     sessions: (Script, Vec<Script>),
     sink: &mut J,
     writer: &mut W,
-) -> Result<Option<SinkFault>, ThreadsFault>
+) -> Result<Option<SinkFault>, Undone<Closed<LogStore>>>
 where
     S: Threads + Wait + Sync,
     J: JournalSink,
@@ -76,10 +84,13 @@ where
         IsFiledThreads script params.segments params.inodes params.journal entries text))
         × Appends (W.contents writer.old) (W.contents writer.new) text
         × (lost ≡ None → Takes J.contents J.next sink.old sink.new entries)) }
-    ensures fault { IfErr result (λ fault. (known : Option (List ℕ))
+    ensures fault { IfErr result (λ undone. (known : Option (List ℕ))
         → IfSome known (λ script. IsSplit script sessions.0 sessions.1.items)
-        → IsThreadsFault known params.segments params.inodes params.frames fault) }
-    ensures unwritten { IfErr result (λ fault. (MayHaveWrittenThreads fault → ⊥)
+        → IsThreadsFault known params.segments params.inodes params.frames (why undone)) }
+    ensures unsettled { IfErr result (NamesUndone (λ session closed. IsUnsettledRun
+        sessions.0 sessions.1.items params.segments params.inodes params.journal
+        closed.volume closed.setup.items closed.transcripts.items session)) }
+    ensures unwritten { IfErr result (λ undone. (MayHaveWrittenThreads (why undone) → ⊥)
         → Keeps (W.contents writer.old) (W.contents writer.new)) }
 {
     let (setup, scripts) = sessions;

@@ -20,7 +20,7 @@ use Rattle.lfs_audit.specs.Faults.{IsRead, MayHaveWritten}
 use Rattle.lfs_audit.specs.FiledRuns.{IsFiledOutput, IsFiledRun, IsFiledThreads}
 use Rattle.lfs_audit.specs.Filing.{Filed, IsBegun, Takes}
 use Rattle.lfs_audit.specs.Scripts.{IsScriptFault, log_cleaner}
-use Rattle.lfs_audit.specs.Threads.{IsSplittingFault, IsThreadsFault, MayHaveWrittenThreads}
+use Rattle.lfs_audit.specs.Threads.{IsThreadsFault, MayHaveWrittenThreads}
 use Rattle.lfs_audit.specs.declared.fault.RunFault.{RunFault}
 use Rattle.lfs_audit.specs.declared.fault.RunFault.TheVariants as run
 use Rattle.lfs_audit.specs.declared.fault.ThreadsFault.{ThreadsFault}
@@ -178,15 +178,3 @@ pub broken_together : {F W : Type 0} (contents : F → Option (List ℕ)) (optio
     → IsBroken contents options known start out out_before out_after (Run fault)
 broken_together contents options known start out out_before out_after fault both cause unwritten =
     (record { alone = λ alone. absurd (apart options.threads both alone); together = λ _. cause }, unwritten)
-
--- the fault of a script that may not be split
-pub split_cause : (known : Option (List ℕ)) (segments inodes frames : ℕ) (fault : ThreadsFault)
-    → IsSplittingFault known fault → IsThreadsFault known segments inodes frames fault
-split_cause known segments inodes frames (threads.Run run.Read) cause = cause
-split_cause known segments inodes frames (threads.Run run.TooLong) cause = cause
-split_cause known segments inodes frames (threads.Run (run.Script fault)) cause = cause
-split_cause known segments inodes frames (threads.Run (run.Format fault)) cause = cause
-split_cause known segments inodes frames (threads.Run run.Memory) cause = cause
-split_cause known segments inodes frames (threads.Run run.Write) cause = absurd cause
-split_cause known segments inodes frames threads.CleanerLine cause = cause
-split_cause known segments inodes frames (threads.Serve fault) cause = absurd cause

@@ -1,6 +1,7 @@
 //! Why a program doesn't begin, and why `lfs_shell` ends with status 1.
 
 use lfs_audit::fault::{RunFault, ThreadsFault};
+use lfs_audit::undone::Undone;
 use lfs_checking::fault::KeepFault;
 use lfs_types::fault::FormatFault;
 use std::io::ErrorKind;
@@ -92,6 +93,18 @@ impl From<ThreadsFault> for ServerFault {
 
     fn from(fault: ThreadsFault) -> ServerFault {
         ServerFault::Run(fault)
+    }
+}
+
+impl<T: Drop> From<Undone<T>> for ServerFault {
+    ghost use Rattle.std.specs.Prelude.{◌≡◌};
+    ghost use Rattle.lfs_audit.specs.Undone.{why};
+    ghost use Rattle.lfs_programs.specs.declared.fault.ServerFault.TheVariants.{Run};
+
+    ghost from_gives = { λ undone server. server ≡ Run (why undone) };
+
+    fn from(undone: Undone<T>) -> ServerFault {
+        ServerFault::Run(undone.fault())
     }
 }
 

@@ -233,7 +233,10 @@ where
         → Keeps (W.contents stdout.old) (W.contents stdout.new)) }
 {
     if options.threads {
-        run_threads(rt, alloc, reader, stdout, options.params)
+        match run_threads(rt, alloc, reader, stdout, options.params) {
+            Ok(()) => Ok(()),
+            Err(undone) => Err(undone.fault()),
+        }
     } else {
         run_alone(alloc, options.params, reader, stdout)
     }

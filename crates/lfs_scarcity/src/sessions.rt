@@ -47,7 +47,10 @@ where
         let _ = writer.write(b"no writer\n");
         return;
     };
-    let outcome = run_threads(rt, alloc, reader, &mut written, PARAMS);
+    let outcome = match run_threads(rt, alloc, reader, &mut written, PARAMS) {
+        Ok(()) => Ok(()),
+        Err(undone) => Err(undone.fault()),
+    };
     let _ = writer.write_all(written.as_slice());
     tell_end(writer, outcome);
 }

@@ -78,7 +78,10 @@ where
     let mut script = fs::open(rt, file.as_str())?;
     let mut written = Vec::new(alloc);
     if options.threads {
-        run_threads(rt, alloc, &mut script, &mut written, options.params)?;
+        match run_threads(rt, alloc, &mut script, &mut written, options.params) {
+            Ok(()) => {}
+            Err(undone) => return Err(anyhow::Error::from(undone.fault())),
+        }
     } else {
         run_script(alloc, &mut script, &mut written, options.params)?;
     }

@@ -10,6 +10,7 @@ use Rattle.lfs_audit.specs.Filing.{Takes}
 use Rattle.lfs_audit.specs.Threads.{closed_text}
 use Rattle.lfs_audit.proofs.FaultLemmas.{late_threads_fault}
 use Rattle.lfs_audit.proofs.ThreadLemmas.{filed_threads, transcripts_few}
+use Rattle.lfs_audit.proofs.UndoneLemmas.{unserved_fault, unserved_named, unwritten_named}
 use Rattle.lfs_audit.proofs.threads.run_sessions.Goals as goal
 
 pub print_closed-requires : goal.print_closed-requires
@@ -32,6 +33,32 @@ returns-in_err-print_closed-clause-fault g c =
     (λ known split. late_threads_fault known p.segments p.inodes p.frames (vec_len scripts) c.args.sessions.0
     scripts.items c.in_err-print_closed.field-0.0 split count c.in_ok-closed.ensures.sessions
     c.in_ok-closed.ensures.ranges c.in_err-print_closed.ensures.fault)
+
+pub returns-in_err-closed-clause-fault : goal.returns-in_err-closed-clause-fault
+returns-in_err-closed-clause-fault g c =
+    let residual = c.from_residual in
+    let exit = err_from_is_err_and residual.result residual.ensures.1 in
+    let p = c.args.params in
+    let scripts = c.args.sessions.1 in
+    let count : vec_len scripts ≡ length scripts.items = omega (arith, scripts.ok.0) in
+    rw (exit.1, exit.2) (λ known split. unserved_fault known p.segments p.inodes p.frames (vec_len scripts)
+    c.args.sessions.0 scripts.items c.in_err-closed.field-0.0 split count c.in_err-closed.ensures.fault)
+
+pub returns-in_err-closed-clause-unsettled : goal.returns-in_err-closed-clause-unsettled
+returns-in_err-closed-clause-unsettled g c =
+    let residual = c.from_residual in
+    let exit = err_from_is_err_and residual.result residual.ensures.1 in
+    let p = c.args.params in
+    let served = c.in_err-closed.ensures in
+    rw (exit.1, exit.2) (unserved_named (λ closed. closed.volume) (λ closed. closed.setup.items)
+    (λ closed. closed.transcripts) c.args.sessions.0 c.args.sessions.1 p.segments p.inodes p.journal
+    c.in_err-closed.field-0.0 served.unsettled served.count served.limit served.shape served.legal)
+
+pub returns-in_err-print_closed-clause-unsettled : goal.returns-in_err-print_closed-clause-unsettled
+returns-in_err-print_closed-clause-unsettled g c =
+    let residual = c.from_residual-in_err-print_closed in
+    let exit = err_from_is_err_and residual.result residual.ensures.1 in
+    rw (exit.1, exit.2) (unwritten_named {T = Unit {0}} (λ session left. ⊥) _ c.in_err-print_closed.ensures.fault)
 
 pub returns-in_err-print_closed-clause-unwritten : goal.returns-in_err-print_closed-clause-unwritten
 returns-in_err-print_closed-clause-unwritten g c =

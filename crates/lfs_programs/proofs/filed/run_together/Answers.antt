@@ -1,6 +1,7 @@
 use Rattle.std.proofs.Common.{Some, false, true, refl}
 use Rattle.std.proofs.lemmas.Result.{err_from_is_err_and}
-use Rattle.lfs_programs.proofs.FiledLemmas.{broken_together, filed_together, split_cause}
+use Rattle.lfs_audit.proofs.FaultLemmas.{split_cause}
+use Rattle.lfs_programs.proofs.FiledLemmas.{broken_together, filed_together}
 use Rattle.lfs_programs.proofs.ServerLemmas.{keeps_same}
 use Rattle.lfs_programs.proofs.filed.run_together.Goals as goal
 

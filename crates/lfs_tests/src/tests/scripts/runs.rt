@@ -14,6 +14,7 @@ use fakes::Shut;
 use lfs_audit::fault::{RunFault, ThreadsFault};
 use lfs_audit::run::run_script;
 use lfs_audit::threads::run_threads;
+use lfs_audit::undone::Undone;
 use lfs_types::store::Params;
 use std::alloc::Global;
 use std::io::{Read, Write};
@@ -68,7 +69,7 @@ where
     R: Read,
     W: Write,
 {
-    let found = run_threads(rt, alloc, reader, writer, PARAMS);
+    let found = fault_of(run_threads(rt, alloc, reader, writer, PARAMS));
     expect_eq(rt, found, end);
 }
 
@@ -85,9 +86,17 @@ where
     R: Read,
 {
     let mut writer = Shut { is_asked: false };
-    let found = run_threads(rt, alloc, reader, &mut writer, params);
+    let found = fault_of(run_threads(rt, alloc, reader, &mut writer, params));
     expect_eq(rt, found, Err(fault));
     expect_eq(rt, writer.is_asked, false);
+}
+
+/// How a run on threads ends, without what it left.
+fn fault_of<T: Drop>(found: Result<(), Undone<T>>) -> Result<(), ThreadsFault> {
+    match found {
+        Ok(()) => Ok(()),
+        Err(undone) => Err(undone.fault()),
+    }
 }
 
 /// How many writes a writer takes, whether it flushes, and whether a run of `LONG_READS` over it is done.
