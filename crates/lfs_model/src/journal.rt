@@ -83,7 +83,10 @@ impl Entry {
     /// Whether it is the entry of this user's call with this answer.
     pub fn is_call(&self, session: u8, cred: &Cred, request: &Request, answer: &Answer) -> bool
         ensures { IsTrue result ↔ (self.now ≡ record {
-            session = session; cred = cred.now; event = Event.User request.now answer.now }) }
+          session = session;
+          cred = cred.now;
+          event = Event.User request.now answer.now;
+        }) }
     {
         if self.session != session || self.cred != *cred {
             return false;
