@@ -217,7 +217,7 @@ pub decoded : (bytes plain : List ℕ) (s : SerialSummary) → length bytes ≡ 
     → IsSummaryBlock plain s.summary → s.serial ≡ word_at bytes 12 → IsSerialBlock bytes s
 decoded bytes plain s long is found serial =
     serial_spelled (without_serial bytes) bytes s
-        (same_back bytes (without_serial bytes) (without_serial-same bytes long))
+    (same_back bytes (without_serial bytes) (without_serial-same bytes long))
     (subst (λ (xs : List ℕ). IsSummaryBlock xs s.summary) is found) (sym serial)
 
 pub decoded_only : (bytes plain : List ℕ) (s t : SerialSummary) → length bytes ≡ 512 → plain ≡ without_serial bytes

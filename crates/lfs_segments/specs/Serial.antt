@@ -42,10 +42,10 @@ unfoldable pub told_in : List ℕ → Option Told
 told_in bytes =
     if word_at bytes 12 == 0 then None
     else option_map
-        (λ entries. record {
-          serial = word_at bytes 12;
-          segment = word_at bytes 4;
-          offset = half_at bytes 8;
-          entries = entries;
-        })
-        (summary_entries (without_serial bytes))
+    (λ entries. record {
+      serial = word_at bytes 12;
+      segment = word_at bytes 4;
+      offset = half_at bytes 8;
+      entries = entries;
+    })
+    (summary_entries (without_serial bytes))
