@@ -78,10 +78,11 @@ where
     let mut script = fs::open(rt, file.as_str())?;
     let mut written = Vec::new(alloc);
     if options.threads {
-        match run_threads(rt, alloc, &mut script, &mut written, options.params) {
-            Ok(()) => {}
-            Err(undone) => return Err(anyhow::Error::from(undone.fault())),
-        }
+        let ended = match run_threads(rt, alloc, &mut script, &mut written, options.params) {
+            Ok(()) => Ok(()),
+            Err(undone) => Err(undone.fault()),
+        };
+        ended?;
     } else {
         run_script(alloc, &mut script, &mut written, options.params)?;
     }
