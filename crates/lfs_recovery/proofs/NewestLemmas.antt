@@ -2,7 +2,7 @@
 -- of a block more (`places_in`). What is newest is one of the records (`newest-there`), and no record of its number has
 -- a higher serial (`newest-last`). With `<` taken for `≤` in `newer` all still holds but which of two records of one
 -- partial segment is taken.
-use Rattle.std.proofs.Common.{◌≡◌, ◌≢◌, ℕ, zero, suc, ◌+◌, ◌<◌, ◌≤◌, Bool, true, false, ◌==◌, nat_lt, List, [], ◌∷◌}
+use Rattle.std.proofs.Common.{◌≡◌, ◌≢◌, ℕ, zero, suc, ◌+◌, ◌<◌, ◌≤◌, true, false, ◌==◌, nat_lt, List, [], ◌∷◌}
 use Rattle.std.proofs.Common.{◌++◌, Option, Some, None}
 use Rattle.std.proofs.Common.{if◌then◌else◌, append_assoc, option_map, length, get_or, set, replicate, refl, sym, ap}
 use Rattle.std.proofs.Common.{subst, ◌∙◌, ◌⊎◌, inl, inr, ⊎_elim, arith}

@@ -15,8 +15,7 @@ use Rattle.lfs_segments.specs.Memory.{SegmentMemory, block_at}
 use Rattle.lfs_segments.specs.Reading.{named_by}
 use Rattle.lfs_segments.specs.Serial.{Told, told_in}
 use Rattle.lfs_segments.proofs.TestLemmas.{both}
-use Rattle.lfs_recovery.specs.declared.places.PartialSegment.{PartialSegment}
-use Rattle.lfs_recovery.specs.Whole.{IsWhole, ends_in_inodes, has_record, is_inodes, is_next, is_there, told_if}
+use Rattle.lfs_recovery.specs.Whole.{IsWhole, ends_in_inodes, has_record, is_next, is_there, told_if}
 use Rattle.lfs_recovery.specs.Whole.{whole_at}
 
 pub length-named : (s : Summary) → length (named_by s) ≡ s.count

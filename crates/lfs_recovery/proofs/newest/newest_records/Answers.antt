@@ -1,9 +1,9 @@
-use Rattle.std.proofs.Common.{◌≡◌, ◌++◌, ◌+◌, ◌<◌, ◌*◌, ℕ, List, [], None, Option, refl, sym, ap, subst, ◌∙◌, arith}
+use Rattle.std.proofs.Common.{◌≡◌, ◌+◌, ℕ, List, [], Option, sym, ap, subst, ◌∙◌, arith}
 use Rattle.std.proofs.lemmas.Grind.{common_steps}
 use Rattle.lfs_segments.specs.Memory.{SegmentMemory}
 use Rattle.lfs_recovery.specs.declared.places.RecordPlace.{RecordPlace}
-use Rattle.lfs_recovery.specs.Course.{Course, course, end_of, entered, step}
-use Rattle.lfs_recovery.specs.Newest.{IsNewestOf, IsTable, newest, records, records_at}
+use Rattle.lfs_recovery.specs.Course.{course, end_of, entered, step}
+use Rattle.lfs_recovery.specs.Newest.{IsNewestOf, IsTable, records}
 use Rattle.lfs_recovery.proofs.CourseLemmas.{course-next, course-start}
 use Rattle.lfs_recovery.proofs.NewestLemmas.{IsTable-none, newest-last, newest-there, records-next}
 use Rattle.lfs_recovery.proofs.newest.newest_records.Goals as goal

@@ -1,4 +1,4 @@
-use Rattle.std.proofs.Common.{[], append-nil, sym, ap, subst, ◌++◌, List}
+use Rattle.std.proofs.Common.{append-nil, sym, subst, ◌++◌, List}
 use Rattle.lfs_recovery.specs.declared.places.RecordPlace.{RecordPlace}
 use Rattle.lfs_recovery.specs.Newest.{IsTable}
 use Rattle.lfs_recovery.proofs.NewestLemmas.{records_at-none, records_at-some}

@@ -1,6 +1,6 @@
-use Rattle.std.proofs.Common.{◌≡◌, ◌++◌, ◌+◌, suc, All, List, refl, sym, ap, subst, ◌∙◌, arith}
+use Rattle.std.proofs.Common.{◌≡◌, ◌+◌, All, List, sym, ap, subst, ◌∙◌}
 use Rattle.lfs_recovery.specs.declared.places.PartialSegment.{PartialSegment}
-use Rattle.lfs_recovery.specs.Course.{Course, begun, course, end_of, entered, listed, partials, step}
+use Rattle.lfs_recovery.specs.Course.{begun, course, entered, partials, step}
 use Rattle.lfs_recovery.specs.Whole.{IsWhole}
 use Rattle.lfs_recovery.proofs.CourseLemmas.{course-next, course-start, partials-next, whole-partials}
 use Rattle.lfs_recovery.proofs.partials.partial_segments.Goals as goal

@@ -1,4 +1,4 @@
-use Rattle.std.proofs.Common.{sym, ap, ◌∙◌, arith}
+use Rattle.std.proofs.Common.{sym, ap, ◌∙◌}
 use Rattle.lfs_recovery.specs.Course.{at_inodes}
 use Rattle.lfs_recovery.proofs.CourseLemmas.{at_inodes-ended, at_inodes-here, at_inodes-past, held}
 use Rattle.lfs_recovery.proofs.reader.Reader.at_inodes.Goals as goal
