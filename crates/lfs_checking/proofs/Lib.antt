@@ -1,2 +1,4 @@
 pub mod ReadLemmas
+pub mod SettledLemmas
+pub mod StandingLemmas
 pub mod VolumeLemmas

@@ -8,6 +8,7 @@ pub mod options;
 pub mod program;
 pub mod reading;
 pub mod saving;
+pub mod standing;
 #[cfg(test)]
 mod tests;
 pub mod verdict;

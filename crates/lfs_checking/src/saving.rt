@@ -36,7 +36,7 @@ pub fn save_volume<W: Write>(
 }
 
 /// The image of a store and a securelevel.
-fn image_of(alloc: Global, store: &LogStore, level: Level) -> Result<Vec<u8>, AllocError>
+pub(crate) fn image_of(alloc: Global, store: &LogStore, level: Level) -> Result<Vec<u8>, AllocError>
     ensures { IfOk result (λ image. image.items ≡ image_bytes store.now.log level) }
 {
     let mut image = Vec::new(alloc);
