@@ -29,10 +29,10 @@ class Talk:
     def __init__(self):
         self.messages, self.replies, self.unique = b"", b"", 0
         self.times = {2: [(0, 0)] * 3}  # of each inode: seconds and nanoseconds of the access, the bytes and the change
-        self.slots = set()  # of files that are open to be read
+        self.slots = set()  # of files that are open
 
     def handle(self):
-        """The handle of a file that is opened to be read: twice the place of the first free slot, counted from 1."""
+        """The handle of a file that is opened: twice the place of the first free slot, counted from 1."""
         slot = next(it for it in range(1, 129) if it not in self.slots)
         self.slots.add(slot)
         return 2 * slot
@@ -107,8 +107,8 @@ def read_in(offset, size, handle=0):
     return struct.pack("<QQIIQII", handle, offset, size, 0, 0, 0, 0)
 
 
-def write_in(offset, data, flags=O_RDWR):
-    return struct.pack("<QQIIQII", 0, offset, len(data), 0, 0, flags, 0) + data
+def write_in(offset, data, flags=O_RDWR, handle=0):
+    return struct.pack("<QQIIQII", handle, offset, len(data), 0, 0, flags, 0) + data
 
 
 def written(count):
@@ -158,7 +158,9 @@ def files(talk):
     talk.say(LOOKUP, 2, b"a\0", 8, reply=entry(3, attr(5, REGULAR | 0o644, 7, 0, 5)))
     talk.say(WRITE, 3, write_in(0, b" all", O_WRONLY | O_APPEND), 7, reply=written(4), written=[5])
     talk.say(READ, 3, read_in(0, 100), 7, reply=b"hello all")
-    talk.say(OPEN, 3, struct.pack("<II", O_WRONLY | O_TRUNC, 0), 7, reply=opened(), written=[5])
+    cutting = talk.handle()
+    talk.say(OPEN, 3, struct.pack("<II", O_WRONLY | O_TRUNC, 0), 7, reply=opened(cutting), written=[5])
+    talk.release(3, cutting)
     talk.say(GETATTR, 3, bytes(16), 8, reply=attr_out(attr(5, REGULAR | 0o644, 7, 0)))
     # 64 segments of 64 blocks, of which the two directories take two; 61 numbers, of which three are in use
     talk.say(STATFS, ROOT, reply=struct.pack("<QQQQQ10I", 4096, 4094, 3966, 61, 58, 512, 255, 512, *[0] * 7))
@@ -271,17 +273,18 @@ def flags(talk):
 def closed(talk):
     """A file that is made without its owner's right to write is filled by who makes it, and closed by the kernel; a mode that
     is set while it is open stays."""
+    handle = talk.handle()
     talk.say(CREATE, 2, create_in(O_WRONLY, REGULAR | 0o444, b"ro"), 7,
-             reply=entry(6, attr(6, REGULAR | 0o644, 7, 0)) + opened(1), made=6, written=[4])
+             reply=entry(6, attr(6, REGULAR | 0o644, 7, 0)) + opened(handle + 1), made=6, written=[4])
     talk.say(WRITE, 6, write_in(0, b"ro"), 7, reply=written(2), written=[6])
     talk.say(WRITE, 6, write_in(0, b"no"), 8, error=errno.EACCES)
-    talk.say(RELEASE, 6, release_in(1), reply=b"")
+    talk.release(6, handle + 1)
     talk.say(GETATTR, 6, bytes(16), 8, reply=attr_out(attr(6, REGULAR | 0o444, 7, 0, 2)))
     talk.say(WRITE, 6, write_in(0, b"no"), 7, error=errno.EACCES)
     talk.say(CREATE, 2, create_in(O_WRONLY, REGULAR | 0o040, b"kept"), 7,
-             reply=entry(7, attr(7, REGULAR | 0o640, 7, 0)) + opened(1), made=7, written=[4])
+             reply=entry(7, attr(7, REGULAR | 0o640, 7, 0)) + opened(talk.handle() + 1), made=7, written=[4])
     talk.say(SETATTR, 7, setattr_in(1, mode=0o660), 7, reply=attr_out(attr(7, REGULAR | 0o660, 7, 0)), restated=[7])
-    talk.say(RELEASE, 7, release_in(1), reply=b"")
+    talk.release(7, handle + 1)
     talk.say(GETATTR, 7, bytes(16), 7, reply=attr_out(attr(7, REGULAR | 0o660, 7, 0)))
 
 
@@ -298,22 +301,62 @@ def run(talk):
 
 
 def removed(talk):
-    """A file that is removed as soon as it is made, as temporary files are: it is read, and not written."""
+    """A file that is removed as soon as it is made, as temporary files are: it is read and written by who has it open, and
+    another one that is removed stays as it was."""
     data = bytes(it * it % 251 for it in range(5000))
     handle = talk.handle()
     talk.say(CREATE, 2, create_in(O_RDWR, REGULAR | 0o600, b"temporary"), 7,
              reply=entry(8, attr(8, REGULAR | 0o600, 7, 0)) + opened(handle), made=8, written=[4])
     talk.say(WRITE, 8, write_in(0, data), 7, reply=written(5000), written=[8])
+    apart = talk.handle()
+    talk.say(CREATE, 2, create_in(O_RDWR, REGULAR | 0o600, b"apart"), 7,
+             reply=entry(9, attr(9, REGULAR | 0o600, 7, 0)) + opened(apart), made=9, written=[4])
+    reader, writer = talk.handle(), talk.handle()
+    talk.say(OPEN, 8, struct.pack("<II", O_RDONLY, 0), 7, reply=opened(reader))
+    talk.say(OPEN, 8, struct.pack("<II", O_WRONLY, 0), 7, reply=opened(writer))
     talk.say(RENAME, ROOT, struct.pack("<Q", 2) + b"pub\0temporary\0", 7, error=errno.EACCES)
     talk.say(READ, 8, read_in(4095, 2, handle), 7, reply=data[4095:4097])
+    talk.say(UNLINK, 2, b"apart\0", 7, reply=b"", written=[4])
     talk.say(UNLINK, 2, b"temporary\0", 7, reply=b"", written=[4])
     talk.say(READ, 8, read_in(0, 8192, handle), 7, reply=data)
     talk.say(READ, 8, read_in(4095, 2, handle), 7, reply=data[4095:4097])
     talk.say(READ, 5, read_in(0, 3, handle), 8, error=errno.EACCES)
     talk.say(GETATTR, 8, bytes(16), 7, reply=attr_out(attr(8, REGULAR | 0o600, 7, 0, 5000, links=0)))
-    talk.say(WRITE, 8, write_in(0, b"x"), 7, error=errno.ESTALE)
+    data = rewritten(talk, data, handle, reader, writer)
+    talk.say(READ, 9, read_in(0, 100, apart), 7, reply=b"")
+    talk.say(GETATTR, 9, bytes(16), 7, reply=attr_out(attr(9, REGULAR | 0o600, 7, 0, links=0)))
+    talk.release(9, apart)
     talk.release(8, handle)
-    talk.say(READ, 8, read_in(0, 8192, handle), 7, error=errno.ESTALE)
+    talk.say(WRITE, 8, write_in(0, b"x", handle=handle), 7, error=errno.ESTALE)
+    talk.say(READ, 8, read_in(0, 8192, reader), 7, reply=data)
+    talk.release(8, reader)
+    talk.say(READ, 8, read_in(0, 8192, reader), 7, error=errno.ESTALE)
+    talk.release(8, writer)
+
+
+def rewritten(talk, data, handle, reader, writer):
+    """Writes to a file that was removed, by who opened it for that, and what all who have it open read then."""
+    for other, user in ((reader, 7), (0, 7), (handle, 8), (handle, 0)):
+        talk.say(WRITE, 8, write_in(0, b"x", handle=other), user, error=errno.ESTALE)
+    talk.say(READ, 8, read_in(0, 8, writer), 7, error=errno.ESTALE)
+    talk.say(WRITE, 8, write_in(4998, b"more", handle=handle), 7, reply=written(4), written=[8])
+    talk.say(WRITE, 8, write_in(0, b"end", O_WRONLY | O_APPEND, writer), 7, reply=written(3), written=[8])
+    talk.say(WRITE, 8, write_in(0, b"", handle=handle), 7, reply=written(0))
+    talk.say(WRITE, 8, write_in(FILE_BYTES, b"x", handle=handle), 7, error=errno.EFBIG)
+    talk.say(WRITE, 8, write_in((1 << 64) - 1, b"xy", handle=handle), 7, error=errno.EFBIG)
+    data = data[:4998] + b"moreend"
+    talk.say(READ, 8, read_in(4990, 100, reader), 7, reply=data[4990:])
+    talk.say(GETATTR, 8, bytes(16), 7, reply=attr_out(attr(8, REGULAR | 0o600, 7, 0, 5005, links=0)))
+    talk.say(SETATTR, 8, setattr_in(1, mode=0o644), 7, error=errno.ESTALE)
+    talk.say(SETATTR, 8, setattr_in(8, size=3), 8, error=errno.ESTALE)
+    talk.say(SETATTR, 8, setattr_in(8, size=FILE_BYTES + 1), 7, error=errno.EFBIG)
+    talk.say(SETATTR, 8, setattr_in(8, size=3), 7, reply=attr_out(attr(8, REGULAR | 0o600, 7, 0, 3, links=0)), written=[8])
+    talk.say(WRITE, 8, write_in(6, b"gap", handle=handle), 7, reply=written(3), written=[8])
+    talk.say(FSYNC, 8, bytes(16), 7, reply=b"")
+    data = data[:3] + bytes(3) + b"gap"
+    for other in (handle, reader):
+        talk.say(READ, 8, read_in(0, 8192, other), 7, reply=data)
+    return data
 
 
 def rest(talk):

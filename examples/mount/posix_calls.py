@@ -490,8 +490,29 @@ def set_ids():
 
 def removed_while_open():
     """A file that is removed, replaced or moved while it is open."""
+    def size(file):
+        row = os.fstat(file)
+        return row.st_size, row.st_nlink, row.st_mtime_ns > 7
+
+    def through(file, path, *calls):
+        """Removes a file, and makes calls on it by another descriptor, with its flags; what is read by the first then."""
+        other = os.open(path, os.O_RDWR)
+        os.unlink(path)
+        done(*((call, other, *words) for call, *words in calls))
+        os.close(other)
+        return os.pread(file, 100, 0)
+
+    def temporary():
+        with tempfile.TemporaryFile(dir=".", buffering=0) as file:
+            file.write(b"abc" * 100000)
+            file.seek(3)
+            file.write(b"xyz")
+            file.truncate(200000)
+            file.seek(0)
+            return file.read(9), os.fstat(file.fileno()).st_size
+
     gone = "RULES, a mount: an open file that is removed"
-    kept = os.pread, os.fstat
+    kept = os.pread, os.fstat, os.pwrite, os.ftruncate
     for use, wanted in (((os.pread, 4, 0), b"0123"), ((os.pwrite, b"ab", 0), 2), ((os.ftruncate, 3), "ok"), ((os.fchmod, 0o600), "ok"),
                         ((os.fstat,), "ok")):
         for remove in ((os.unlink, "file"), (os.rename, "other", "file")):
@@ -502,6 +523,17 @@ def removed_while_open():
         yield check(OWNER, wanted, on, "file", "RDWR", (meanwhile, os.rename, "file", "moved"), use)
     make_tree("file")
     yield check(OWNER, b"abc", on, "file", "RDWR", (meanwhile, os.unlink, "file"), (meanwhile, fills, "file", 0o600), (meanwhile, reads, "file"))
+    remove, write = (meanwhile, os.unlink, "file"), (os.pwrite, b"abc", 8)
+    for flags, calls, wanted in (("RDWR", (remove, write, (os.pread, 20, 0)), b"01234567abc"), ("RDWR", (remove, write, (size,)), (11, 0, True)),
+                                 ("WRONLY", (remove, write, (size,)), (11, 0, True)), ("RDWR", (remove, write, (os.fsync,)), "ok"),
+                                 ("RDWR", (remove, (os.ftruncate, 4), (os.pwrite, b"x", 6), (os.pread, 20, 0)), b"0123\0\0x"),
+                                 ("RDWR|APPEND", (remove, (os.write, b"ab"), (os.pread, 20, 0)), b"0123456789ab"),
+                                 ("RDONLY", (remove, write), "EBADF"),
+                                 ("RDONLY", ((through, "file", (os.pwrite, b"ab", 0), (os.ftruncate, 5)),), b"ab234")):
+        make_tree("file")
+        yield check(OWNER, wanted, on, "file", flags, *calls)
+    make_tree("file")
+    yield check(OWNER, (b"abcxyzabc", 200000), temporary)
 
 
 def times():

@@ -230,7 +230,7 @@ module _ {F : Type 0} (state : F → StoreState) (is_settled : F → Type 0) (ca
   -- what is kept is told without a call
   kept_goes : (sizes : Sizes) (now : Time) (nodes : Parts) (node : ℕ) (message : Said) (reply : Told)
       (old new : Seen F) (before after : Beside) (o : Option Kept)
-      → OnKept o (IsToldKept message reply old new before after)
+      → OnKept o (IsToldKept now caller node message reply old new before after)
       (IsToldDated state is_settled sizes now caller nodes node message reply old new before after)
       → GoesOn state old new
   kept_goes sizes now nodes node message reply old new before after (Some kept) h =

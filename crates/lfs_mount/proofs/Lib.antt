@@ -1,6 +1,7 @@
 pub mod GoingLemmas
 pub mod HandledLemmas
 pub mod JudgedLemmas
+pub mod KeepingLemmas
 pub mod KeptLemmas
 pub mod LookedLemmas
 pub mod MakingLemmas

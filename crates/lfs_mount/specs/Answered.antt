@@ -20,9 +20,11 @@ use Rattle.lfs_fuse_calls.specs.declared.told.Told.TheVariants.{Error}
 use Rattle.lfs_stamps.specs.Change.{change_of, other_node}
 use Rattle.lfs_stamps.specs.Times.{dated, stamped}
 use Rattle.lfs_mount.specs.Handled.{IsTold, hangs_in}
+use Rattle.lfs_mount.specs.Keeping.{AreStillKept}
 use Rattle.lfs_mount.specs.Loans.{due, noted, with_handle}
 use Rattle.lfs_mount.specs.Opens.{AreLeft, ArePreparedFor, IsFree, IsLastLook, IsLeaving, IsLooked, OnKept, TellsKept}
 use Rattle.lfs_mount.specs.Opens.{kept_for, opened_on}
+use Rattle.lfs_mount.specs.Rewritten.{AreRewritten}
 use Rattle.lfs_mount.specs.declared.mount.Beside.{Beside}
 use Rattle.lfs_mount.specs.declared.mount.Sizes.{Sizes}
 use Rattle.lfs_mount.specs.declared.kept.Kept.{Kept}
@@ -68,19 +70,23 @@ pub record IsToldDated {F : Type 0} (state : F → StoreState) (is_settled : F �
   pub opens : AreLeft message node caller told left slot prepared after.opens.files.items
   pub shown : reply ≡ dated after.times.stamps.items (with_handle slot message told)
 
--- A message about a file that was removed while it was open: what is kept of that is told, and no call is made.
-pub record IsToldKept {F : Type 0} (message : Said) (reply : Told) (old new : Seen F)
-    (before after : Beside) (kept : Kept) : Type 0 where
-  pub tells : TellsKept message kept reply
+-- A message about a file that was removed while it was open: what is kept of that is told, or changes as the message
+-- says, and no call is made. All else beside the volume stays.
+pub record IsToldKept {F : Type 0} (now : Time) (caller : Caller) (node : ℕ) (message : Said)
+    (reply : Told) (old new : Seen F) (before after : Beside) (kept : Kept) : Type 0 where
+  pub tells : TellsKept now caller message kept reply
   pub none : new ≡ old
-  pub beside : after ≡ before
+  pub times : after.times ≡ before.times
+  pub loans : after.loans ≡ before.loans
+  pub opens : AreRewritten now caller node message reply before.opens.files.items
+      after.opens.files.items
 
 -- what comes of a message: what is kept that answers it, or its calls
 abbrev pub IsToldKeptOrDated : {F : Type 0} → (F → StoreState) → (F → Type 0) → Sizes → Time
     → Caller → Parts → ℕ → Said → Told → Seen F → Seen F → Beside → Beside → Type 0
 IsToldKeptOrDated state is_settled sizes now caller nodes node message reply old new before after =
     OnKept (kept_for nodes message before.opens.files.items node caller)
-    (IsToldKept message reply old new before after)
+    (IsToldKept now caller node message reply old new before after)
     (IsToldDated state is_settled sizes now caller nodes node message reply old new before after)
 
 -- what comes of a message, or of bytes that are none: those are EINVAL, and no call is made; and whether a reply is
@@ -101,7 +107,7 @@ replied true unique reply out = out ++ told_bytes unique reply
 replied false unique reply out = out
 
 -- One reply to the message of a header, with its own number, or none where none is wanted; its calls were made as the
--- header's caller, with the other groups of the process.
+-- header's caller, with the other groups of the process; and what is kept of removed files is kept still.
 pub record IsReplied {F : Type 0} (state : F → StoreState) (is_settled : F → Type 0) (sizes : Sizes)
     (now : Time)
     (nodes : Parts) (others : List ℕ) (header : Header) (message : Option Said)
@@ -111,6 +117,8 @@ pub record IsReplied {F : Type 0} (state : F → StoreState) (is_settled : F →
   pub wanted : Bool
   pub heard : IsHeard state is_settled sizes now
       (caller_of header others) nodes header.node message reply wanted old new before after
+  pub keeps : IfSome message (λ m. AreStillKept now (caller_of header others) nodes header.node m reply
+      before.opens.files.items after.opens.files.items)
   pub written : out_after ≡ replied wanted header.unique reply out_before
 
 -- What comes of bytes: of those without a header nothing, else one reply or none.

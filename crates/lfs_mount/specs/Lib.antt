@@ -1,9 +1,11 @@
 pub mod Answered
 pub mod Flags
 pub mod Handled
+pub mod Keeping
 pub mod Loans
 pub mod Making
 pub mod Opens
+pub mod Rewritten
 pub mod Room
 pub mod Runs
 pub mod Tending

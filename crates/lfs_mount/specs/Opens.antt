@@ -1,4 +1,4 @@
--- Files that are open to be read, and what is kept of those that were removed meanwhile.
+-- Files that are open, and what is kept of those that were removed meanwhile.
 use Rattle.std.specs.Prelude.{◌≡◌, ℕ, ◌+◌, ◌-◌, ◌*◌, ◌/◌, ◌%◌, ◌<◌, ◌==◌, ◌&&◌, min, if◌then◌else◌, Bool, true, false}
 use Rattle.std.specs.Prelude.{List, [], ◌∷◌, length, Option, None, Some, IfSome, option_map, slice_index_or, slice_set}
 use Rattle.lfs_types.specs.Caller.{Caller}
@@ -18,11 +18,13 @@ use Rattle.lfs_nodes.specs.declared.parts.Parts.{Parts}
 use Rattle.lfs_nodes.specs.Maps.{same_place}
 use Rattle.lfs_nodes.specs.Nodes.{known, place_at}
 use Rattle.lfs_nodes.specs.Reads.{hang_in, number_in}
+use Rattle.lfs_fuse_wire.specs.declared.attributes.Time.{Time}
+use Rattle.lfs_fuse_wire.specs.declared.flags.AccessMode.{AccessMode}
 use Rattle.lfs_fuse_wire.specs.declared.naming.RenameMode.{RenameMode}
 use Rattle.lfs_fuse_wire.specs.declared.naming.RenameMode.TheVariants as mode
-use Rattle.lfs_fuse_wire.specs.Said.{Said, create, getattr, opening, read, release, rename, unlink}
+use Rattle.lfs_fuse_wire.specs.Said.{Said, create, getattr, opening, read, release, rename, setattr, unlink, write}
 use Rattle.lfs_fuse_reply.specs.declared.attr.Attr.{Attr}
-use Rattle.lfs_fuse_calls.specs.Asked.{reads}
+use Rattle.lfs_fuse_calls.specs.Asked.{reads, writes}
 use Rattle.lfs_fuse_calls.specs.Attrs.{attr_of}
 use Rattle.lfs_fuse_calls.specs.Paths.{IsPathOf}
 use Rattle.lfs_fuse_calls.specs.Telling.{TellsBytes, or_else}
@@ -31,6 +33,7 @@ use Rattle.lfs_fuse_calls.specs.declared.told.Told.TheVariants as told
 use Rattle.lfs_stamps.specs.Times.{dated_attr}
 use Rattle.lfs_stamps.specs.declared.stamps.Stamps.{Stamps}
 use Rattle.lfs_mount.specs.Handled.{hangs_in}
+use Rattle.lfs_mount.specs.Rewritten.{TellsCut, TellsWritten, attr_behind, end_of, new_size, part_of}
 use Rattle.lfs_mount.specs.declared.kept.Kept.{Kept}
 use Rattle.lfs_mount.specs.declared.kept.OpenFile.{OpenFile}
 use Rattle.lfs_mount.specs.declared.kept.Sight.{Sight}
@@ -67,11 +70,35 @@ abbrev pub first_kept : List (Option OpenFile) → ℕ → Caller → Option Kep
 first_kept [] node caller = None
 first_kept (file ∷ files) node caller = or_else (kept_of file node caller) (first_kept files node caller)
 
--- a read names its handle; attributes are asked for by the node alone
+-- whether the file of a slot is open for this use
+abbrev pub is_open_to : (AccessMode → Bool) → Option OpenFile → Bool
+is_open_to uses None = false
+is_open_to uses (Some file) = uses file.access
+
+-- what is kept of a file that the same user opened on this node for this use
+abbrev pub kept_to : (AccessMode → Bool) → Option OpenFile → ℕ → Caller → Option Kept
+kept_to uses file node caller = if is_open_to uses file then kept_of file node caller else None
+
+-- what is kept of the first of those that is open to be written
+abbrev pub first_to_write : List (Option OpenFile) → ℕ → Caller → Option Kept
+first_to_write [] node caller = None
+first_to_write (file ∷ files) node caller =
+    or_else (kept_to writes file node caller) (first_to_write files node caller)
+
+abbrev pub where_some : Option ℕ → Option Kept → Option Kept
+where_some None kept = None
+where_some (Some size) kept = kept
+
+-- Reads and writes name their handle; attributes are asked for and set by the node alone, and nothing but the length
+-- can be set.
 abbrev pub kept_by : Said → List (Option OpenFile) → ℕ → Caller → Option Kept
 kept_by (read fields) files node caller =
-    kept_of (file_at_slot files (slot_of fields.handle)) node caller
+    kept_to reads (file_at_slot files (slot_of fields.handle)) node caller
+kept_by (write fields bytes) files node caller =
+    kept_to writes (file_at_slot files (slot_of fields.handle)) node caller
 kept_by (getattr fields) files node caller = first_kept files node caller
+kept_by (setattr fields) files node caller =
+    where_some (new_size fields) (first_to_write files node caller)
 kept_by message files node caller = None
 
 abbrev pub where_gone : Option Hang → Option Kept → Option Kept
@@ -83,11 +110,18 @@ abbrev pub kept_for : Parts → Said → List (Option OpenFile) → ℕ → Call
 kept_for nodes message files node caller =
     where_gone (hang_in (known nodes node)) (kept_by message files node caller)
 
--- the bytes that are asked for, at most 131,072, or want of memory; or the attributes
-abbrev pub TellsKept : Said → Kept → Told → Type 0
-TellsKept (read fields) kept reply =
+-- The bytes that are asked for, at most 131,072, or want of memory; how many were written, at most as many; the
+-- attributes, or those behind a change of the length. A write or a change of the length may be refused: where the file
+-- would be too large, or for want of room or memory.
+abbrev pub TellsKept : Time → Caller → Said → Kept → Told → Type 0
+TellsKept now caller (read fields) kept reply =
     TellsBytes (slice_of kept.bytes.items fields.offset (min fields.size 131072)) reply
-TellsKept message kept reply = reply ≡ told.Attr kept.attr
+TellsKept now caller (write fields bytes) kept reply =
+    TellsWritten (length (part_of bytes)) (end_of (write fields bytes) (length kept.bytes.items)) reply
+TellsKept now caller (setattr fields) kept reply =
+    let end = end_of (setattr fields) (length kept.bytes.items) in
+    TellsCut (attr_behind now caller end kept.attr) end reply
+TellsKept now caller message kept reply = reply ≡ told.Attr kept.attr
 
 abbrev pub OnKept : Option Kept → (Kept → Type 0) → Type 0 → Type 0
 OnKept (Some kept) Tells Goes = Tells kept
@@ -218,19 +252,19 @@ AreSettled None reply before after = after ≡ before
 AreSettled (Some node) told.Done before after = after ≡ before
 AreSettled (Some node) reply before after = AreUnkept node before after
 
--- the node of a file that was opened to be read
+-- the node of a file that was opened
 abbrev pub opened_on : Said → ℕ → Told → Option ℕ
-opened_on (create fields name) node (told.Create entry opened) =
-    if reads fields.flags.access then Some entry.node else None
-opened_on (opening fields) node (told.Open opened) = if reads fields.flags.access then Some node else None
+opened_on (create fields name) node (told.Create entry opened) = Some entry.node
+opened_on (opening fields) node (told.Open opened) = Some node
 opened_on message node reply = None
 
 -- a file that was opened has a slot, if one was free; nothing is kept of it yet
-abbrev pub opened_in : Option ℕ → Option ℕ → Caller → List (Option OpenFile) → List (Option OpenFile)
-opened_in None opened caller files = files
-opened_in (Some slot) None caller files = files
-opened_in (Some slot) (Some node) caller files =
-    slice_set files slot (Some (record { node = node; cred = caller; kept = None }))
+abbrev pub opened_in : Option ℕ → Option ℕ → AccessMode → Caller → List (Option OpenFile)
+    → List (Option OpenFile)
+opened_in None opened access caller files = files
+opened_in (Some slot) None access caller files = files
+opened_in (Some slot) (Some node) access caller files =
+    slice_set files slot (Some (record { node = node; cred = caller; access = access; kept = None }))
 
 -- a file that is closed has none, and with it goes what is kept
 abbrev pub closed_at : Option ℕ → List (Option OpenFile) → List (Option OpenFile)
@@ -243,7 +277,7 @@ abbrev pub AreLeft : Said → ℕ → Caller → Told → Option ℕ → Option 
 AreLeft (release fields) node caller reply left slot before after =
     after ≡ closed_at (slot_of fields.handle) before
 AreLeft (create fields name) node caller reply left slot before after =
-    after ≡ opened_in slot (opened_on (create fields name) node reply) caller before
+    after ≡ opened_in slot (opened_on (create fields name) node reply) fields.flags.access caller before
 AreLeft (opening fields) node caller reply left slot before after =
-    after ≡ opened_in slot (opened_on (opening fields) node reply) caller before
+    after ≡ opened_in slot (opened_on (opening fields) node reply) fields.flags.access caller before
 AreLeft message node caller reply left slot before after = AreSettled left reply before after

@@ -5,13 +5,14 @@ ghost use Rattle.lfs_types.specs.Stored.{slice_of};
 ghost use Rattle.lfs_fuse_calls.specs.Telling.{TellsBytes};
 ghost use Rattle.lfs_fuse_wire.specs.Said.{said};
 ghost use Rattle.lfs_fuse_wire.specs.Views.{view};
-ghost use Rattle.lfs_mount.specs.Answered.{IsAnswered, IsHeard, IsToldDated, IsToldKeptOrDated, live_in, replied};
-ghost use Rattle.lfs_mount.specs.Opens.{OnKept, TellsKept, kept_for};
+ghost use Rattle.lfs_mount.specs.Answered.{IsAnswered, IsHeard, IsToldDated, IsToldKept, IsToldKeptOrDated, live_in, replied};
+ghost use Rattle.lfs_mount.specs.Opens.{OnKept, kept_for};
 ghost use Rattle.lfs_mount.specs.Runs.{GoesOn};
 ghost use Rattle.lfs_mount.specs.Trees.{StayTrue};
 
 use crate::loans::with_handle;
 use crate::mount::Mount;
+use crate::rewriting::new_size;
 use crate::room::MAX_WRITE;
 use lfs_fuse_calls::caller::caller;
 use lfs_fuse_calls::told::Told;
@@ -50,29 +51,52 @@ fn part_told(alloc: Global, bytes: &[u8], offset: u64, size: u32) -> Told
 }
 
 impl<F: FileStore + Drop> Mount<F> {
-    /// What is told of a file that was removed while it was open, where that answers a message.
+    /// What is told of a file that was removed while it was open, where that answers a message, which may change what is
+    /// kept of the file.
     fn kept_told(
-        &self,
+        &mut self,
         alloc: Global,
+        now: Time,
         node: u64,
         message: &Message<'_>,
         cred: &Cred,
     ) -> Option<Told>
-        ensures { OnKept (kept_for self.now.tree.nodes (view message.now)
-            self.now.beside.opens.files.items node cred.now)
-            (λ kept. IsSomeAnd result (TellsKept (view message.now) kept)) (result ≡ None) }
+        ensures told { OnKept (kept_for self.old.tree.nodes (view message.now)
+            self.old.beside.opens.files.items node cred.now)
+            (λ kept. IsSomeAnd result (λ told. IsToldKept now cred.now node (view message.now) told
+            self.old.tree.volume self.new.tree.volume self.old.beside self.new.beside kept))
+            (result ≡ None) }
+        ensures none { result ≡ None → self.new ≡ self.old }
+        ensures tree { self.new.tree ≡ self.old.tree }
+        ensures sizes { self.new.sizes ≡ self.old.sizes }
     {
         if !self.tree.nodes.is_gone(NodeId(node)) {
             return None;
         }
         match message {
             Message::Read(fields) => {
-                let kept = self.beside.opens.by_handle(fields.handle, node, cred)?;
+                let kept = self.beside.opens.to_read(fields.handle, node, cred)?;
                 Some(part_told(alloc, kept.bytes.as_slice(), fields.offset, fields.size))
             }
             Message::GetAttr(_) => {
                 let kept = self.beside.opens.by_node(node, cred)?;
                 Some(Told::Attr(kept.attr))
+            }
+            Message::Write(fields, bytes) => {
+                let kept = self.beside.opens.to_write(fields.handle, node, cred)?;
+                let size = kept.bytes.len() as u64;
+                Some(
+                    self.beside
+                        .opens
+                        .write(now, node, fields, bytes, cred, size),
+                )
+            }
+            Message::SetAttr(fields) => {
+                new_size(fields)?;
+                let kept = self.beside.opens.to_cut(node, cred)?;
+                let attr = kept.attr;
+                let size = kept.bytes.len() as u64;
+                Some(self.beside.opens.cut(now, node, fields, cred, attr, size))
             }
             _ => None,
         }
@@ -96,7 +120,7 @@ impl<F: FileStore + Drop> Mount<F> {
             self.new.tree.volume self.new.tree.nodes }
         ensures sizes { self.new.sizes ≡ self.old.sizes }
     {
-        match self.kept_told(alloc, node, message, cred) {
+        match self.kept_told(alloc, now, node, message, cred) {
             Some(told) => told,
             None => self.called(alloc, now, node, message, cred),
         }

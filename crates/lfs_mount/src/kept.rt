@@ -1,6 +1,7 @@
-//! Files that are open to be read, and what is kept of one that was removed.
+//! Files that are open, and what is kept of one that was removed.
 
 use lfs_fuse_reply::attr::Attr;
+use lfs_fuse_wire::flags::AccessMode;
 use lfs_types::cred::Cred;
 use lfs_types::path::Path;
 
@@ -13,13 +14,15 @@ pub struct Kept {
     pub(crate) bytes: Vec<u8>,
 }
 
-/// A file that is open to be read.
+/// A file that is open.
 #[derive(Drop)]
 pub struct OpenFile {
     /// Its node.
     pub(crate) node: u64,
     /// Who opened it.
     pub(crate) cred: Cred,
+    /// What he may do with it.
+    pub(crate) access: AccessMode,
     /// What is kept of it, once it was removed.
     pub(crate) kept: Option<Kept>,
 }

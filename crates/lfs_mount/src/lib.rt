@@ -17,6 +17,7 @@ mod making;
 pub mod mount;
 mod naming;
 mod opens;
+mod rewriting;
 mod room;
 mod sweeping;
 mod tending;

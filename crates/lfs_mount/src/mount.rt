@@ -24,7 +24,7 @@ pub struct Sizes {
     pub inodes: u32,
 }
 
-/// What a mount keeps of files beside its volume: by inode number, and of those that are open to be read.
+/// What a mount keeps of files beside its volume: by inode number, and of those that are open.
 #[derive(Drop)]
 pub struct Beside {
     pub(crate) times: Times,

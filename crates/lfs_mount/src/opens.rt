@@ -1,9 +1,9 @@
-//! Files that are open to be read. Of one that is removed its bytes and attributes are kept until it is closed.
+//! Files that are open. Of one that is removed its bytes and attributes are kept until it is closed.
 
 ghost use Rattle.std.specs.Prelude.{◌≡◌, ◌<◌, IfSome, IsSome, None, Some, length, option_copied, slice_index_or, slice_set};
 ghost use Rattle.lfs_fuse_wire.specs.Views.{view};
-ghost use Rattle.lfs_fuse_calls.specs.Asked.{reads};
-ghost use Rattle.lfs_mount.specs.Opens.{AreLeft, AreSettled, AreUnkept, IsFree, closed_at, file_at_slot, first_kept, handle_of, kept_of, opened_in, opened_on, opener_of, slot_of, with_kept};
+ghost use Rattle.lfs_fuse_calls.specs.Asked.{reads, writes};
+ghost use Rattle.lfs_mount.specs.Opens.{AreLeft, AreSettled, AreUnkept, IsFree, closed_at, file_at_slot, first_kept, first_to_write, handle_of, is_open_to, kept_of, kept_to, opened_in, opened_on, opener_of, slot_of, with_kept};
 
 use crate::kept::{Kept, OpenFile};
 use lfs_fuse_calls::told::Told;
@@ -12,13 +12,13 @@ use lfs_fuse_wire::message::Message;
 use lfs_types::cred::Cred;
 use std::alloc::{AllocError, Global};
 
-/// So many files that are open to be read have a slot.
+/// So many files that are open have a slot.
 const SLOTS: usize = 128;
 
 /// The most bytes that are kept of all files: no volume holds more.
 const MOST: usize = 33_554_432;
 
-/// The files that are open to be read, each in a slot. A handle tells its slot.
+/// The files that are open, each in a slot. A handle tells its slot.
 #[derive(Drop)]
 pub struct Opens {
     pub(crate) files: Vec<Option<OpenFile>>,
@@ -48,11 +48,24 @@ pub(crate) fn handle_of(slot: Option<usize>) -> u64
     }
 }
 
-/// Whether the mode reads.
-fn reads(access: AccessMode) -> bool
-    ensures { result ≡ reads access }
+/// Whether the file of a slot is open to be read.
+fn is_to_read(file: &Option<OpenFile>) -> bool
+    ensures { result ≡ is_open_to reads file.now }
 {
-    !matches!(access, AccessMode::WriteOnly)
+    match file {
+        Some(file) => !matches!(file.access, AccessMode::WriteOnly),
+        None => false,
+    }
+}
+
+/// Whether the file of a slot is open to be written.
+fn is_to_write(file: &Option<OpenFile>) -> bool
+    ensures { result ≡ is_open_to writes file.now }
+{
+    match file {
+        Some(file) => !matches!(file.access, AccessMode::ReadOnly),
+        None => false,
+    }
 }
 
 /// What is kept of a file, where this user opened it on this node.
@@ -85,6 +98,42 @@ fn first_kept<'a>(files: &'a [Option<OpenFile>], node: u64, cred: &Cred) -> Opti
     None
 }
 
+/// What is kept of a file, where this user opened it on this node to read it.
+fn kept_to_read<'a>(file: &'a Option<OpenFile>, node: u64, cred: &Cred) -> Option<&'a Kept>
+    ensures { option_copied result ≡ kept_to reads file.now node cred.now }
+{
+    if is_to_read(file) {
+        kept_of(file, node, cred)
+    } else {
+        None
+    }
+}
+
+/// What is kept of a file, where this user opened it on this node to write it.
+fn kept_to_write<'a>(file: &'a Option<OpenFile>, node: u64, cred: &Cred) -> Option<&'a Kept>
+    ensures { option_copied result ≡ kept_to writes file.now node cred.now }
+{
+    if is_to_write(file) {
+        kept_of(file, node, cred)
+    } else {
+        None
+    }
+}
+
+/// What is kept of the first of those.
+fn first_to_write<'a>(files: &'a [Option<OpenFile>], node: u64, cred: &Cred) -> Option<&'a Kept>
+    ensures { option_copied result ≡ first_to_write files.now node cred.now }
+{
+    let mut rest = files;
+    while let Some((first, behind)) = rest.split_first() {
+        if let Some(kept) = kept_to_write(first, node, cred) {
+            return Some(kept);
+        }
+        rest = behind;
+    }
+    None
+}
+
 /// Who opened a file, if it is open on this node.
 fn opener_of(file: &Option<OpenFile>, node: u64) -> Option<Cred>
     ensures { result ≡ opener_of file.now node }
@@ -110,10 +159,16 @@ fn with_kept(file: Option<OpenFile>, kept: Option<Kept>) -> Option<OpenFile>
             let OpenFile {
                 node,
                 cred,
+                access,
                 kept: old,
             } = file;
             drop(old);
-            Some(OpenFile { node, cred, kept })
+            Some(OpenFile {
+                node,
+                cred,
+                access,
+                kept,
+            })
         }
         None => None,
     }
@@ -140,16 +195,37 @@ impl Opens {
         Ok(Opens { files })
     }
 
-    /// What is kept of the file of a handle, where this user opened it on this node.
-    pub(crate) fn by_handle<'a>(&'a self, handle: u64, node: u64, cred: &Cred) -> Option<&'a Kept>
+    /// What is kept of the file of a handle, where this user opened it on this node to read it.
+    pub(crate) fn to_read<'a>(&'a self, handle: u64, node: u64, cred: &Cred) -> Option<&'a Kept>
         ensures { option_copied result
-            ≡ kept_of (file_at_slot self.now.files.items (slot_of handle)) node cred.now }
+            ≡ kept_to reads (file_at_slot self.now.files.items (slot_of handle)) node cred.now }
     {
         let slot = slot_of(handle)?;
         match self.files.as_slice().get(slot) {
-            Some(file) => kept_of(file, node, cred),
+            Some(file) => kept_to_read(file, node, cred),
             None => None,
         }
+    }
+
+    /// The same, where he opened it to write it.
+    pub(crate) fn to_write<'a>(&'a self, handle: u64, node: u64, cred: &Cred) -> Option<&'a Kept>
+        ensures { option_copied result
+            ≡ kept_to writes (file_at_slot self.now.files.items (slot_of handle)) node cred.now }
+    {
+        let Some(slot) = slot_of(handle) else {
+            return None;
+        };
+        match self.files.as_slice().get(slot) {
+            Some(file) => kept_to_write(file, node, cred),
+            None => None,
+        }
+    }
+
+    /// What is kept of the first file that this user opened on this node to write it.
+    pub(crate) fn to_cut<'a>(&'a self, node: u64, cred: &Cred) -> Option<&'a Kept>
+        ensures { option_copied result ≡ first_to_write self.now.files.items node cred.now }
+    {
+        first_to_write(self.files.as_slice(), node, cred)
     }
 
     /// What is kept of the first file that this user opened on this node.
@@ -228,17 +304,18 @@ impl Opens {
         None
     }
 
-    /// A file is opened to be read, and gets a slot, if one is free.
-    fn open(&mut self, node: u64, cred: &Cred) -> Option<usize>
+    /// A file is opened, and gets a slot, if one is free.
+    fn open(&mut self, node: u64, access: AccessMode, cred: &Cred) -> Option<usize>
         ensures free { IfSome result (IsFree self.old.files.items) }
         ensures few { IfSome result (λ slot. slot < 256) }
         ensures files { self.new.files.items
-            ≡ opened_in result (Some node) cred.now self.old.files.items }
+            ≡ opened_in result (Some node) access cred.now self.old.files.items }
     {
         let slot = self.free()?;
         self.files[slot] = Some(OpenFile {
             node,
             cred: *cred,
+            access,
             kept: None,
         });
         Some(slot)
@@ -295,19 +372,15 @@ impl Opens {
     {
         match message {
             Message::Create(fields, _) => {
-                if reads(fields.flags.access)
-                    && let Told::Create(entry, _) = told
-                {
-                    self.open(entry.node, cred)
+                if let Told::Create(entry, _) = told {
+                    self.open(entry.node, fields.flags.access, cred)
                 } else {
                     None
                 }
             }
             Message::Open(fields) => {
-                if reads(fields.flags.access)
-                    && let Told::Open(_) = told
-                {
-                    self.open(node, cred)
+                if let Told::Open(_) = told {
+                    self.open(node, fields.flags.access, cred)
                 } else {
                     None
                 }

@@ -1,8 +1,10 @@
-use Rattle.std.proofs.Common.{◌≡◌, Some, sym, subst, ◌∙◌}
+use Rattle.std.proofs.Common.{◌≡◌, Some, IfSome, sym, subst, ◌∙◌}
 use Rattle.lfs_types.specs.Caller.{Caller}
 use Rattle.lfs_fuse_wire.specs.Header.{header_in}
 use Rattle.lfs_fuse_wire.specs.Said.{said}
 use Rattle.lfs_mount.specs.Answered.{IsAnsweredOf, IsHeard}
+use Rattle.lfs_mount.specs.Keeping.{AreStillKept}
+use Rattle.lfs_mount.proofs.KeepingLemmas.{heard_keeps}
 use Rattle.lfs_mount.proofs.mount.Mount.answer.Goals as goal
 
 pub returns-clause-answered : goal.returns-clause-answered
@@ -20,6 +22,7 @@ returns-clause-answered g c =
     let new = c.heard-told.new.self.tree.volume in
     let before = c.args.self.now.beside in
     let after = c.heard-told.new.self.beside in
+    let who = c.caller-cred.result in
     let found : header_in bytes ≡ Some header = sym c.decode.ensures ∙ c.in-Some.is in
     subst (λ h. IsAnsweredOf state settled sizes now nodes others h
     (said bytes) c.args.out.now.items c.append_if.new.out.items old new before after) (sym found) (record {
@@ -27,5 +30,9 @@ returns-clause-answered g c =
       wanted = heard.1;
       heard = subst (λ (who : Caller). IsHeard state settled sizes now who nodes header.node
           (said bytes) heard.0 heard.1 old new before after) c.caller-cred.ensures c.heard-told.ensures.heard;
+      keeps = subst (λ (w : Caller). IfSome (said bytes) (λ m. AreStillKept now w nodes header.node m heard.0
+          before.opens.files.items after.opens.files.items)) c.caller-cred.ensures
+          (heard_keeps state settled sizes now who nodes header.node heard.0 old new before after (said bytes) heard.1
+          c.heard-told.ensures.heard);
       written = c.in_ok-append_if.ensures;
     })
