@@ -66,18 +66,22 @@ act_shifted : {F : Type 0} (r : Cleaner F) (limit most : ℕ) (here from : World
     → IsActMade r most from longer old caller act answer new
 act_shifted r limit most here from journal longer old new caller (acts.User request) (told.User answer) same full back
     room made = record {
-      full = (λ is. full (made.full.0 is), λ is. made.full.1 (back is));
-      at_limit = λ is. made.at_limit (back is);
-      shown = subst (λ (w : World). IsVolume (r.state old) w) (sym same) made.shown;
-      outcome = λ less. subst (λ (w : World). IsOutcome (r.state old) w caller request answer) (sym same)
-          (made.outcome (room less));
-      entries = subst (λ (w : World). OnServed answer (LeavesEntries request (r.state old).content
-          (r.state new).content w.rows)) (sym same) made.entries;
-      unserved = made.unserved;
-      looks = made.looks;
-      unasked = made.unasked;
-      synced = made.synced;
-      follows = made.follows;
+      made = let alone = made.made in
+          record {
+            full = (λ is. full (alone.full.0 is), λ is. alone.full.1 (back is));
+            at_limit = λ is. alone.at_limit (back is);
+            shown = subst (λ (w : World). IsVolume (r.state old) w) (sym same) alone.shown;
+            outcome = λ less. subst (λ (w : World). IsOutcome (r.state old) w caller request answer) (sym same)
+                (alone.outcome (room less));
+            entries = subst (λ (w : World). OnServed answer (LeavesEntries request (r.state old).content
+                (r.state new).content w.rows)) (sym same) alone.entries;
+            unserved = alone.unserved;
+            looks = alone.looks;
+            unasked = alone.unasked;
+            synced = alone.synced;
+            follows = alone.follows;
+          };
+      asked = made.asked;
     }
 act_shifted r limit most here from journal longer old new caller (acts.User request) (told.Cleaner answer) same full
     back room made = absurd made
@@ -94,7 +98,7 @@ act_shifted r limit most here from journal longer old new caller (acts.Cleaner c
 act_shape : {F : Type 0} (r : Cleaner F) (limit : ℕ) (from : World) (journal : List Entry) (old new : F)
     (caller : Caller) (act : Act) (answer : StepAnswer) → IsActMade r limit from journal old caller act answer new
     → (r.state new).shape ≡ (r.state old).shape
-act_shape r limit from journal old new caller (acts.User request) (told.User answer) made = made.follows.shape
+act_shape r limit from journal old new caller (acts.User request) (told.User answer) made = made.made.follows.shape
 act_shape r limit from journal old new caller (acts.User request) (told.Cleaner answer) made = absurd made
 act_shape r limit from journal old new caller (acts.Cleaner call) (told.User answer) made = absurd made
 act_shape r limit from journal old new caller (acts.Cleaner call) (told.Cleaner answer) made =
@@ -142,7 +146,7 @@ act_refused : {F : Type 0} (r : Cleaner F) (limit : ℕ) (from : World) (journal
     (caller : Caller) (act : Act) (answer : StepAnswer) → length journal ≡ limit
     → IsActMade r limit from journal old caller act answer new → step_event act answer ≡ None
 act_refused r limit from journal old new caller (acts.User request) (told.User answer) full made =
-    ap (user_event request) (made.full.1 full)
+    ap (user_event request) (made.made.full.1 full)
 act_refused r limit from journal old new caller (acts.User request) (told.Cleaner answer) full made = absurd made
 act_refused r limit from journal old new caller (acts.Cleaner call) (told.User answer) full made = absurd made
 act_refused r limit from journal old new caller (acts.Cleaner call) (told.Cleaner answer) full made =

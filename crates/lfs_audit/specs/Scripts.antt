@@ -3,6 +3,7 @@ use Rattle.std.specs.Prelude.{◌≡◌, ℕ, List, Option}
 use Rattle.lfs_types.specs.Tree.{opening_world}
 use Rattle.lfs_staging.specs.Store.{IsSettled}
 use Rattle.lfs_staging.specs.declared.parts.Parts.{Parts}
+use Rattle.lfs_logstore.specs.Answering.{ComesTo}
 use Rattle.lfs_logstore.specs.CleanerCalls.{log_calls}
 use Rattle.lfs_logstore.specs.States.{state_of}
 use Rattle.lfs_volume.specs.Cleanings.{Cleaner, cleaner_of}
@@ -15,7 +16,7 @@ use Rattle.lfs_audit.specs.declared.fault.RunFault.TheVariants.{Format, Write}
 
 -- the log store as a kind of store
 abbrev pub log_cleaner : Cleaner Parts
-log_cleaner = cleaner_of state_of IsSettled log_calls
+log_cleaner = cleaner_of state_of IsSettled ComesTo log_calls
 
 -- a text is that of a run of the plan of a script, on a fresh volume over a log of so many segments, inode numbers and
 -- frames, whose journal begins in the opening world

@@ -188,7 +188,7 @@ impl<F: CleanedStore + Drop, J: JournalSink + Drop> FiledVolume<F, J> {
         requires { IsBegun F.state self.old }
         ensures written { IfOk result (λ is_whole. (text : List ℕ) × (entries : List Entry)
             × IsFiledRun
-            (cleaner_of F.state F.is_settled F.cleaner)
+            (cleaner_of F.state F.is_settled F.made F.cleaner)
             (Begins (F.state self.old.volume.since) self.old.volume.since_level)
             self.old.volume.store steps.items is_whole entries text
             × Appends (W.contents writer.old) (W.contents writer.new) text
@@ -213,7 +213,7 @@ impl<F: CleanedStore + Drop, J: JournalSink + Drop> FiledVolume<F, J> {
         teller: &mut D,
     ) -> Result<(), AllocError>
         ensures done { OnOk result (FilesLine
-            (cleaner_of F.state F.is_settled F.cleaner) J.contents J.next
+            (cleaner_of F.state F.is_settled F.made F.cleaner) J.contents J.next
             self.old self.new step.session step.cred step.act text.old.items text.new.items) }
         ensures silent { self.new.is_open ≡ self.old.is_open → teller.new ≡ teller.old }
     {

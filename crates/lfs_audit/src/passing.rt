@@ -31,7 +31,7 @@ pub fn run_step<F: CleanedStore + Drop>(
     text: &mut Vec<u8>,
 ) -> Result<(), AllocError>
     ensures { OnOk result (CountsLine
-        (cleaner_of F.state F.is_settled F.cleaner)
+        (cleaner_of F.state F.is_settled F.made F.cleaner)
         volume.old volume.new refusals.old refusals.new
         step.session step.cred step.act text.old.items text.new.items) }
 {
@@ -53,7 +53,7 @@ fn call<F: CleanedStore + Drop>(
     text: &mut Vec<u8>,
 ) -> Result<(), AllocError>
     ensures { OnOk result (CountsLine
-        (cleaner_of F.state F.is_settled F.cleaner)
+        (cleaner_of F.state F.is_settled F.made F.cleaner)
         volume.old volume.new refusals.old refusals.new
         asker.session asker.cred (Act.User request) text.old.items text.new.items) }
 {
@@ -72,7 +72,7 @@ fn clean_line<F: CleanedStore + Drop>(
     text: &mut Vec<u8>,
 ) -> Result<(), AllocError>
     ensures { OnOk result (CountsLine
-        (cleaner_of F.state F.is_settled F.cleaner)
+        (cleaner_of F.state F.is_settled F.made F.cleaner)
         volume.old volume.new refusals.old refusals.new
         asker.session asker.cred (Act.Cleaner call) text.old.items text.new.items) }
 {
@@ -89,7 +89,7 @@ fn clean<F: CleanedStore + Drop>(
     text: &mut Vec<u8>,
 ) -> Result<CleanerAnswer, AllocError>
     ensures { IfOk result (λ answer. TellsCleaning
-        (cleaner_of F.state F.is_settled F.cleaner)
+        (cleaner_of F.state F.is_settled F.made F.cleaner)
         volume.old volume.new refusals.old refusals.new
         asker.session asker.cred call answer text.old.items text.new.items) }
 {
@@ -108,7 +108,7 @@ fn pass<F: CleanedStore + Drop>(
     text: &mut Vec<u8>,
 ) -> Result<(), AllocError>
     ensures { OnOk result (CountsLine
-        (cleaner_of F.state F.is_settled F.cleaner)
+        (cleaner_of F.state F.is_settled F.made F.cleaner)
         volume.old volume.new refusals.old refusals.new
         asker.session asker.cred Act.Pass text.old.items text.new.items) }
 {

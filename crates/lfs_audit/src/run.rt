@@ -62,7 +62,7 @@ pub fn run_over<F: CleanedStore + Drop, R: Read, W: Write>(
     requires { volume.old.journal ≡ [] }
     ensures written { OnOk result (IfSome (R.remaining reader.old) (λ script. (text : List ℕ)
         × IsOutput
-        (cleaner_of F.state F.is_settled F.cleaner)
+        (cleaner_of F.state F.is_settled F.made F.cleaner)
         (Begins (F.state volume.old.since) volume.old.since_level)
         script volume.old.limit volume.old.store text
         × Appends (W.contents writer.old) (W.contents writer.new) text)) }
@@ -96,7 +96,7 @@ pub fn run_plan<F: CleanedStore + Drop, W: Write>(
     requires { volume.old.journal ≡ [] }
     ensures written { OnOk result ((text : List ℕ)
         × IsRun
-        (cleaner_of F.state F.is_settled F.cleaner)
+        (cleaner_of F.state F.is_settled F.made F.cleaner)
         (Begins (F.state volume.old.since) volume.old.since_level)
         volume.old.limit volume.old.store steps.items text
         × Appends (W.contents writer.old) (W.contents writer.new) text) }
@@ -117,7 +117,7 @@ fn print_steps<F: CleanedStore + Drop, W: Write>(
     writer: &mut W,
 ) -> Result<(), RunFault>
     ensures written { OnOk result (WritesLines
-        (cleaner_of F.state F.is_settled F.cleaner)
+        (cleaner_of F.state F.is_settled F.made F.cleaner)
         volume.old volume.new refusals.old refusals.new steps.items
         (append_known (W.contents writer.old) text.old.items)
         (append_known (W.contents writer.new) text.new.items)) }

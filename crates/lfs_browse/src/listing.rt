@@ -34,7 +34,7 @@ pub(crate) fn tell_listing<F: CleanedStore + Drop>(
     path: &Path,
     text: &mut Vec<u8>,
 ) -> Result<(), AllocError>
-    ensures { OnOk result (TellsLook (cleaner_of F.state F.is_settled F.cleaner)
+    ensures { OnOk result (TellsLook (cleaner_of F.state F.is_settled F.made F.cleaner)
         volume.old volume.new asker.now Listing path.now text.old.items text.new.items) }
 {
     let alloc = *text.allocator();
@@ -53,7 +53,7 @@ fn tell_listed<F: CleanedStore + Drop>(
     answer: &Answer,
     text: &mut Vec<u8>,
 ) -> Result<(), AllocError>
-    ensures { OnOk result (TellsListed (cleaner_of F.state F.is_settled F.cleaner)
+    ensures { OnOk result (TellsListed (cleaner_of F.state F.is_settled F.made F.cleaner)
         volume.old volume.new asker.now path.now answer.now text.old.items text.new.items) }
 {
     match names_served(answer) {
@@ -81,7 +81,7 @@ fn tell_names<F: CleanedStore + Drop>(
     names: &[Name],
     text: &mut Vec<u8>,
 ) -> Result<(), AllocError>
-    ensures { OnOk result (TellsNames (cleaner_of F.state F.is_settled F.cleaner)
+    ensures { OnOk result (TellsNames (cleaner_of F.state F.is_settled F.made F.cleaner)
         volume.old volume.new asker.now directory.now names.now text.old.items text.new.items) }
 {
     let first = first_of(names);
@@ -109,7 +109,7 @@ fn tell_rows<F: CleanedStore + Drop>(
     names: &[Name],
     text: &mut Vec<u8>,
 ) -> Result<usize, AllocError>
-    ensures told { IfOk result (λ _. TellsRows (cleaner_of F.state F.is_settled F.cleaner)
+    ensures told { IfOk result (λ _. TellsRows (cleaner_of F.state F.is_settled F.made F.cleaner)
         volume.old volume.new asker.now directory.now names.now text.old.items text.new.items) }
     ensures counted { IfOk result (λ rows. rows ≡ length (filter (has_path directory.now) names.now)) }
     ensures few { IfOk result (λ rows. rows ≤ length names.now) }
@@ -129,7 +129,7 @@ fn tell_row<F: CleanedStore + Drop>(
     name: &Name,
     text: &mut Vec<u8>,
 ) -> Result<usize, AllocError>
-    ensures told { IfOk result (λ _. TellsRows (cleaner_of F.state F.is_settled F.cleaner)
+    ensures told { IfOk result (λ _. TellsRows (cleaner_of F.state F.is_settled F.made F.cleaner)
         volume.old volume.new asker.now directory.now (name.now ∷ [])
         text.old.items text.new.items) }
     ensures counted { IfOk result (λ rows. rows

@@ -37,7 +37,7 @@ pub fn tell_look<F: CleanedStore + Drop>(
     look: Look,
     path: &Path,
 ) -> Result<Vec<u8>, AllocError>
-    ensures { IfOk result (λ text. TellsLook (cleaner_of F.state F.is_settled F.cleaner)
+    ensures { IfOk result (λ text. TellsLook (cleaner_of F.state F.is_settled F.made F.cleaner)
         volume.old volume.new asker.now look path.now [] text.items) }
 {
     let mut text = Vec::new(alloc);
@@ -53,7 +53,7 @@ fn push_look<F: CleanedStore + Drop>(
     path: &Path,
     text: &mut Vec<u8>,
 ) -> Result<(), AllocError>
-    ensures { OnOk result (TellsLook (cleaner_of F.state F.is_settled F.cleaner)
+    ensures { OnOk result (TellsLook (cleaner_of F.state F.is_settled F.made F.cleaner)
         volume.old volume.new asker.now look path.now text.old.items text.new.items) }
 {
     match look {

@@ -48,7 +48,7 @@ pub(crate) fn tell_tree<F: CleanedStore + Drop>(
     path: &Path,
     text: &mut Vec<u8>,
 ) -> Result<(), AllocError>
-    ensures { OnOk result (TellsLook (cleaner_of F.state F.is_settled F.cleaner)
+    ensures { OnOk result (TellsLook (cleaner_of F.state F.is_settled F.made F.cleaner)
         volume.old volume.new asker.now Tree path.now text.old.items text.new.items) }
 {
     let mut walk = Walk::below(*text.allocator(), path)?;
@@ -79,7 +79,7 @@ impl Walk {
         volume: &mut Volume<F>,
         asker: &Asker,
     ) -> Result<(), AllocError>
-        ensures { OnOk result (HasEnded (cleaner_of F.state F.is_settled F.cleaner)
+        ensures { OnOk result (HasEnded (cleaner_of F.state F.is_settled F.made F.cleaner)
             volume.old volume.new asker.now self.old self.new) }
     {
         for _ in 0..MOST_VISITS {
@@ -100,7 +100,7 @@ impl Walk {
         asker: &Asker,
         visit: &Visit,
     ) -> Result<(), AllocError>
-        ensures { OnOk result (Visits (cleaner_of F.state F.is_settled F.cleaner)
+        ensures { OnOk result (Visits (cleaner_of F.state F.is_settled F.made F.cleaner)
             volume.old volume.new asker.now self.old self.new visit.now) }
     {
         let request = visit.request(*self.text.allocator())?;

@@ -80,12 +80,12 @@ pub fn talk<
     tended: &mut Tended<F, J, V>,
 ) -> Result<bool, RunFault>
     ensures written { IfOk result (λ has_fault. HasBegun tended.old → IsKeptTalk
-        (talker_of (cleaner_of F.state F.is_settled F.cleaner)
+        (talker_of (cleaner_of F.state F.is_settled F.made F.cleaner)
         F.map_text F.segment_text F.space_text) setting.framing (sink_of J.contents J.next)
         tended.old tended.new has_fault (R.remaining reader.old) (R.remaining reader.new)
         (W.contents writer.old) (W.contents writer.new)) }
     ensures so_far { IfErr result (λ fault. fault ≡ Read → HasBegun tended.old → HasKeptSoFar
-        (talker_of (cleaner_of F.state F.is_settled F.cleaner)
+        (talker_of (cleaner_of F.state F.is_settled F.made F.cleaner)
         F.map_text F.segment_text F.space_text) setting.framing (sink_of J.contents J.next)
         tended.old tended.new (R.remaining reader.old) (R.remaining reader.new)
         (W.contents writer.old) (W.contents writer.new)) }
@@ -134,12 +134,12 @@ fn hear_all<
     tended: &mut Tended<F, J, V>,
 ) -> Result<bool, RunFault>
     ensures heard { IfOk result (λ has_fault. HasBegun tended.old → HeardAll
-        (talker_of (cleaner_of F.state F.is_settled F.cleaner)
+        (talker_of (cleaner_of F.state F.is_settled F.made F.cleaner)
         F.map_text F.segment_text F.space_text) setting.framing (sink_of J.contents J.next)
         tended.old tended.new has_fault (R.remaining reader.old) (R.remaining reader.new)
         (W.contents writer.old) (W.contents writer.new)) }
     ensures so_far { IfErr result (λ fault. fault ≡ Read → HasBegun tended.old → HeardSoFar
-        (talker_of (cleaner_of F.state F.is_settled F.cleaner)
+        (talker_of (cleaner_of F.state F.is_settled F.made F.cleaner)
         F.map_text F.segment_text F.space_text) setting.framing (sink_of J.contents J.next)
         tended.old tended.new (R.remaining reader.old) (R.remaining reader.new)
         (W.contents writer.old) (W.contents writer.new)) }
@@ -198,7 +198,7 @@ impl Standing {
         tended: &mut Tended<F, J, V>,
     ) -> Result<bool, RunFault>
         ensures next { IfOk result (λ goes_on. goes_on ≡ true → HearsNext
-            (talker_of (cleaner_of F.state F.is_settled F.cleaner)
+            (talker_of (cleaner_of F.state F.is_settled F.made F.cleaner)
             F.map_text F.segment_text F.space_text) (sink_of J.contents J.next)
             tended.old tended.new self.old self.new (R.remaining reader.old) (R.remaining reader.new)
             (W.contents writer.old) (W.contents writer.new)) }
@@ -256,7 +256,7 @@ impl Standing {
         bytes: &[u8],
     ) -> Result<bool, RunFault>
         ensures told { IfOk result (λ goes_on. goes_on ≡ true → IsTold
-            (talker_of (cleaner_of F.state F.is_settled F.cleaner)
+            (talker_of (cleaner_of F.state F.is_settled F.made F.cleaner)
             F.map_text F.segment_text F.space_text) (sink_of J.contents J.next)
             tended.old tended.new self.old self.new (heard_of bytes.now)
             (W.contents writer.old) (W.contents writer.new)) }

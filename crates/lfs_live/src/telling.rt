@@ -124,7 +124,7 @@ pub fn answer<F: CleanedStore + ShowsLog + Drop>(
     ensures told { IfOk result (λ given. MatchOption given
         ((heard_of line.entry.bytes.now ≡ heard.Dot Quit) × (volume.new ≡ volume.old) × (tally.new ≡ tally.old))
         (λ told. HasAnswered
-        (talker_of (cleaner_of F.state F.is_settled F.cleaner)
+        (talker_of (cleaner_of F.state F.is_settled F.made F.cleaner)
         F.map_text F.segment_text F.space_text) line.entry.number
         volume.old volume.new tally.old tally.new speaker.old speaker.new
         (heard_of line.entry.bytes.now) told.text.items)) }
@@ -170,7 +170,7 @@ fn obey<F: CleanedStore + Drop>(
     line: Line,
 ) -> Result<Vec<u8>, AllocError>
     ensures { IfOk result (λ text. (given : List StepAnswer) × Does
-        (cleaner_of F.state F.is_settled F.cleaner)
+        (cleaner_of F.state F.is_settled F.made F.cleaner)
         volume.old speaker.old line text.items volume.new speaker.new given
         × AddsUp refusals.old refusals.new given) }
 {
@@ -198,7 +198,7 @@ fn make<F: CleanedStore + Drop>(
     act: Act,
 ) -> Result<Vec<u8>, AllocError>
     ensures { IfOk result (λ text. CountsLine
-        (cleaner_of F.state F.is_settled F.cleaner)
+        (cleaner_of F.state F.is_settled F.made F.cleaner)
         volume.old volume.new refusals.old refusals.new
         speaker.now.session speaker.now.cred act [] text.items) }
 {
@@ -217,7 +217,7 @@ fn look_at<F: CleanedStore + Drop>(
     path: &Path,
 ) -> Result<Vec<u8>, AllocError>
     ensures { IfOk result (λ text. TellsLook
-        (cleaner_of F.state F.is_settled F.cleaner)
+        (cleaner_of F.state F.is_settled F.made F.cleaner)
         volume.old volume.new (asker_of speaker.now) look path.now [] text.items) }
 {
     let Speaker { session, cred } = *speaker;
@@ -286,7 +286,7 @@ fn tell_dot<F: CleanedStore + ShowsLog + Drop>(
     ensures { IfOk result (λ given. MatchOption given
         (dot ≡ Quit)
         (λ text. (handed : List Entry) (answers : List StepAnswer) → tally.now ≡ tally_of handed answers
-        → dot_text (talker_of (cleaner_of F.state F.is_settled F.cleaner) F.map_text F.segment_text F.space_text)
+        → dot_text (talker_of (cleaner_of F.state F.is_settled F.made F.cleaner) F.map_text F.segment_text F.space_text)
         dot handed answers volume.now ≡ Some text.items)) }
 {
     match dot {

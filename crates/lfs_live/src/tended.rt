@@ -223,7 +223,7 @@ impl<F: CleanedStore + Drop, J: JournalSink + Drop, V: Drop> Tended<F, J, V> {
     /// Memory ran out; some of its calls may have been made.
     pub(crate) fn tidy<D: Write>(&mut self, alloc: Global, teller: &mut D) -> Result<(), AllocError>
         ensures tidied { OnOk result ((more : List Entry) × HasTidied
-            (cleaner_of F.state F.is_settled F.cleaner) (sink_of J.contents J.next) self.old self.new more) }
+            (cleaner_of F.state F.is_settled F.made F.cleaner) (sink_of J.contents J.next) self.old self.new more) }
         ensures silent { OnOk result (self.new.is_open ≡ self.old.is_open → teller.new ≡ teller.old) }
     {
         if self.is_due() {
@@ -243,7 +243,7 @@ impl<F: CleanedStore + Drop, J: JournalSink + Drop, V: Drop> Tended<F, J, V> {
     /// Makes a pass of the cleaner, whose answers are not told and not counted, and moves on.
     fn pass<D: Write>(&mut self, alloc: Global, teller: &mut D) -> Result<(), AllocError>
         ensures passed { OnOk result ((more : List Entry) × (passed : Seen F) × (untold : List ℕ) × TellsLine
-            (cleaner_of F.state F.is_settled F.cleaner)
+            (cleaner_of F.state F.is_settled F.made F.cleaner)
             self.old.volume passed 255 first_speaker.cred Pass [] untold
             × Moves F.state (sink_of J.contents J.next) (length self.old.volume.journal)
             (record self.old { volume = passed }) self.new more) }

@@ -142,7 +142,7 @@ impl<S: Sizes, F: CleanedStore + Drop> Kept<S, F> {
         ensures full { (result ≡ CleanerAnswer.Refused Resource.JournalFull)
             ↔ (length self.old.journal ≡ self.old.limit) }
         ensures answered { length self.old.journal < self.old.limit → IsCleanerAnswer
-            (cleaner_of F.state F.is_settled F.cleaner)
+            (cleaner_of F.state F.is_settled F.made F.cleaner)
             self.old.store cred.now call result self.new.store }
         ensures entered { self.new.journal ≡ self.old.journal
             ++ kept_cleaning 255 cred.now call result }

@@ -18,7 +18,7 @@ use Rattle.lfs_calls.specs.Calls.{LooksOn, OnUnasked}
 use Rattle.lfs_calls.specs.Entries.{LeavesEntries, OnServed}
 use Rattle.lfs_calls.specs.Outcomes.{IsOutcome}
 use Rattle.lfs_calls.specs.Volumes.{IsVolume}
-use Rattle.lfs_volume.specs.CallRuns.{AreAnswers, IsCallMade}
+use Rattle.lfs_volume.specs.CallRuns.{AreAnswers, AreMadeSo, IsCallMade}
 use Rattle.lfs_volume.specs.Journals.{Stays}
 use Rattle.lfs_volume.specs.Seen.{Seen}
 
@@ -52,6 +52,29 @@ call_made {F} state is_settled from old new caller request answer full at_limit 
       follows = follows;
     }
 
+-- one more call was made
+pub AreMadeSo-append : {F : Type 0} (Is : List Entry → F → Call → Answer → F → Type 0) (journal : List Entry)
+    (first last next : F) (calls : List Call) (answers : List Answer) (call : Call) (answer : Answer)
+    → AreMadeSo Is journal first calls answers last
+    → Is (journal ++ kept calls answers) last call answer next
+    → AreMadeSo Is journal first (calls ++ call ∷ []) (answers ++ answer ∷ []) next
+AreMadeSo-append {F} Is journal first last next [] [] call answer are made = (
+  next,
+  subst (λ (s : F). Is journal s call answer next) are
+      (subst (λ (j : List Entry). Is j last call answer next) (append-nil journal) made),
+  refl,
+)
+AreMadeSo-append Is journal first last next [] (a ∷ answers) call answer are made = absurd are
+AreMadeSo-append Is journal first last next (c ∷ calls) [] call answer are made = absurd are
+AreMadeSo-append Is journal first last next (c ∷ calls) (a ∷ answers) call answer are made =
+    let entry = kept_entry c.session c.cred c.request a in (
+      are.0,
+      are.1,
+      AreMadeSo-append Is (journal ++ entry) are.0 last next calls answers call answer are.2
+          (subst (λ (j : List Entry). Is j last call answer next) (sym (append_assoc journal entry (kept calls answers)))
+          made),
+    )
+
 -- one more call was answered
 pub AreAnswers-append : {F : Type 0} (state : F → StoreState) (is_settled : F → Type 0) (limit : ℕ) (from : World)
     (journal : List Entry) (first last next : F) (calls : List Call)
@@ -59,20 +82,7 @@ pub AreAnswers-append : {F : Type 0} (state : F → StoreState) (is_settled : F 
     → AreAnswers state is_settled limit from journal first calls answers last
     → IsCallMade state is_settled limit from (journal ++ kept calls answers) last call.cred call.request answer next
     → AreAnswers state is_settled limit from journal first (calls ++ call ∷ []) (answers ++ answer ∷ []) next
-AreAnswers-append {F} state is_settled limit from journal first last next [] [] call answer are made = (
-  next,
-  subst (λ (s : F). IsCallMade state is_settled limit from journal s call.cred call.request answer next) are
-      (subst (λ j. IsCallMade state is_settled limit from j last call.cred call.request answer next)
-      (append-nil journal) made),
-  refl,
-)
-AreAnswers-append state is_settled limit from journal first last next [] (a ∷ answers) call answer are made = absurd are
-AreAnswers-append state is_settled limit from journal first last next (c ∷ calls) [] call answer are made = absurd are
-AreAnswers-append state is_settled limit from journal first last next (c ∷ calls) (a ∷ answers) call answer are made =
-    let entry = kept_entry c.session c.cred c.request a in (
-      are.0,
-      are.1,
-      AreAnswers-append state is_settled limit from (journal ++ entry) are.0 last next calls answers call answer are.2
-          (subst (λ j. IsCallMade state is_settled limit from j last call.cred call.request answer next)
-          (sym (append_assoc journal entry (kept calls answers))) made),
-    )
+AreAnswers-append {F} state is_settled limit from journal first last next calls answers call answer are made =
+    AreMadeSo-append (λ (before : List Entry) (this : F) (one : Call) (told : Answer) (left : F).
+    IsCallMade state is_settled limit from before this one.cred one.request told left)
+    journal first last next calls answers call answer are made

@@ -1,5 +1,5 @@
 -- Users' calls, made one after another on a volume.
-use Rattle.std.specs.Prelude.{◌≡◌, ◌↔◌, ℕ, ◌<◌, List, [], ◌∷◌, ◌++◌, length}
+use Rattle.std.specs.Prelude.{◌≡◌, ◌↔◌, ℕ, ◌<◌, List, [], ◌∷◌, ◌++◌, length, Result}
 use Rattle.lfs_types.specs.Caller.{Caller}
 use Rattle.lfs_types.specs.StoreStates.{Follows, StoreState}
 use Rattle.lfs_types.specs.Tree.{World}
@@ -9,10 +9,14 @@ use Rattle.lfs_types.specs.declared.answer.Resource.TheVariants.{JournalFull}
 use Rattle.lfs_types.specs.declared.answer.Served.TheVariants.{Done}
 use Rattle.lfs_types.specs.declared.request.Request.{Request}
 use Rattle.lfs_types.specs.declared.request.Request.TheVariants.{Sync}
+use Rattle.lfs_types.specs.declared.store.Change.{Change}
+use Rattle.lfs_types.specs.declared.store.Reserve.{Reserve}
+use Rattle.lfs_types.specs.declared.store.StoreRefusal.{StoreRefusal}
 use Rattle.lfs_model.specs.declared.journal.Call.{Call}
 use Rattle.lfs_model.specs.declared.journal.Entry.{Entry}
 use Rattle.lfs_model.specs.Runs.{IsUnserved, kept_entry}
 use Rattle.lfs_model.specs.Steps.{world_after}
+use Rattle.lfs_calls.specs.Asked.{IsAsked}
 use Rattle.lfs_calls.specs.Calls.{LooksOn, OnUnasked}
 use Rattle.lfs_calls.specs.Entries.{LeavesEntries, OnServed}
 use Rattle.lfs_calls.specs.Outcomes.{IsOutcome}
@@ -39,15 +43,37 @@ pub record IsCallMade {F : Type 0} (state : F → StoreState) (is_settled : F �
   pub synced : request ≡ Sync → answer ≡ Served Done → is_settled new
   pub follows : Follows (state old) (state new)
 
--- Calls were answered so behind a journal, one after another, and led from one store to another: each is made on the
--- store that the one before it left.
+-- The same, and a call that changes files is served, or refused for want of space or memory, as the store said to the
+-- changes that make it, asked on the caller's behalf, and left the store as they left it.
+pub record IsCallAsked {F : Type 0} (state : F → StoreState) (is_settled : F → Type 0)
+    (said : F → List Change → Reserve → Result (Unit {0}) StoreRefusal → F → Type 0) (limit : ℕ) (from : World)
+    (journal : List Entry) (old : F) (caller : Caller) (request : Request) (answer : Answer) (new : F) : Type 0 where
+  pub made : IsCallMade state is_settled limit from journal old caller request answer new
+  pub asked : IsAsked state said old caller request answer new
+
+-- Calls were answered behind a journal, one after another, and led from one store to another: each was made, as this
+-- says, behind the journal and on the store that the one before it left.
+abbrev pub AreMadeSo : {F : Type 0} → (List Entry → F → Call → Answer → F → Type 0) → List Entry → F → List Call
+    → List Answer → F → Type 0
+AreMadeSo Is journal old [] [] new = new ≡ old
+AreMadeSo Is journal old [] (answer ∷ answers) new = ⊥
+AreMadeSo Is journal old (call ∷ calls) [] new = ⊥
+AreMadeSo {F} Is journal old (call ∷ calls) (answer ∷ answers) new =
+    (next : F) × Is journal old call answer next
+    × AreMadeSo Is (journal ++ kept_entry call.session call.cred call.request answer) next calls answers new
+
+-- calls were answered so, each with its cause
 abbrev pub AreAnswers : {F : Type 0} → (F → StoreState) → (F → Type 0) → ℕ → World → List Entry → F → List Call
     → List Answer → F → Type 0
-AreAnswers state is_settled limit from journal old [] [] new = new ≡ old
-AreAnswers state is_settled limit from journal old [] (answer ∷ answers) new = ⊥
-AreAnswers state is_settled limit from journal old (call ∷ calls) [] new = ⊥
-AreAnswers {F} state is_settled limit from journal old (call ∷ calls) (answer ∷ answers) new =
-    (next : F)
-    × IsCallMade state is_settled limit from journal old call.cred call.request answer next
-    × AreAnswers state is_settled limit from (journal
-    ++ kept_entry call.session call.cred call.request answer) next calls answers new
+AreAnswers state is_settled limit from journal old calls answers new =
+    AreMadeSo (λ before this call answer next.
+    IsCallMade state is_settled limit from before this call.cred call.request answer next) journal old calls answers new
+
+-- and each that changes files as the store said
+abbrev pub AreCallsAsked : {F : Type 0} → (F → StoreState) → (F → Type 0)
+    → (F → List Change → Reserve → Result (Unit {0}) StoreRefusal → F → Type 0) → ℕ → World → List Entry → F → List Call
+    → List Answer → F → Type 0
+AreCallsAsked state is_settled said limit from journal old calls answers new =
+    AreMadeSo (λ before this call answer next.
+    IsCallAsked state is_settled said limit from before this call.cred call.request answer next) journal old calls answers
+    new

@@ -10,6 +10,9 @@ use Rattle.lfs_types.specs.declared.cleaner.CleanerCall.{CleanerCall}
 use Rattle.lfs_types.specs.declared.cleaner.CleanerCall.TheVariants as call
 use Rattle.lfs_types.specs.declared.rule.Denial.{Denial}
 use Rattle.lfs_types.specs.declared.rule.Rule.TheVariants.{IsSuperuser}
+use Rattle.lfs_types.specs.declared.store.Change.{Change}
+use Rattle.lfs_types.specs.declared.store.Reserve.{Reserve}
+use Rattle.lfs_types.specs.declared.store.StoreRefusal.{StoreRefusal}
 use Rattle.lfs_model.specs.declared.journal.CleanerAnswer.{CleanerAnswer}
 use Rattle.lfs_model.specs.declared.journal.CleanerAnswer.TheVariants.{Refused, Denied, Fault, Ifile, Infos, Bmapv}
 use Rattle.lfs_model.specs.declared.journal.CleanerAnswer.TheVariants.{Marked, Cleaned}
@@ -18,15 +21,23 @@ use Rattle.lfs_model.specs.Cleaning.{IsCleaning, kind_of}
 use Rattle.lfs_model.specs.Memory.{HandsIn}
 use Rattle.lfs_model.specs.Runs.{act_of, cleans, outcome_of}
 
--- a kind of store: the state that contracts see, that nothing waits, and what each call of its cleaner may answer
+-- a kind of store: the state that contracts see, that nothing waits, what changes come to, and what each call of its
+-- cleaner may answer
 pub record Cleaner (F : Type 0) : Type 1 where
   pub state : F → StoreState
   pub is_settled : F → Type 0
+  pub said : F → List Change → Reserve → Result (Unit {0}) StoreRefusal → F → Type 0
   pub calls : CleanerCalls F
 
 -- such a kind of store, of its parts
-abbrev pub cleaner_of : {F : Type 0} → (F → StoreState) → (F → Type 0) → CleanerCalls F → Cleaner F
-cleaner_of state is_settled calls = record { state = state; is_settled = is_settled; calls = calls }
+abbrev pub cleaner_of : {F : Type 0} → (F → StoreState) → (F → Type 0)
+    → (F → List Change → Reserve → Result (Unit {0}) StoreRefusal → F → Type 0) → CleanerCalls F → Cleaner F
+cleaner_of state is_settled said calls = record {
+  state = state;
+  is_settled = is_settled;
+  said = said;
+  calls = calls;
+}
 
 -- the denial of a cleaner's call
 abbrev pub not_superuser : Denial

@@ -14,15 +14,15 @@ use Rattle.lfs_model.specs.declared.steps.StepAnswer.TheVariants.{User, Cleaner 
 use Rattle.lfs_model.specs.Runs.{kept_step, users_alone}
 use Rattle.lfs_model.specs.Steps.{IsLegal, world_after}
 use Rattle.lfs_calls.specs.Volumes.{IsVolume}
-use Rattle.lfs_volume.specs.CallRuns.{IsCallMade}
+use Rattle.lfs_volume.specs.CallRuns.{IsCallAsked}
 use Rattle.lfs_volume.specs.Cleanings.{Cleaner, CleansOnly, IsCleanerAnswer}
 
--- A call was answered so behind a journal, and led from one store to another: a user's as it is made alone; a cleaner's
--- JournalFull exactly where the journal has its limit, and then the store is as before, else as the store's call
--- answers. No segment becomes clean but by the cleaner's call that tells so.
+-- A call was answered so behind a journal, and led from one store to another: a user's as it is made alone, one that
+-- changes files as the store said; a cleaner's JournalFull exactly where the journal has its limit, and then the store is
+-- as before, else as the store's call answers. No segment becomes clean but by the cleaner's call that tells so.
 abbrev pub IsActMade : {F : Type 0} → Cleaner F → ℕ → World → List Entry → F → Caller → Act → StepAnswer → F → Type 0
 IsActMade r limit from journal old caller (acts.User request) (User answer) new =
-    IsCallMade r.state r.is_settled limit from journal old caller request answer new
+    IsCallAsked r.state r.is_settled r.said limit from journal old caller request answer new
 IsActMade r limit from journal old caller (acts.Cleaner call) (Cleaned answer) new =
     ((answer ≡ cleaner.Refused JournalFull) ↔ (length journal ≡ limit))
     × (length journal ≡ limit → new ≡ old)

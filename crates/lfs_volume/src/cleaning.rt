@@ -23,7 +23,7 @@ pub fn cleaned<F: CleanedStore>(
     call: CleanerCall,
 ) -> CleanerAnswer
     ensures answered { IsCleanerAnswer
-        (cleaner_of F.state F.is_settled F.cleaner)
+        (cleaner_of F.state F.is_settled F.made F.cleaner)
         store.old cred.now call result store.new }
     ensures cleaned { IsCleaned (F.state store.old) (F.state store.new) cred.now call result }
 {
@@ -40,7 +40,7 @@ pub fn cleaned<F: CleanedStore>(
 /// The answer to a superuser's call: what the store's call gives.
 fn done<F: CleanedStore>(store: &mut Tree<F>, call: CleanerCall) -> CleanerAnswer
     ensures done { IsDone
-        (cleaner_of F.state F.is_settled F.cleaner)
+        (cleaner_of F.state F.is_settled F.made F.cleaner)
         store.old call result store.new }
     ensures cleaned { (caller : Caller) → caller.uid ≡ 0
         → IsCleaned (F.state store.old) (F.state store.new) caller call result }

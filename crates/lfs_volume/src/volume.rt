@@ -17,7 +17,7 @@ ghost use Rattle.lfs_calls.specs.Outcomes.{IsOutcome};
 ghost use Rattle.lfs_calls.specs.Volumes.{HasWorld, IsVolume};
 ghost use Rattle.lfs_explain.specs.Asked.{asked};
 ghost use Rattle.lfs_explain.specs.Trails.{IsTrail, first_names, second_names};
-ghost use Rattle.lfs_volume.specs.CallRuns.{AreAnswers};
+ghost use Rattle.lfs_volume.specs.CallRuns.{AreCallsAsked};
 ghost use Rattle.lfs_volume.specs.Cleanings.{CleansOnly, IsCleanerAnswer, cleaner_of};
 ghost use Rattle.lfs_volume.specs.Copies.{is_lack_of_memory};
 ghost use Rattle.lfs_volume.specs.Journals.{AtPresent, Begins, IsAnswered, IsJournal, Since, Stays, StaysJournal, level_left, level_set};
@@ -216,8 +216,8 @@ impl<F: FileStore + Drop> Volume<F> {
     /// is asked for before the first.
     pub fn run(&mut self, calls: Vec<Call>) -> Result<Vec<Answer>, RunMemory>
         ensures each { IfOk result (λ answers. Since (F.state self.old.since) self.old.since_level
-            (λ from. AreAnswers F.state F.is_settled self.old.limit from self.old.journal
-            self.old.store calls.items answers.items self.new.store)) }
+            (λ from. AreCallsAsked F.state F.is_settled F.made self.old.limit from
+            self.old.journal self.old.store calls.items answers.items self.new.store)) }
         ensures entered { IfOk result (λ answers. self.new.journal
             ≡ self.old.journal ++ kept calls.items answers.items) }
         ensures legal { Since (F.state self.new.since) self.new.since_level (λ from. IsJournal from
@@ -358,7 +358,7 @@ impl<F: CleanedStore + Drop> Volume<F> {
         ensures at_limit { length self.old.journal ≡ self.old.limit → self.new ≡ self.old }
         ensures shown { AtPresent F.state self.old (IsVolume (F.state self.old.store)) }
         ensures answered { length self.old.journal < self.old.limit → IsCleanerAnswer
-            (cleaner_of F.state F.is_settled F.cleaner)
+            (cleaner_of F.state F.is_settled F.made F.cleaner)
             self.old.store cred.now call result self.new.store }
         ensures entered { self.new.journal ≡ self.old.journal
             ++ kept_cleaning session cred.now call result }
@@ -390,7 +390,7 @@ impl<F: CleanedStore + Drop> Volume<F> {
     /// first. Without the cleaner's steps the users' would have the same answers.
     pub fn run_steps(&mut self, steps: Vec<Step>) -> Result<Vec<StepAnswer>, RunMemory>
         ensures each { IfOk result (λ answers. Since (F.state self.old.since) self.old.since_level
-            (λ from. AreSteps (cleaner_of F.state F.is_settled F.cleaner) self.old.limit from
+            (λ from. AreSteps (cleaner_of F.state F.is_settled F.made F.cleaner) self.old.limit from
             self.old.journal self.old.store steps.items answers.items self.new.store)) }
         ensures entered { IfOk result (λ answers. self.new.journal
             ≡ self.old.journal ++ kept_steps steps.items answers.items) }
@@ -421,7 +421,7 @@ impl<F: CleanedStore + Drop> Volume<F> {
     /// Makes one step, as `call` or `clean` does.
     fn make(&mut self, step: Step) -> StepAnswer
         ensures made { Since (F.state self.old.since) self.old.since_level (λ from. IsActMade
-            (cleaner_of F.state F.is_settled F.cleaner)
+            (cleaner_of F.state F.is_settled F.made F.cleaner)
             self.old.limit from self.old.journal self.old.store
             step.cred step.act result self.new.store) }
         ensures entered { self.new.journal ≡ self.old.journal ++ kept_step step result }

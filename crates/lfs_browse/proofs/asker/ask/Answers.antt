@@ -7,7 +7,7 @@ use Rattle.lfs_browse.proofs.asker.ask.Goals as goal
 
 pub returns : goal.returns
 returns g c =
-    let r = cleaner_of g.F.FileStore.state g.F.FileStore.is_settled g.F.CleanedStore.cleaner in
+    let r = cleaner_of g.F.FileStore.state g.F.FileStore.is_settled g.F.FileStore.made g.F.CleanedStore.cleaner in
     let old = c.args.volume.now in
     let new = c.call.new.self in
     let e = c.call.ensures in
@@ -16,8 +16,11 @@ returns g c =
     let answer = c.call.result in
     record {
       ran = runs_one r old new (call_step asker.session asker.cred request) (User answer) e.shown
-          (λ from begins. call_made r.state r.is_settled from old new asker.cred request answer e.full e.at_limit
-          (e.shown from begins) (λ room. e.outcome room from begins) (e.entries from begins) e.unserved e.looks
-          e.unasked e.synced e.follows)
+          (λ from begins. record {
+            made = call_made r.state r.is_settled from old new asker.cred request answer e.full e.at_limit
+                (e.shown from begins) (λ room. e.outcome room from begins) (e.entries from begins) e.unserved e.looks
+                e.unasked e.synced e.follows;
+            asked = e.asked;
+          })
           e.entered e.limit e.follows.shape e.since e.since_level;
     }

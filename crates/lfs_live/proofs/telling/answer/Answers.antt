@@ -9,7 +9,7 @@ use Rattle.lfs_live.proofs.telling.answer.Goals as goal
 
 pub returns-in_ok-text-in-Asks-clause-told : goal.returns-in_ok-text-in-Asks-clause-told
 returns-in_ok-text-in-Asks-clause-told g c =
-    let r = talker_of (cleaner_of g.F.FileStore.state g.F.FileStore.is_settled g.F.CleanedStore.cleaner)
+    let r = talker_of (cleaner_of g.F.FileStore.state g.F.FileStore.is_settled g.F.FileStore.made g.F.CleanedStore.cleaner)
     g.F.ShowsLog.map_text g.F.ShowsLog.segment_text g.F.ShowsLog.space_text in
     let line = c.args.line in
     let speaker = c.args.speaker.now in
@@ -22,7 +22,7 @@ returns-in_ok-text-in-Asks-clause-told g c =
 
 pub returns-in_ok-text-in-Looks-clause-told : goal.returns-in_ok-text-in-Looks-clause-told
 returns-in_ok-text-in-Looks-clause-told g c =
-    let r = talker_of (cleaner_of g.F.FileStore.state g.F.FileStore.is_settled g.F.CleanedStore.cleaner)
+    let r = talker_of (cleaner_of g.F.FileStore.state g.F.FileStore.is_settled g.F.FileStore.made g.F.CleanedStore.cleaner)
     g.F.ShowsLog.map_text g.F.ShowsLog.segment_text g.F.ShowsLog.space_text in
     let line = c.args.line in
     let speaker = c.args.speaker.now in
@@ -34,7 +34,7 @@ returns-in_ok-text-in-Looks-clause-told g c =
 
 pub returns-in-Some-clause-told : goal.returns-in-Some-clause-told
 returns-in-Some-clause-told g c =
-    let r = talker_of (cleaner_of g.F.FileStore.state g.F.FileStore.is_settled g.F.CleanedStore.cleaner)
+    let r = talker_of (cleaner_of g.F.FileStore.state g.F.FileStore.is_settled g.F.FileStore.made g.F.CleanedStore.cleaner)
     g.F.ShowsLog.map_text g.F.ShowsLog.segment_text g.F.ShowsLog.space_text in
     let line = c.args.line in
     dot_answered r line.number c.args.volume.now c.args.tally.now c.args.speaker.now line.bytes.now c.in-Dot.dot
@@ -43,7 +43,7 @@ returns-in-Some-clause-told g c =
 
 pub returns-in_ok-text-in-Fault-clause-told : goal.returns-in_ok-text-in-Fault-clause-told
 returns-in_ok-text-in-Fault-clause-told g c =
-    let r = talker_of (cleaner_of g.F.FileStore.state g.F.FileStore.is_settled g.F.CleanedStore.cleaner)
+    let r = talker_of (cleaner_of g.F.FileStore.state g.F.FileStore.is_settled g.F.FileStore.made g.F.CleanedStore.cleaner)
     g.F.ShowsLog.map_text g.F.ShowsLog.segment_text g.F.ShowsLog.space_text in
     fault_answered r c.args.line.number c.args.volume.now c.args.tally.now c.args.speaker.now c.args.line.bytes.now
     c.in-Fault.fault _ _ (search rules) c.in_ok-text-in-Fault.ensures

@@ -2,9 +2,9 @@ use Rattle.std.proofs.Common.{rules, ◌≡◌, ◌∷◌, [], ◌++◌, sym, ap
 use Rattle.std.proofs.lemmas.Grind.{common_steps}
 use Rattle.lfs_model.specs.Runs.{kept, kept_entry}
 use Rattle.lfs_model.proofs.RunLemmas.{kept-append}
-use Rattle.lfs_volume.specs.CallRuns.{AreAnswers, IsCallMade}
+use Rattle.lfs_volume.specs.CallRuns.{AreCallsAsked, IsCallAsked}
 use Rattle.lfs_volume.specs.Journals.{Begins, Since}
-use Rattle.lfs_volume.proofs.CallLemmas.{AreAnswers-append, call_made}
+use Rattle.lfs_volume.proofs.CallLemmas.{AreMadeSo-append, call_made}
 use Rattle.lfs_volume.proofs.volume.Volume.run.Goals as goal
 
 pub loop-session-init : goal.loop-session-init
@@ -21,6 +21,7 @@ loop-session-preserved g c =
     let next = call.new.self in
     let state = g.F.FileStore.state in
     let settled = g.F.FileStore.is_settled in
+    let said = g.F.FileStore.made in
     let opening = c.args.self.now in
     let journal = opening.journal ++ kept c.loop-session.yielded c.loop-session.answers.items in
     let pushed : c.push_within.new.items.items ≡ c.loop-session.answers.items ++ answer
@@ -32,17 +33,22 @@ loop-session-preserved g c =
     ∷ c.next.new.self.rest.items = c.in-Some.ensures.steps.0 in
     record {
       each = λ from begins. let here = still from begins in
-          subst (λ answers. AreAnswers state settled opening.limit from opening.journal opening.store
+          subst (λ answers. AreCallsAsked state settled said opening.limit from opening.journal opening.store
           (c.loop-session.yielded ++ one ∷ []) answers next.store) (sym pushed)
-          (AreAnswers-append state settled opening.limit from opening.journal opening.store before.store next.store
+          (AreMadeSo-append (λ j this call told left.
+          IsCallAsked state settled said opening.limit from j this call.cred call.request told left)
+          opening.journal opening.store before.store next.store
           c.loop-session.yielded c.loop-session.answers.items one answer (i.each from begins)
-          (subst (λ n. IsCallMade state settled n from journal before.store one.cred one.request answer next.store)
+          (subst (λ n. IsCallAsked state settled said n from journal before.store one.cred one.request answer next.store)
           i.limit
-          (subst (λ j. IsCallMade state settled before.limit from j before.store one.cred one.request answer next.store)
-          i.entered
-          (call_made state settled from before next one.cred one.request answer made.full made.at_limit
-          (made.shown from here) (λ room. made.outcome room from here)
-          (made.entries from here) made.unserved made.looks made.unasked made.synced made.follows))));
+          (subst (λ j. IsCallAsked state settled said before.limit from j before.store one.cred one.request answer
+          next.store) i.entered
+          (record {
+            made = call_made state settled from before next one.cred one.request answer made.full made.at_limit
+                (made.shown from here) (λ room. made.outcome room from here)
+                (made.entries from here) made.unserved made.looks made.unasked made.synced made.follows;
+            asked = made.asked;
+          }))));
       entered = made.entered
           ∙ ap (λ j. j ++ kept_entry one.session one.cred one.request answer) i.entered
           ∙ append_assoc opening.journal (kept c.loop-session.yielded c.loop-session.answers.items)
