@@ -1,6 +1,5 @@
 #!/usr/bin/env bash
-# Runs programs on a mounted volume, each for at most a minute, and prints a line for each: passed, failed, not here, or
-# that it differs as docs/RULES.md says: it uses a file that it removed while it was open.
+# Runs programs on a mounted volume, each for at most a minute, and prints a line for each: passed, failed or not here.
 # try-programs.sh PROGRAM [NAME..], where PROGRAM is a built lfs_fuse, or a folder to compare with; NAMEs choose programs. As
 # root, with /dev/fuse and what is there of Debian's git, make, tar, rsync, sqlite3, vim-tiny, gcc, libc6-dev, dbench, fio and
 # stress-ng. The last line counts; the status is 0 where none failed.
@@ -36,9 +35,6 @@ mountpoint -q "$folder"
 passed=0
 failed=0
 absent=0
-differing=0
-# What uses a file that it removed.
-removers=' stress-fallocate stress-fsize stress-hdd stress-iomix stress-readahead stress-revio stress-seek '
 # try NAME COMMAND SCRIPT: user 7 runs a script in a folder of his own; it passes where no line of it fails.
 try() {
     local status=0
@@ -62,14 +58,9 @@ try() {
             echo "$1: not here, status $status"
             ;;
         *)
-            if [[ $removers = *" $1 "* ]] && grep -q 'Stale file handle' "$log"; then
-                differing=$((differing + 1))
-                echo "$1: differs, its open file is gone"
-            else
-                failed=$((failed + 1))
-                echo "$1: failed, status $status"
-                tail -n 8 "$log" | sed 's/^/    /'
-            fi
+            failed=$((failed + 1))
+            echo "$1: failed, status $status"
+            tail -n 8 "$log" | sed 's/^/    /'
             ;;
     esac
 }
@@ -180,5 +171,5 @@ for how in access chattr chdir chmod chown dentry dir dirdeep dirmany dnotify du
     esac
     try "stress-$how" stress-ng "stress-ng --$how $count $more --timeout 2 --temp-path . --verify"
 done
-echo "$passed passed, $failed failed, $differing differ, $absent not here"
+echo "$passed passed, $failed failed, $absent not here"
 [ "$failed" = 0 ]
