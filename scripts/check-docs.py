@@ -321,7 +321,7 @@ def check_words(told):
     sources = (("lfs_script/src/verb.rt", r'=> "(\w+)"'), ("lfs_print/src/cleaner.rt", r'=> "(\w+)"'),
                ("lfs_live/src/hearing.rt", r'=> "(\.\w+)"'))
     wanted = {word for file, form in sources for word in re.findall(form, (TOP / "crates" / file).read_text())}
-    wanted |= {".why", ".who", ".ls", ".cat", ".tree", "help", "?", "at", "end", "init"}
+    wanted |= {".why", ".who", ".ls", ".cat", ".tree", ".check", ".save", "help", "?", "at", "end", "init"}
     listed = set(path.read_text().split())
     for word in sorted(wanted - listed):
         told(path, 1, f"the word {word} is lacking")

@@ -14,11 +14,12 @@ use Rattle.lfs_words.specs.Wording.{words_of}
 use Rattle.lfs_words.specs.declared.fault.FaultKind.{FaultKind}
 use Rattle.lfs_words.specs.declared.fault.FaultKind.TheVariants.{Words}
 use Rattle.lfs_browse.specs.declared.look.Look.TheVariants.{Listing, Content, Tree}
-use Rattle.lfs_live.specs.Hearing.{asked_heard, asks_tree, call_heard, dot_heard, dot_of, dot_said, dot_with, dotted_heard}
-use Rattle.lfs_live.specs.Hearing.{heard_of, is_dotted, lone_dot, look_heard, path_said, tree_heard, word_heard}
+use Rattle.lfs_live.specs.Hearing.{asked_heard, asks_check, asks_save, asks_tree, call_heard, dot_heard, dot_of}
+use Rattle.lfs_live.specs.Hearing.{dot_said, dot_with, dotted_heard, heard_of, is_dotted, lone_dot, look_heard}
+use Rattle.lfs_live.specs.Hearing.{path_said, tree_heard, upkeep_heard, word_heard}
 use Rattle.lfs_live.specs.declared.fault.LineFault.TheVariants.{TooLong}
 use Rattle.lfs_live.specs.declared.hearing.Dot.{Dot}
-use Rattle.lfs_live.specs.declared.hearing.Heard.TheVariants.{Fault}
+use Rattle.lfs_live.specs.declared.hearing.Heard.TheVariants.{Check, Fault, Save}
 use Rattle.lfs_live.specs.declared.hearing.Inquiry.TheVariants.{Why, Who}
 
 reads-same : (result : Result Dot FaultKind) → ReadsAs result result
@@ -120,9 +121,22 @@ pub heard_root : (line : List ℕ) → starts_with nat_eq line (codes ".tree ") 
     → asks_tree line ≡ true → look_heard Tree (path_said (codes "/")) ≡ tree_heard line
 heard_root line other root = rw (other, root) refl
 
+-- or another one
+pub heard_upkeep : (line : List ℕ) → starts_with nat_eq line (codes ".tree ") ≡ false
+    → asks_tree line ≡ false → upkeep_heard line ≡ tree_heard line
+heard_upkeep line other none = rw (other, none) refl
+
+-- which is `.check`
+pub heard_check : (line : List ℕ) → asks_check line ≡ true → Check ≡ upkeep_heard line
+heard_check line check = rw check refl
+
+-- or `.save`
+pub heard_save : (line : List ℕ) → asks_check line ≡ false → asks_save line ≡ true → Save ≡ upkeep_heard line
+heard_save line other save = rw (other, save) refl
+
 -- or a word of the server's own
-pub heard_lone : (line : List ℕ) → starts_with nat_eq line (codes ".tree ") ≡ false
-    → asks_tree line ≡ false → dot_heard (dot_said line) ≡ tree_heard line
+pub heard_lone : (line : List ℕ) → asks_check line ≡ false → asks_save line ≡ false
+    → dot_heard (dot_said line) ≡ upkeep_heard line
 heard_lone line other none = rw (other, none) refl
 
 -- three words and more are no word of the server's own

@@ -21,6 +21,7 @@ use Rattle.lfs_volume.specs.Journals.{Begins, Since}
 use Rattle.lfs_volume.specs.Seen.{Seen}
 use Rattle.lfs_live.specs.Held.{Course, HasKept, HasRoom, Held, IsHanded, IsHandedOut, IsShut, Moves, MovesOn, Sink}
 use Rattle.lfs_live.specs.Held.{Takes, closed, course_of, drained}
+use Rattle.lfs_live.specs.Saving.{Saves}
 use Rattle.lfs_live.specs.Steps.{HasTidied}
 use Rattle.lfs_audit.specs.Runs.{TellsLine}
 use Rattle.lfs_sinks.specs.Numbered.{numbered_text}
@@ -101,6 +102,13 @@ run_follows r old new session caller act told tells =
     let ran = tells.ran in
     record { more = _; entered = ran.entered; since = ran.since; since_level = ran.since_level; shape = ran.shape }
 
+save_follows : {F : Type 0} (r : Talker F) (number : ℕ) (old new : Seen F) (told : List ℕ)
+    → Saves r number old new told → Follows r.cleaner.state old new
+save_follows r number old new told (inl (same, none)) = follows_same r.cleaner.state old new same
+save_follows r number old new told (inr (answer, syncs, comes)) =
+    let ran = syncs.ran in
+    record { more = _; entered = ran.entered; since = ran.since; since_level = ran.since_level; shape = ran.shape }
+
 pub line_follows : {F : Type 0} (r : Talker F) (number : ℕ) (handed : List Entry) (answers given : List StepAnswer)
     (old new : Seen F) (speaker then : Speaker) (said : Heard) (told : List ℕ)
     → Hears r number handed answers old speaker said told new then given → Follows r.cleaner.state old new
@@ -126,6 +134,9 @@ line_follows r number handed answers given old new speaker then (heard.Looks loo
     record { more = _; entered = ran.entered; since = ran.since; since_level = ran.since_level; shape = ran.shape }
 line_follows r number handed answers given old new speaker then (heard.Dot dot) told h =
     follows_same r.cleaner.state old new h.0
+line_follows r number handed answers given old new speaker then heard.Check told h =
+    follows_same r.cleaner.state old new h.0
+line_follows r number handed answers given old new speaker then heard.Save told h = save_follows r number old new told h.0
 line_follows r number handed answers given old new speaker then (heard.Fault fault place) told h =
     follows_same r.cleaner.state old new h.0
 

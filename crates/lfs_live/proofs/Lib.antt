@@ -6,3 +6,4 @@ pub mod SettleLemmas
 pub mod StartLemmas
 pub mod TalkLemmas
 pub mod TellingLemmas
+pub mod UpkeepLemmas

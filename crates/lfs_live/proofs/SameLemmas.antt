@@ -38,7 +38,7 @@ use Rattle.lfs_audit.proofs.RunLemmas.{begun_answers, lines_of_runs, runs_joined
 use Rattle.lfs_live.specs.Frames.{frames}
 use Rattle.lfs_live.specs.Hearing.{heard_of, is_dotted}
 use Rattle.lfs_live.specs.Held.{Course, IsHanded, IsShut, MovesOn}
-use Rattle.lfs_live.specs.Scripts.{WritesAsScript, log_talker}
+use Rattle.lfs_live.specs.Scripts.{WritesAsScript, log_talker, never_kept}
 use Rattle.lfs_live.specs.Talkers.{Talker}
 use Rattle.lfs_live.specs.Talking.{Does, Hears, HearsAll, IsLast, IsTalk, Tidies, ended, first_speaker}
 use Rattle.lfs_live.specs.Pieces.{ended_line}
@@ -360,7 +360,7 @@ script-written : (old new : Course Parts) (script behind : List ℕ) (start out 
     → old.volume.journal ≡ [] → old.handed ≡ [] → old.answers ≡ [] → old.is_open ≡ false → old.cleans ≡ false
     → plan_of script ≡ Ok plan
     → All IsShort (lines_of script)
-    → IsTalk log_talker Plain old new (Some script) (Some behind) start out
+    → IsTalk (log_talker never_kept) Plain old new (Some script) (Some behind) start out
     → (text : List ℕ) × IsOutput log_cleaner
     (Begins (state_of old.volume.since) old.volume.since_level) script old.volume.limit old.volume.store text
     × Appends start out text
@@ -368,7 +368,7 @@ script-written old new script behind start out plan empty unhanded untold closed
     let all = talk.heard in
     let rest = all.last ++ behind in
     let whole : script ≡ ended all.lines ++ rest = all.taken ∙ append_assoc (ended all.lines) all.last behind in
-    let went = script-heard log_talker old new first_speaker all.then all.lines all.texts rest 1 first_draft plan
+    let went = script-heard (log_talker never_kept) old new first_speaker all.then all.lines all.texts rest 1 first_draft plan
     all.heard closed idle refl refl
     (subst (λ (s : List ℕ). All IsShort (lines_of s)) whole short)
     (subst (λ (s : List ℕ). plan_from 1 first_draft (lines_of s) ≡ Ok plan) whole parsed) in
@@ -381,7 +381,7 @@ script-written old new script behind start out plan empty unhanded untold closed
     let steps : goes.followed.steps ≡ plan.steps = sym goes.followed.grown ∙ ap (λ (p : Planned). p.steps) fin.1 in
     let entries : new.volume.journal ≡ kept_steps made answers = ran.entered
     ∙ ap (λ (j : List Entry). j ++ kept_steps made answers) empty in
-    let kept : new.handed ++ new.volume.journal
+    let all_kept : new.handed ++ new.volume.journal
     ≡ kept_steps made answers = ap (λ (l : List Entry). l ++ new.volume.journal) none ∙ entries in
     let told : new.answers ≡ answers =
     went.3 ∙ ap (λ (l : List StepAnswer). l ++ went.0) untold ∙ goes.followed.given_so in
@@ -401,14 +401,14 @@ script-written old new script behind start out plan empty unhanded untold closed
           asked = subst (λ (s : List Step). AreAsked s made answers) steps goes.followed.asked;
           answered = begun_answers log_cleaner old.volume new.volume made answers empty ran;
           legal = λ from begins. subst (λ (l : List Entry). IsLegal (state_of old.volume.store).shape.numbers
-              (state_of old.volume.store).shape.segments l from) kept (talk.legal from begins);
+              (state_of old.volume.store).shape.segments l from) all_kept (talk.legal from begins);
           printed = refl;
         };
       },
       subst (λ (l : List ℕ). Appends start out l)
           (told-whole all.texts all.last_texts (lines_text made answers) report
           (run_report (kept_steps made answers) answers) fin.0 goes.followed.printed
-          (ap (λ (l : List Entry). run_report l new.answers) kept
+          (ap (λ (l : List Entry). run_report l new.answers) all_kept
           ∙ ap (run_report (kept_steps made answers)) told))
           written,
     )

@@ -2,6 +2,7 @@
 use Rattle.std.proofs.Common.{◌≡◌, ℕ, Bool, List, [], refl, subst, sym, Option, Result, Ok, Err, IfErr}
 use Rattle.lfs_staging.specs.declared.parts.Parts.{Parts}
 use Rattle.lfs_types.specs.Tree.{opening_world}
+use Rattle.lfs_types.specs.declared.level.Level.{Level}
 use Rattle.lfs_logstore.specs.States.{state_of}
 use Rattle.lfs_sinks.specs.Refusals.{tally_of}
 use Rattle.lfs_volume.specs.Journals.{Begins}
@@ -43,29 +44,29 @@ begun volume sink manner = record {
 }
 
 -- a talk over a volume that begins so, with its end
-abbrev pub begun_talk : {J : Type 0} (sink : Sink J) (begins : Seen Parts → Type 0) (volume : Seen Parts) (j : J)
+abbrev pub begun_talk : {J : Type 0} (are : Parts → Level → Type 0) (sink : Sink J) (begins : Seen Parts → Type 0) (volume : Seen Parts) (j : J)
     (manner : Manner) (old new : Held Parts J) (has_fault : Bool) (known left start out : Option (List ℕ))
     → old ≡ begun volume j manner → begins volume → volume.journal ≡ []
-    → (HasBegun old → IsKeptTalk log_talker manner.framing sink old new has_fault known left start out)
-    → IsKeptTalkOver begins manner new.is_open (sink.next j) (sink.contents j) (sink.contents new.sink) known left start
+    → (HasBegun old → IsKeptTalk (log_talker are) manner.framing sink old new has_fault known left start out)
+    → IsKeptTalkOver are begins manner new.is_open (sink.next j) (sink.contents j) (sink.contents new.sink) known left start
     out
-begun_talk {J} sink begins volume j manner old new has_fault known left start out is begin empty talk =
+begun_talk {J} are sink begins volume j manner old new has_fault known left start out is begin empty talk =
     let ended = subst (λ (h : Held Parts J). HasBegun h
-    → IsKeptTalk log_talker manner.framing sink h new has_fault known left start out) is talk (refl, empty) in
+    → IsKeptTalk (log_talker are) manner.framing sink h new has_fault known left start out) is talk (refl, empty) in
     record {
       talk = record { old = volume; new = course_of new ended.handed ended.answers; begun = begin; talk = ended.talk };
       kept = λ taking. (ended.kept taking).lines;
     }
 
 -- up to a read that failed
-pub begun_heard : {J : Type 0} (sink : Sink J) (begins : Seen Parts → Type 0) (volume : Seen Parts) (j : J)
+pub begun_heard : {J : Type 0} (are : Parts → Level → Type 0) (sink : Sink J) (begins : Seen Parts → Type 0) (volume : Seen Parts) (j : J)
     (manner : Manner) (old new : Held Parts J) (known left start out : Option (List ℕ))
     → old ≡ begun volume j manner → begins volume → volume.journal ≡ []
-    → (HasBegun old → HasKeptSoFar log_talker manner.framing sink old new known left start out)
-    → HasHeardOver begins manner known left start out
-begun_heard {J} sink begins volume j manner old new known left start out is begin empty heard =
+    → (HasBegun old → HasKeptSoFar (log_talker are) manner.framing sink old new known left start out)
+    → HasHeardOver are begins manner known left start out
+begun_heard {J} are sink begins volume j manner old new known left start out is begin empty heard =
     let so_far = subst (λ (h : Held Parts J). HasBegun h
-    → HasKeptSoFar log_talker manner.framing sink h new known left start out) is heard (refl, empty) in
+    → HasKeptSoFar (log_talker are) manner.framing sink h new known left start out) is heard (refl, empty) in
     record {
       old = volume;
       new = course_of new so_far.handed so_far.answers;
@@ -74,13 +75,13 @@ begun_heard {J} sink begins volume j manner old new known left start out is begi
     }
 
 -- the sink and whether it takes more, as they are handed back
-pub kept_as : {J : Type 0} (sink : Sink J) (begins : Seen Parts → Type 0) (manner : Manner) (new : Held Parts J)
+pub kept_as : {J : Type 0} (are : Parts → Level → Type 0) (sink : Sink J) (begins : Seen Parts → Type 0) (manner : Manner) (new : Held Parts J)
     (last : J) (is_open : Bool) (number : ℕ) (first known left start out : Option (List ℕ))
     → last ≡ new.sink → is_open ≡ new.is_open
-    → IsKeptTalkOver begins manner new.is_open number first (sink.contents new.sink) known left start out
-    → IsKeptTalkOver begins manner is_open number first (sink.contents last) known left start out
-kept_as {J} sink begins manner new last is_open number first known left start out same still talk =
-    subst (λ (b : Bool). IsKeptTalkOver begins manner b number first (sink.contents last) known left start out)
+    → IsKeptTalkOver are begins manner new.is_open number first (sink.contents new.sink) known left start out
+    → IsKeptTalkOver are begins manner is_open number first (sink.contents last) known left start out
+kept_as {J} are sink begins manner new last is_open number first known left start out same still talk =
+    subst (λ (b : Bool). IsKeptTalkOver are begins manner b number first (sink.contents last) known left start out)
     (sym still)
-    (subst (λ (j : J). IsKeptTalkOver begins manner new.is_open number first (sink.contents j) known left start out)
+    (subst (λ (j : J). IsKeptTalkOver are begins manner new.is_open number first (sink.contents j) known left start out)
     (sym same) talk)

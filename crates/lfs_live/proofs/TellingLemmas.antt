@@ -12,6 +12,7 @@ use Rattle.lfs_sinks.proofs.RefusalLemmas.{tally_is}
 use Rattle.lfs_volume.specs.Journals.{AtPresent}
 use Rattle.lfs_volume.specs.Seen.{Seen}
 use Rattle.lfs_live.specs.Hearing.{heard_of}
+use Rattle.lfs_live.specs.Saving.{Saves}
 use Rattle.lfs_live.specs.Steps.{HasAnswered}
 use Rattle.lfs_live.specs.Talkers.{Talker}
 use Rattle.lfs_browse.specs.Looks.{TellsLook}
@@ -97,6 +98,25 @@ look_answered {F} r number old new tally speaker line look path told is looks =
     (none_answered r number old new tally speaker speaker (heard.Looks look path) told
     (λ handed answers counted. (looks, refl, refl)))
 
+-- the volume was checked
+pub check_answered : {F : Type 0} (r : Talker F) (number : ℕ) (old : Seen F) (tally : Tally) (speaker : Speaker)
+    (line told : List ℕ) → heard_of line ≡ heard.Check
+    → AtPresent r.cleaner.state old (λ w. r.checked old.store told)
+    → HasAnswered r number old old tally tally speaker speaker (heard_of line) told
+check_answered {F} r number old tally speaker line told is tells =
+    subst (λ (h : Heard). HasAnswered r number old old tally tally speaker speaker h told) (sym is)
+    (none_answered r number old old tally speaker speaker heard.Check told
+    (λ handed answers counted. (refl, refl, tells, refl)))
+
+-- it was to be saved
+pub save_answered : {F : Type 0} (r : Talker F) (number : ℕ) (old new : Seen F) (tally : Tally) (speaker : Speaker)
+    (line told : List ℕ) → heard_of line ≡ heard.Save → Saves r number old new told
+    → HasAnswered r number old new tally tally speaker speaker (heard_of line) told
+save_answered {F} r number old new tally speaker line told is saves =
+    subst (λ (h : Heard). HasAnswered r number old new tally tally speaker speaker h told) (sym is)
+    (none_answered r number old new tally speaker speaker heard.Save told
+    (λ handed answers counted. (saves, refl, refl)))
+
 -- a fault was told
 pub fault_answered : {F : Type 0} (r : Talker F) (number : ℕ) (old : Seen F) (tally : Tally) (speaker : Speaker) (line : List ℕ)
     (fault : LineFault) (place told : List ℕ) → heard_of line ≡ heard.Fault fault place
@@ -110,7 +130,7 @@ fault_answered {F} r number old tally speaker line fault place told is text =
 pub dot_answered : {F : Type 0} (r : Talker F) (number : ℕ) (old : Seen F) (tally : Tally) (speaker : Speaker)
     (line : List ℕ) (dot : Dot) (text told : List ℕ) → heard_of line ≡ heard.Dot dot
     → ((handed : List Entry) (answers : List StepAnswer) → tally ≡ tally_of handed answers
-    → dot_text r dot handed answers old ≡ Some text)
+    → dot_text r.texts dot handed answers old ≡ Some text)
     → told ≡ text → HasAnswered r number old old tally tally speaker speaker (heard_of line) told
 dot_answered {F} r number old tally speaker line dot text told is tells same =
     subst (λ (h : Heard). HasAnswered r number old old tally tally speaker speaker h told) (sym is)

@@ -6,10 +6,12 @@ use Rattle.lfs_live.specs.declared.hearing.Dot.TheVariants.{Segment}
 use Rattle.lfs_live.specs.declared.hearing.Heard.{Heard}
 use Rattle.lfs_live.specs.declared.hearing.Heard.TheVariants as heard
 
--- What a line says is a fault; or it asks for a segment, and a fault is told, as the volume has none of that number.
+-- What a line says is a fault; or it asks for a segment, and a fault is told, as the volume has none of that number; or
+-- that the volume be saved, and a fault is told, as it isn't.
 abbrev pub is_faulty : Heard → List ℕ → Bool
 is_faulty (heard.Fault fault place) told = true
 is_faulty (heard.Dot (Segment number)) told = starts_with nat_eq told (codes "fault ")
+is_faulty heard.Save told = starts_with nat_eq told (codes "fault ")
 is_faulty said told = false
 
 -- one of some lines has a fault, of which these texts are told

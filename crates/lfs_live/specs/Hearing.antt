@@ -22,7 +22,7 @@ use Rattle.lfs_live.specs.declared.fault.LineFault.TheVariants.{TooLong, Kind}
 use Rattle.lfs_live.specs.declared.hearing.Dot.{Dot as Word}
 use Rattle.lfs_live.specs.declared.hearing.Dot.TheVariants.{Journal, Map, Segment, Space, Report, Help, Quit}
 use Rattle.lfs_live.specs.declared.hearing.Heard.{Heard}
-use Rattle.lfs_live.specs.declared.hearing.Heard.TheVariants.{Line, Asks, Looks, Dot, Fault}
+use Rattle.lfs_live.specs.declared.hearing.Heard.TheVariants.{Line, Asks, Looks, Dot, Check, Save, Fault}
 use Rattle.lfs_live.specs.declared.hearing.Inquiry.{Inquiry}
 use Rattle.lfs_live.specs.declared.hearing.Inquiry.TheVariants.{Why, Who}
 
@@ -136,11 +136,23 @@ look_heard look (Err kind) = Fault (Kind kind) (look_place look)
 abbrev pub asks_tree : List ℕ → Bool
 asks_tree line = bytes_eq line (codes ".tree")
 
--- a look at the tree below the path behind `.tree `, or below the root, as `.tree /`, or a word of the server's own
+-- whether a line asks whether the volume is well
+abbrev pub asks_check : List ℕ → Bool
+asks_check line = bytes_eq line (codes ".check")
+
+-- whether a line asks that the volume be saved
+abbrev pub asks_save : List ℕ → Bool
+asks_save line = bytes_eq line (codes ".save")
+
+-- a check of the volume, that it be saved, or a word of the server's own
+abbrev pub upkeep_heard : List ℕ → Heard
+upkeep_heard line = if asks_check line then Check else if asks_save line then Save else dot_heard (dot_said line)
+
+-- a look at the tree below the path behind `.tree `, or below the root, as `.tree /`, or one of these
 abbrev pub tree_heard : List ℕ → Heard
 tree_heard line =
     if starts_with nat_eq line (codes ".tree ") then look_heard Tree (path_said (drop 6 line)) else
-    if asks_tree line then look_heard Tree (path_said (codes "/")) else dot_heard (dot_said line)
+    if asks_tree line then look_heard Tree (path_said (codes "/")) else upkeep_heard line
 
 -- what a line says that begins with a dot and asks nothing about a call: a look at the path behind `.ls ` or `.cat `, or
 -- one of these

@@ -40,6 +40,8 @@ help_lines =
     ∷ codes ".map  what stands in each segment of the log: .map"
     ∷ codes ".segment N  each block of a segment: whose it is, where that stands now, live or dead: .segment 0"
     ∷ codes ".space  clean segments, live bytes, numbers in use, what waits, and the journal's entries: .space"
+    ∷ codes ".check  whether the volume is well, as lfs_check says of its image, once nothing waits: .check"
+    ∷ codes ".save  writes what waits, and saves the volume in the file of --image: .save"
     ∷ codes ".report  how many calls were served, denied and refused so far: .report"
     ∷ codes ".help  these lines, as help and ? alone: .help"
     ∷ codes ".quit  ends with the report, as the end of the input does: .quit"

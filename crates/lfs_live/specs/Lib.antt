@@ -6,6 +6,7 @@ pub mod Held
 pub mod HelpText
 pub mod JournalText
 pub mod Pieces
+pub mod Saving
 pub mod Scripts
 pub mod Settling
 pub mod Steps

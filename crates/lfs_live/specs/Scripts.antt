@@ -3,6 +3,8 @@ use Rattle.std.specs.Prelude.{◌≡◌, ℕ, ◌≤◌, Bool, true, false, List
 use Rattle.std.specs.Io.KnownBytes.{Appends}
 use Rattle.std.specs.List.{All}
 use Rattle.lfs_types.specs.Tree.{opening_world}
+use Rattle.lfs_types.specs.declared.level.Level.{Level}
+use Rattle.lfs_checking.specs.Standing.{IsCheckTold}
 use Rattle.lfs_logstore.specs.States.{state_of}
 use Rattle.lfs_staging.specs.declared.parts.Parts.{Parts}
 use Rattle.lfs_script.specs.PlanTypes.{Planned}
@@ -26,9 +28,13 @@ use Rattle.lfs_view.specs.SegmentText.{segment_text}
 use Rattle.lfs_view.specs.SpaceText.{space_text}
 use Rattle.lfs_server.specs.Fresh.{IsFormatFault, IsFreshLog}
 
--- the log store, as it is talked to
-abbrev pub log_talker : Talker Parts
-log_talker = talker_of log_cleaner map_text segment_text space_text
+-- the log store, as it is talked to, where this is it that it is kept
+abbrev pub log_talker : (Parts → Level → Type 0) → Talker Parts
+log_talker kept = talker_of log_cleaner map_text segment_text space_text IsCheckTold kept
+
+-- no file has it
+abbrev pub never_kept : Parts → Level → Type 0
+never_kept store level = ⊥
 
 -- a fresh volume over a log of so many segments, inode numbers and frames, with room for so many entries, whose journal
 -- begins in the opening world
@@ -55,54 +61,54 @@ begins_with volume manner =
     record { volume = volume; handed = []; answers = []; is_open = manner.is_open; cleans = manner.cleans }
 
 -- a talk over a volume that begins so
-pub record IsTalkOver (begins : Seen Parts → Type 0) (manner : Manner)
+pub record IsTalkOver (kept : Parts → Level → Type 0) (begins : Seen Parts → Type 0) (manner : Manner)
     (known left start out : Option (List ℕ)) : Type 0 where
   pub old : Seen Parts
   pub new : Course Parts
   pub begun : begins old
-  pub talk : IsTalk log_talker manner.framing (begins_with old manner) new known left start out
+  pub talk : IsTalk (log_talker kept) manner.framing (begins_with old manner) new known left start out
 
 -- The same, and where the sink took entries to the end, its bytes became these by the lines of all entries, numbered
 -- from this number on.
-pub record IsKeptTalkOver (begins : Seen Parts → Type 0) (manner : Manner) (is_open : Bool) (number : ℕ)
-    (first last known left start out : Option (List ℕ)) : Type 0 where
-  pub talk : IsTalkOver begins manner known left start out
+pub record IsKeptTalkOver (are : Parts → Level → Type 0) (begins : Seen Parts → Type 0) (manner : Manner)
+    (is_open : Bool) (number : ℕ) (first last known left start out : Option (List ℕ)) : Type 0 where
+  pub talk : IsTalkOver are begins manner known left start out
   pub kept : is_open ≡ true → IsJournalOf number first last (talk.new.handed ++ talk.new.volume.journal)
 
 -- the same up to a read that failed
-pub record HasHeardOver (begins : Seen Parts → Type 0) (manner : Manner)
+pub record HasHeardOver (kept : Parts → Level → Type 0) (begins : Seen Parts → Type 0) (manner : Manner)
     (known left start out : Option (List ℕ)) : Type 0 where
   pub old : Seen Parts
   pub new : Course Parts
   pub begun : begins old
-  pub so_far : HasHeardSoFar log_talker manner.framing (begins_with old manner) new known left start out
+  pub so_far : HasHeardSoFar (log_talker kept) manner.framing (begins_with old manner) new known left start out
 
 -- the same of a fresh volume
-abbrev pub IsLogTalk : ℕ → ℕ → ℕ → ℕ → Manner → Option (List ℕ) → Option (List ℕ) → Option (List ℕ) → Option (List ℕ)
+abbrev pub IsLogTalk : (Parts → Level → Type 0) → ℕ → ℕ → ℕ → ℕ → Manner → Option (List ℕ) → Option (List ℕ) → Option (List ℕ) → Option (List ℕ)
     → Type 0
-IsLogTalk segments inodes frames limit = IsTalkOver (IsFresh segments inodes frames limit)
+IsLogTalk kept segments inodes frames limit = IsTalkOver kept (IsFresh segments inodes frames limit)
 
-abbrev pub IsKeptLogTalk : ℕ → ℕ → ℕ → ℕ → Manner → Bool → ℕ → Option (List ℕ) → Option (List ℕ) → Option (List ℕ)
+abbrev pub IsKeptLogTalk : (Parts → Level → Type 0) → ℕ → ℕ → ℕ → ℕ → Manner → Bool → ℕ → Option (List ℕ) → Option (List ℕ) → Option (List ℕ)
     → Option (List ℕ) → Option (List ℕ) → Option (List ℕ) → Type 0
-IsKeptLogTalk segments inodes frames limit = IsKeptTalkOver (IsFresh segments inodes frames limit)
+IsKeptLogTalk kept segments inodes frames limit = IsKeptTalkOver kept (IsFresh segments inodes frames limit)
 
-abbrev pub HasHeardOfLog : ℕ → ℕ → ℕ → ℕ → Manner → Option (List ℕ) → Option (List ℕ) → Option (List ℕ)
+abbrev pub HasHeardOfLog : (Parts → Level → Type 0) → ℕ → ℕ → ℕ → ℕ → Manner → Option (List ℕ) → Option (List ℕ) → Option (List ℕ)
     → Option (List ℕ) → Type 0
-HasHeardOfLog segments inodes frames limit = HasHeardOver (IsFresh segments inodes frames limit)
+HasHeardOfLog kept segments inodes frames limit = HasHeardOver kept (IsFresh segments inodes frames limit)
 
 -- a talk over a fresh volume may end in this fault
 abbrev pub IsLogFault : ℕ → ℕ → ℕ → RunFault → Type 0
 IsLogFault segments inodes frames (Format fault) = IsFormatFault segments inodes frames fault
 IsLogFault segments inodes frames fault = IsTalkFault fault
 
--- What a talk without a sink writes, without passes unasked and frames, whose lines are a script without a fault, in which no
+-- What a talk without a sink and a file writes, without passes unasked and frames, whose lines are a script without a fault, in which no
 -- line has more than 65,536 bytes, a run of that script writes, from wherever the journal began.
 abbrev pub WritesAsScript : Type 0
 WritesAsScript =
     (old new : Course Parts) (script : List ℕ) (left start out : Option (List ℕ)) (plan : Planned)
     → old.volume.journal ≡ [] → old.handed ≡ [] → old.answers ≡ [] → old.is_open ≡ false → old.cleans ≡ false
     → plan_of script ≡ Ok plan → All (λ line. length line ≤ 65536) (lines_of script)
-    → IsTalk log_talker Plain old new (Some script) left start out
+    → IsTalk (log_talker never_kept) Plain old new (Some script) left start out
     → let v = old.volume in
     (text : List ℕ) × IsOutput log_cleaner (Begins (state_of v.since) v.since_level) script v.limit v.store text
     × Appends start out text

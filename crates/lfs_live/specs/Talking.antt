@@ -29,6 +29,7 @@ use Rattle.lfs_live.specs.Hearing.{heard_of}
 use Rattle.lfs_live.specs.Held.{Course, Held, MovesOn, Sink, Takes, course_of}
 use Rattle.lfs_live.specs.Talkers.{Talker}
 use Rattle.lfs_live.specs.Pieces.{ended_line}
+use Rattle.lfs_live.specs.Saving.{Saves}
 use Rattle.lfs_live.specs.Telling.{cut_texts, dot_text, fault_line}
 use Rattle.lfs_live.specs.declared.framing.Framing.{Framing}
 use Rattle.lfs_live.specs.declared.hearing.Dot.TheVariants.{Quit}
@@ -72,8 +73,8 @@ IsAnsweredBy w Why caller request told = told ≡ why_text w caller request
 IsAnsweredBy w Who caller request told = IsWhoTold w request told
 
 -- The same of each line, by its number, with the entries that were handed out and the answers that were told by then: a
--- call that is asked about is not made, a look makes its calls, whose refusals are not counted, and a word of the
--- server's own and a fault change nothing.
+-- call that is asked about is not made, a look makes its calls, whose refusals are not counted, a save makes its Sync,
+-- which is not counted either, and a check, another word of the server's own and a fault change nothing.
 abbrev pub Hears : {F : Type 0} → Talker F → ℕ → List Entry → List StepAnswer → Seen F → Speaker → Heard → List ℕ
     → Seen F → Speaker → List StepAnswer → Type 0
 Hears r number handed answers old speaker (heard.Line line) told new then given =
@@ -84,7 +85,11 @@ Hears r number handed answers old speaker (heard.Asks inquiry request) told new 
 Hears r number handed answers old speaker (heard.Looks look path) told new then given =
     TellsLook r.cleaner old new (asker_of speaker) look path [] told × (then ≡ speaker) × (given ≡ [])
 Hears r number handed answers old speaker (heard.Dot dot) told new then given =
-    (new ≡ old) × (then ≡ speaker) × (dot_text r dot handed answers old ≡ Some told) × (given ≡ [])
+    (new ≡ old) × (then ≡ speaker) × (dot_text r.texts dot handed answers old ≡ Some told) × (given ≡ [])
+Hears r number handed answers old speaker heard.Check told new then given =
+    (new ≡ old) × (then ≡ speaker) × AtPresent r.cleaner.state old (λ w. r.checked old.store told) × (given ≡ [])
+Hears r number handed answers old speaker heard.Save told new then given =
+    Saves r number old new told × (then ≡ speaker) × (given ≡ [])
 Hears r number handed answers old speaker (heard.Fault fault place) told new then given =
     (new ≡ old) × (then ≡ speaker) × (told ≡ fault_line number fault place) × (given ≡ [])
 

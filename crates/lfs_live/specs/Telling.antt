@@ -8,12 +8,12 @@ use Rattle.lfs_words.specs.declared.fault.FaultKind.TheVariants.{Cut, Bytes, Wor
 use Rattle.lfs_words.specs.declared.fault.FaultKind.TheVariants.{Cred, Memory}
 use Rattle.lfs_volume.specs.Seen.{Seen}
 use Rattle.lfs_live.specs.Hearing.{is_long}
-use Rattle.lfs_live.specs.Talkers.{Talker}
+use Rattle.lfs_live.specs.Talkers.{Texts}
 use Rattle.lfs_live.specs.HelpText.{help_text}
 use Rattle.lfs_live.specs.JournalText.{journal_text}
 use Rattle.lfs_live.specs.Pieces.{ended_line}
 use Rattle.lfs_live.specs.declared.fault.LineFault.{LineFault}
-use Rattle.lfs_live.specs.declared.fault.LineFault.TheVariants.{TooLong, Kind}
+use Rattle.lfs_live.specs.declared.fault.LineFault.TheVariants.{TooLong, Kind, NoImage, Unsynced, Unsaved}
 use Rattle.lfs_live.specs.declared.hearing.Dot.{Dot}
 use Rattle.lfs_live.specs.declared.hearing.Dot.TheVariants.{Journal, Map, Segment, Space, Report, Help}
 use Rattle.lfs_live.specs.declared.hearing.Dot.TheVariants.{Quit}
@@ -34,6 +34,9 @@ kind_word Memory = codes "Memory"
 abbrev pub fault_word : LineFault → List ℕ
 fault_word TooLong = codes "TooLong"
 fault_word (Kind kind) = kind_word kind
+fault_word NoImage = codes "NoImage"
+fault_word Unsynced = codes "Unsynced"
+fault_word Unsaved = codes "Unsaved"
 
 -- the line of a fault: its word, the number of the line that has it, and where it stands there
 unfoldable pub fault_line : ℕ → LineFault → List ℕ → List ℕ
@@ -57,12 +60,12 @@ entries_told kept limit handed =
 
 -- What a word of the server's own tells of a volume, of the entries that were handed out of its journal and of the answers
 -- that were told, by the texts that its store shows; `.quit` tells nothing, but ends.
-abbrev pub dot_text : {F : Type 0} → Talker F → Dot → List Entry → List StepAnswer → Seen F → Option (List ℕ)
-dot_text r (Journal count) handed answers volume = Some (journal_text count volume.journal)
-dot_text r Map handed answers volume = Some (r.map_text volume.store)
-dot_text r (Segment number) handed answers volume = Some (r.segment_text volume.store number)
-dot_text r Space handed answers volume =
-    Some (r.space_text volume.store ++ entries_told (length volume.journal) volume.limit (length handed))
-dot_text r Report handed answers volume = Some (run_report (handed ++ volume.journal) answers)
-dot_text r Help handed answers volume = Some help_text
-dot_text r Quit handed answers volume = None
+abbrev pub dot_text : {F : Type 0} → Texts F → Dot → List Entry → List StepAnswer → Seen F → Option (List ℕ)
+dot_text t (Journal count) handed answers volume = Some (journal_text count volume.journal)
+dot_text t Map handed answers volume = Some (t.map_text volume.store)
+dot_text t (Segment number) handed answers volume = Some (t.segment_text volume.store number)
+dot_text t Space handed answers volume =
+    Some (t.space_text volume.store ++ entries_told (length volume.journal) volume.limit (length handed))
+dot_text t Report handed answers volume = Some (run_report (handed ++ volume.journal) answers)
+dot_text t Help handed answers volume = Some help_text
+dot_text t Quit handed answers volume = None

@@ -17,6 +17,12 @@ pub enum LineFault {
     TooLong,
     /// It is no call, for what a script would be refused too.
     Kind(FaultKind),
+    /// The volume is to be saved, and there is no file for it.
+    NoImage,
+    /// The volume is to be saved, and what waits is not written.
+    Unsynced,
+    /// The volume is to be saved, and the file didn't get it.
+    Unsaved,
 }
 
 impl LineFault {
@@ -27,6 +33,9 @@ impl LineFault {
         match self {
             LineFault::TooLong => "TooLong",
             LineFault::Kind(kind) => kind_word(kind),
+            LineFault::NoImage => "NoImage",
+            LineFault::Unsynced => "Unsynced",
+            LineFault::Unsaved => "Unsaved",
         }
     }
 }

@@ -4,7 +4,7 @@ ghost use Rattle.std.specs.Prelude.{◌≡◌, map, IfOk};
 ghost use Rattle.lfs_script.specs.Plans.{line_said};
 ghost use Rattle.lfs_script.specs.Requests.{lone_path};
 ghost use Rattle.lfs_words.specs.Faults.{ReadsAs};
-ghost use Rattle.lfs_live.specs.Hearing.{asked_act, asked_heard, asked_line, asks_help, asks_tree, call_heard, dot_alone, dot_heard, dot_of, dot_said, dot_with, dot_word, dotted_heard, heard_of, is_dotted, is_long, lone_dot, look_heard, look_place, no_call, other_heard, path_said, tree_heard, word_heard};
+ghost use Rattle.lfs_live.specs.Hearing.{asked_act, asked_heard, asked_line, asks_check, asks_help, asks_save, asks_tree, call_heard, dot_alone, dot_heard, dot_of, dot_said, dot_with, dot_word, dotted_heard, heard_of, is_dotted, is_long, lone_dot, look_heard, look_place, no_call, other_heard, path_said, tree_heard, upkeep_heard, word_heard};
 
 use crate::fault::{LineFault, Place};
 use lfs_browse::look::Look;
@@ -61,6 +61,10 @@ pub enum Heard {
     Looks(Look, Path),
     /// A word of the server's own.
     Dot(Dot),
+    /// Tells whether the volume is well. It changes nothing.
+    Check,
+    /// Saves the volume, behind a Sync.
+    Save,
     /// Nothing that is done, for this fault, which stands there.
     Fault(LineFault, Place),
 }
@@ -192,7 +196,7 @@ fn hear_tree(alloc: Global, line: &[u8]) -> Result<Heard, AllocError>
     if asks_tree(line) {
         return hear_look(alloc, Look::Tree, b"/");
     }
-    hear_dot(alloc, line)
+    hear_upkeep(alloc, line)
 }
 
 /// Whether a line asks for the tree below the root.
@@ -200,6 +204,33 @@ fn asks_tree(line: &[u8]) -> bool
     ensures { result ≡ asks_tree line.now }
 {
     line == b".tree".as_slice()
+}
+
+/// What a line says that begins with a dot, asks nothing about a call and looks at no path.
+fn hear_upkeep(alloc: Global, line: &[u8]) -> Result<Heard, AllocError>
+    ensures { IfOk result (λ heard. heard ≡ upkeep_heard line.now) }
+{
+    if asks_check(line) {
+        return Ok(Heard::Check);
+    }
+    if asks_save(line) {
+        return Ok(Heard::Save);
+    }
+    hear_dot(alloc, line)
+}
+
+/// Whether a line asks whether the volume is well.
+fn asks_check(line: &[u8]) -> bool
+    ensures { result ≡ asks_check line.now }
+{
+    line == b".check".as_slice()
+}
+
+/// Whether a line asks that the volume be saved.
+fn asks_save(line: &[u8]) -> bool
+    ensures { result ≡ asks_save line.now }
+{
+    line == b".save".as_slice()
 }
 
 /// A look at the path that a word is.

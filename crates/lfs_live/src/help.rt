@@ -8,7 +8,7 @@ ghost use Rattle.lfs_live.specs.Pieces.{ended_line};
 use std::alloc::AllocError;
 
 /// Its lines: each call and each word of the server's own, with an example.
-const HELP: [&str; 37] = [
+const HELP: [&str; 39] = [
     "A line is a call, `as`, `session`, `#` and a comment, or a word with a dot. Behind each its example:",
     "as USER GROUPS [init]  who makes the calls from here on: as 7 20,30",
     "session N  the session of the calls from here on, 0 to 8: session 1",
@@ -43,6 +43,8 @@ const HELP: [&str; 37] = [
     ".map  what stands in each segment of the log: .map",
     ".segment N  each block of a segment: whose it is, where that stands now, live or dead: .segment 0",
     ".space  clean segments, live bytes, numbers in use, what waits, and the journal's entries: .space",
+    ".check  whether the volume is well, as lfs_check says of its image, once nothing waits: .check",
+    ".save  writes what waits, and saves the volume in the file of --image: .save",
     ".report  how many calls were served, denied and refused so far: .report",
     ".help  these lines, as help and ? alone: .help",
     ".quit  ends with the report, as the end of the input does: .quit",

@@ -12,5 +12,6 @@ pub mod start;
 pub mod talk;
 pub mod telling;
 pub mod tended;
+pub mod upkeep;
 pub mod watch;
 pub mod witnesses;

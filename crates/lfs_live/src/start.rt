@@ -5,7 +5,7 @@ ghost use Rattle.lfs_server.specs.Serving.{IsInRange};
 ghost use Rattle.lfs_audit.specs.declared.fault.RunFault.TheVariants.{Read as Failed};
 ghost use Rattle.lfs_live.specs.Faults.{IsTalkFault};
 ghost use Rattle.lfs_live.specs.Held.{HasBegun, sink_of};
-ghost use Rattle.lfs_live.specs.Scripts.{HasHeardOfLog, IsKeptLogTalk, IsLogFault, IsLogTalk, log_talker};
+ghost use Rattle.lfs_live.specs.Scripts.{HasHeardOfLog, IsKeptLogTalk, IsLogFault, IsLogTalk, log_talker, never_kept};
 ghost use Rattle.lfs_live.specs.Talking.{HasKeptSoFar, IsKeptTalk};
 ghost use Rattle.lfs_live.specs.declared.framing.Framing.TheVariants.{Plain};
 
@@ -13,7 +13,7 @@ use crate::framing::Framing;
 use crate::talk::{Setting, talk};
 use crate::tended::Tended;
 use crate::watch::{Nobody, Watch};
-use crate::witnesses::Witnesses;
+use crate::witnesses::{Teller, Witnesses};
 use lfs_audit::fault::RunFault;
 use lfs_logstore::LogStore;
 use lfs_server::fresh::fresh_volume;
@@ -51,13 +51,13 @@ pub fn run_kept<J: JournalSink + Drop, V: Watch<LogStore> + Drop, R: Read, W: Wr
     setup: Setup<J, V>,
 ) -> Result<Witnesses<J, V>, RunFault>
     ensures written { let p = setup.params in let before = setup.witnesses in IfOk result (λ after.
-        IsKeptLogTalk p.segments p.inodes p.frames p.journal
+        IsKeptLogTalk V.kept p.segments p.inodes p.frames p.journal
         (record { is_open = before.is_open; cleans = setup.cleans; framing = setup.framing }) after.is_open (J.next before.sink)
         (J.contents before.sink) (J.contents after.sink)
         (R.remaining reader.old) (R.remaining reader.new)
         (W.contents writer.old) (W.contents writer.new)) }
     ensures so_far { let p = setup.params in IfErr result (λ fault. fault ≡ Failed → HasHeardOfLog
-        p.segments p.inodes p.frames p.journal
+        V.kept p.segments p.inodes p.frames p.journal
         (record { is_open = setup.witnesses.is_open; cleans = setup.cleans; framing = setup.framing })
         (R.remaining reader.old) (R.remaining reader.new)
         (W.contents writer.old) (W.contents writer.new)) }
@@ -88,10 +88,10 @@ pub fn run_over<J: JournalSink + Drop, V: Watch<LogStore> + Drop, R: Read, W: Wr
     teller: &mut D,
     tended: &mut Tended<LogStore, J, V>,
 ) -> Result<bool, RunFault>
-    ensures written { IfOk result (λ has_fault. HasBegun tended.old → IsKeptTalk log_talker setting.framing
+    ensures written { IfOk result (λ has_fault. HasBegun tended.old → IsKeptTalk (log_talker V.kept) setting.framing
         (sink_of J.contents J.next) tended.old tended.new has_fault (R.remaining reader.old) (R.remaining reader.new)
         (W.contents writer.old) (W.contents writer.new)) }
-    ensures so_far { IfErr result (λ fault. fault ≡ Failed → HasBegun tended.old → HasKeptSoFar log_talker
+    ensures so_far { IfErr result (λ fault. fault ≡ Failed → HasBegun tended.old → HasKeptSoFar (log_talker V.kept)
         setting.framing (sink_of J.contents J.next) tended.old tended.new (R.remaining reader.old) (R.remaining reader.new)
         (W.contents writer.old) (W.contents writer.new)) }
     ensures opened { OnOk result (tended.new.is_open ≡ true → tended.old.is_open ≡ true) }
@@ -118,12 +118,12 @@ pub fn run_watched<V: Watch<LogStore> + Drop, R: Read, W: Write>(
     cleans: bool,
 ) -> Result<V, RunFault>
     ensures written { OnOk result (IsLogTalk
-        params.segments params.inodes params.frames params.journal
+        V.kept params.segments params.inodes params.frames params.journal
         (record { is_open = false; cleans = cleans; framing = Plain })
         (R.remaining reader.old) (R.remaining reader.new)
         (W.contents writer.old) (W.contents writer.new)) }
     ensures so_far { IfErr result (λ fault. fault ≡ Failed → HasHeardOfLog
-        params.segments params.inodes params.frames params.journal
+        V.kept params.segments params.inodes params.frames params.journal
         (record { is_open = false; cleans = cleans; framing = Plain })
         (R.remaining reader.old) (R.remaining reader.new)
         (W.contents writer.old) (W.contents writer.new)) }
@@ -133,7 +133,7 @@ pub fn run_watched<V: Watch<LogStore> + Drop, R: Read, W: Write>(
     let witnesses = Witnesses {
         sink: Nowhere,
         is_open: false,
-        program: "",
+        program: Teller::Nameless,
         watch,
     };
     let setup = Setup {
@@ -161,12 +161,12 @@ pub fn run_lines<R: Read, W: Write>(
     params: Params,
 ) -> Result<(), RunFault>
     ensures written { OnOk result (IsLogTalk
-        params.segments params.inodes params.frames params.journal
+        never_kept params.segments params.inodes params.frames params.journal
         (record { is_open = false; cleans = false; framing = Plain })
         (R.remaining reader.old) (R.remaining reader.new)
         (W.contents writer.old) (W.contents writer.new)) }
     ensures so_far { IfErr result (λ fault. fault ≡ Failed → HasHeardOfLog
-        params.segments params.inodes params.frames params.journal
+        never_kept params.segments params.inodes params.frames params.journal
         (record { is_open = false; cleans = false; framing = Plain })
         (R.remaining reader.old) (R.remaining reader.new)
         (W.contents writer.old) (W.contents writer.new)) }

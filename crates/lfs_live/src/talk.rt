@@ -26,6 +26,7 @@ use crate::telling::{NumberedLine, Speaker, answer, tell_cut, tell_report};
 use crate::tended::Tended;
 use crate::watch::Watch;
 use lfs_audit::fault::RunFault;
+use lfs_checking::standing::ChecksLog;
 use lfs_model::journal::Entry;
 use lfs_sinks::sink::JournalSink;
 use lfs_types::cleaned::CleanedStore;
@@ -66,7 +67,7 @@ pub(crate) struct Standing {
 ///
 /// `Read` where a read fails: what is told of each line that was read by then is written. `Memory` and `Write`.
 pub fn talk<
-    F: CleanedStore + ShowsLog + Drop,
+    F: CleanedStore + ShowsLog + ChecksLog + Drop,
     J: JournalSink + Drop,
     V: Watch<F> + Drop,
     R: Read,
@@ -81,12 +82,12 @@ pub fn talk<
 ) -> Result<bool, RunFault>
     ensures written { IfOk result (λ has_fault. HasBegun tended.old → IsKeptTalk
         (talker_of (cleaner_of F.state F.is_settled F.made F.cleaner)
-        F.map_text F.segment_text F.space_text) setting.framing (sink_of J.contents J.next)
+        F.map_text F.segment_text F.space_text F.checked V.kept) setting.framing (sink_of J.contents J.next)
         tended.old tended.new has_fault (R.remaining reader.old) (R.remaining reader.new)
         (W.contents writer.old) (W.contents writer.new)) }
     ensures so_far { IfErr result (λ fault. fault ≡ Read → HasBegun tended.old → HasKeptSoFar
         (talker_of (cleaner_of F.state F.is_settled F.made F.cleaner)
-        F.map_text F.segment_text F.space_text) setting.framing (sink_of J.contents J.next)
+        F.map_text F.segment_text F.space_text F.checked V.kept) setting.framing (sink_of J.contents J.next)
         tended.old tended.new (R.remaining reader.old) (R.remaining reader.new)
         (W.contents writer.old) (W.contents writer.new)) }
     ensures opened { OnOk result (tended.new.is_open ≡ true → tended.old.is_open ≡ true) }
@@ -120,7 +121,7 @@ fn report<F: FileStore + Drop, J: JournalSink + Drop, V: Drop, W: Write>(
 
 /// Reads lines up to the end of the input, or to one that quits, and answers each before it reads the next.
 fn hear_all<
-    F: CleanedStore + ShowsLog + Drop,
+    F: CleanedStore + ShowsLog + ChecksLog + Drop,
     J: JournalSink + Drop,
     V: Watch<F> + Drop,
     R: Read,
@@ -135,12 +136,12 @@ fn hear_all<
 ) -> Result<bool, RunFault>
     ensures heard { IfOk result (λ has_fault. HasBegun tended.old → HeardAll
         (talker_of (cleaner_of F.state F.is_settled F.made F.cleaner)
-        F.map_text F.segment_text F.space_text) setting.framing (sink_of J.contents J.next)
+        F.map_text F.segment_text F.space_text F.checked V.kept) setting.framing (sink_of J.contents J.next)
         tended.old tended.new has_fault (R.remaining reader.old) (R.remaining reader.new)
         (W.contents writer.old) (W.contents writer.new)) }
     ensures so_far { IfErr result (λ fault. fault ≡ Read → HasBegun tended.old → HeardSoFar
         (talker_of (cleaner_of F.state F.is_settled F.made F.cleaner)
-        F.map_text F.segment_text F.space_text) setting.framing (sink_of J.contents J.next)
+        F.map_text F.segment_text F.space_text F.checked V.kept) setting.framing (sink_of J.contents J.next)
         tended.old tended.new (R.remaining reader.old) (R.remaining reader.new)
         (W.contents writer.old) (W.contents writer.new)) }
     ensures opened { OnOk result (tended.new.is_open ≡ true → tended.old.is_open ≡ true) }
@@ -184,7 +185,7 @@ impl Standing {
 
     /// Reads a line and answers it. Whether more is to be read.
     fn hear_next<
-        F: CleanedStore + ShowsLog + Drop,
+        F: CleanedStore + ShowsLog + ChecksLog + Drop,
         J: JournalSink + Drop,
         V: Watch<F> + Drop,
         R: Read,
@@ -199,7 +200,7 @@ impl Standing {
     ) -> Result<bool, RunFault>
         ensures next { IfOk result (λ goes_on. goes_on ≡ true → HearsNext
             (talker_of (cleaner_of F.state F.is_settled F.made F.cleaner)
-            F.map_text F.segment_text F.space_text) (sink_of J.contents J.next)
+            F.map_text F.segment_text F.space_text F.checked V.kept) (sink_of J.contents J.next)
             tended.old tended.new self.old self.new (R.remaining reader.old) (R.remaining reader.new)
             (W.contents writer.old) (W.contents writer.new)) }
         ensures last { IfOk result (λ goes_on. goes_on ≡ false → (tended.new ≡ tended.old) × HearsLast
@@ -243,7 +244,7 @@ impl Standing {
     /// Does what a line says, which is given without its line feed, gives the sink what it entered, and writes what is told
     /// of it; then the cleaner makes a pass where one is due. Whether more is to be read.
     fn hear_line<
-        F: CleanedStore + ShowsLog + Drop,
+        F: CleanedStore + ShowsLog + ChecksLog + Drop,
         J: JournalSink + Drop,
         V: Watch<F> + Drop,
         W: Write,
@@ -257,7 +258,7 @@ impl Standing {
     ) -> Result<bool, RunFault>
         ensures told { IfOk result (λ goes_on. goes_on ≡ true → IsTold
             (talker_of (cleaner_of F.state F.is_settled F.made F.cleaner)
-            F.map_text F.segment_text F.space_text) (sink_of J.contents J.next)
+            F.map_text F.segment_text F.space_text F.checked V.kept) (sink_of J.contents J.next)
             tended.old tended.new self.old self.new (heard_of bytes.now)
             (W.contents writer.old) (W.contents writer.new)) }
         ensures quits { IfOk result (λ goes_on. goes_on ≡ false → (tended.new ≡ tended.old)
@@ -276,6 +277,7 @@ impl Standing {
             &mut tended.volume,
             &mut tended.tally,
             &mut self.speaker,
+            &tended.watch,
             line,
         )? {
             Some(told) => {

@@ -12,7 +12,7 @@ ghost use Rattle.lfs_who.specs.WhoText.{IsWhoTold};
 ghost use Rattle.lfs_why.specs.WhyText.{why_text};
 ghost use Rattle.lfs_live.specs.Faulty.{is_faulty};
 ghost use Rattle.lfs_live.specs.Hearing.{heard_of};
-ghost use Rattle.lfs_live.specs.Talkers.{talker_of};
+ghost use Rattle.lfs_live.specs.Talkers.{talker_of, texts_of};
 ghost use Rattle.lfs_live.specs.Steps.{HasAnswered};
 ghost use Rattle.lfs_live.specs.Talking.{Does, IsAnsweredBy, LooksOn, asker_of, first_speaker};
 ghost use Rattle.lfs_live.specs.HelpText.{help_text};
@@ -24,9 +24,12 @@ use crate::fault::{LineFault, Place, push_fault};
 use crate::hearing::{Dot, Heard, Inquiry, LINE_MAX, hear};
 use crate::help::push_help;
 use crate::journal::tell_journal;
+use crate::upkeep::{check, save};
+use crate::watch::Watch;
 use lfs_audit::passing::run_step;
 use lfs_browse::asker::Asker;
 use lfs_browse::look::{Look, tell_look};
+use lfs_checking::standing::ChecksLog;
 use lfs_model::counts::Counts;
 use lfs_model::journal::Entry;
 use lfs_script::plan::{Act, Line, Step};
@@ -107,6 +110,15 @@ impl Told {
         };
         Told { text, has_fault }
     }
+
+    /// What is told where the volume is to be saved: where it isn't, a fault.
+    fn of_save(text: Vec<u8>) -> Told
+        ensures text { result.text ≡ text }
+        ensures faulty { result.has_fault ≡ is_faulty heard.Save text.items }
+    {
+        let has_fault = text.as_slice().starts_with(b"fault ");
+        Told { text, has_fault }
+    }
 }
 
 /// Does what a line says, counts the answers to its calls, and gives what is told of it, or none for a line that quits.
@@ -114,18 +126,19 @@ impl Told {
 /// # Errors
 ///
 /// Memory ran out: before the line was read, or behind the calls of which no answer is told then.
-pub fn answer<F: CleanedStore + ShowsLog + Drop>(
+pub fn answer<F: CleanedStore + ShowsLog + ChecksLog + Drop, V: Watch<F>>(
     alloc: Global,
     volume: &mut Volume<F>,
     tally: &mut Tally,
     speaker: &mut Speaker,
+    watch: &V,
     line: NumberedLine<'_>,
 ) -> Result<Option<Told>, AllocError>
     ensures told { IfOk result (λ given. MatchOption given
         ((heard_of line.entry.bytes.now ≡ heard.Dot Quit) × (volume.new ≡ volume.old) × (tally.new ≡ tally.old))
         (λ told. HasAnswered
         (talker_of (cleaner_of F.state F.is_settled F.made F.cleaner)
-        F.map_text F.segment_text F.space_text) line.entry.number
+        F.map_text F.segment_text F.space_text F.checked V.kept) line.entry.number
         volume.old volume.new tally.old tally.new speaker.old speaker.new
         (heard_of line.entry.bytes.now) told.text.items)) }
     ensures faulty { IfOk result (λ given. IfSome given (λ told. told.has_fault
@@ -150,6 +163,14 @@ pub fn answer<F: CleanedStore + ShowsLog + Drop>(
             Some(text) => Ok(Some(Told::of_dot(dot, text))),
             None => Ok(None),
         },
+        Heard::Check => {
+            let text = check(alloc, volume)?;
+            Ok(Some(Told::faultless(text)))
+        }
+        Heard::Save => {
+            let text = save(alloc, volume, watch, line.number)?;
+            Ok(Some(Told::of_save(text)))
+        }
         Heard::Fault(fault, place) => {
             let text = tell_fault(alloc, line.number, fault, &place);
             drop(place);
@@ -286,7 +307,7 @@ fn tell_dot<F: CleanedStore + ShowsLog + Drop>(
     ensures { IfOk result (λ given. MatchOption given
         (dot ≡ Quit)
         (λ text. (handed : List Entry) (answers : List StepAnswer) → tally.now ≡ tally_of handed answers
-        → dot_text (talker_of (cleaner_of F.state F.is_settled F.made F.cleaner) F.map_text F.segment_text F.space_text)
+        → dot_text (texts_of F.map_text F.segment_text F.space_text)
         dot handed answers volume.now ≡ Some text.items)) }
 {
     match dot {
@@ -380,7 +401,7 @@ fn tell_help(alloc: Global) -> Result<Vec<u8>, AllocError>
 }
 
 /// The line of a fault of the line of this number, with where it stands.
-fn tell_fault(
+pub(crate) fn tell_fault(
     alloc: Global,
     number: u64,
     fault: LineFault,

@@ -16,7 +16,7 @@ ghost use Rattle.lfs_sinks.specs.Refusals.{tally_of};
 ghost use Rattle.lfs_sinks.specs.Sums.{counts_sum};
 
 use crate::watch::Watch;
-use crate::witnesses::Witnesses;
+use crate::witnesses::{Teller, Witnesses};
 use lfs_audit::passing::run_step;
 use lfs_io::tell::tell;
 use lfs_model::journal::Entry;
@@ -59,7 +59,7 @@ pub struct Tended<F: FileStore + Drop, J: Drop, V: Drop> {
     /// Room for a journal, without entries.
     spare: Vec<Entry>,
     /// The program that tells why the sink takes no more.
-    program: &'static str,
+    program: Teller,
 }
 
 impl<F: FileStore + Drop, J: Drop, V: Drop> Model for Tended<F, J, V> {
@@ -147,7 +147,7 @@ impl<F: FileStore + Drop, J: JournalSink + Drop, V: Drop> Tended<F, J, V> {
     {
         self.is_open = false;
         self.volume.close_journal();
-        let _ = tell(teller, self.program, &fault);
+        let _ = tell(teller, self.program.name(), &fault);
     }
 
     /// Gives the sink the entries behind the first so many, and hands all out where there is no room for what a line may ask

@@ -35,7 +35,7 @@ ends_broken contents options known start out status in_before in_after out_befor
 -- the fault of a talk
 broken_talk : {F : Type 0} (contents : F → Option (List ℕ)) (options : ShellOptions)
     (known start out : Option (List ℕ)) (fault : RunFault) (told : ShellFault) → told ≡ Talk fault
-    → (fault ≡ Read → HasTalkedSoFar options known start out)
+    → (fault ≡ Read → HasTalkedSoFar contents options known start out)
     → IsLogFault options.params.segments options.params.inodes options.params.frames fault
     → HasBrokenOff contents options known start out
 broken_talk contents options known start out fault told is so_far cause = record {
@@ -113,7 +113,7 @@ pub ends_talk : {R W D F : Type 0} (contents : F → Option (List ℕ)) (options
     → IfOk heard (λ h. h.ending.is_kept ≡ true → h.ending.is_saved ≡ true → err_between ≡ err_before)
     → IfOk heard (λ h. h.ending.is_kept ≡ false → IsSome options.journal_out)
     → IfOk heard (λ h. h.ending.is_saved ≡ false → IsSome options.image)
-    → IfErr heard (λ fault. fault ≡ Read → HasTalkedSoFar options known start out)
+    → IfErr heard (λ fault. fault ≡ Read → HasTalkedSoFar contents options known start out)
     → IfErr heard IsTalkFault
     → Finishes contents options heard outcome
     → MatchResult outcome (λ _. status ≡ 0) (λ _. status ≡ 1) → IfOk outcome (λ _. err_after ≡ err_between)

@@ -8,11 +8,11 @@ use Rattle.std.specs.declared.io.buffered.BufReader.{BufReader}
 use Rattle.lfs_staging.specs.declared.parts.Parts.{Parts}
 use Rattle.lfs_volume.specs.Seen.{Seen}
 use Rattle.lfs_live.specs.Held.{HasBegun, Held, Sink, course_of}
-use Rattle.lfs_live.specs.Scripts.{HasHeardOver, IsJournalOf, Manner, log_talker}
+use Rattle.lfs_live.specs.Scripts.{HasHeardOver, IsJournalOf, Manner}
 use Rattle.lfs_live.specs.Talking.{HasKeptSoFar}
 use Rattle.lfs_live.proofs.StartLemmas.{begun, begun_heard}
 use Rattle.lfs_programs.specs.Talks.{HasHeard, HasTalked, HasTalkedSoFar, manner_of}
-use Rattle.lfs_programs.specs.Volumes.{IsBegun}
+use Rattle.lfs_programs.specs.Volumes.{IsBegun, keeps_image, shell_talker}
 use Rattle.lfs_programs.specs.declared.filming.Ending.{Ending}
 use Rattle.lfs_programs.specs.declared.options.ShellOptions.{ShellOptions}
 
@@ -91,16 +91,17 @@ talked_filed {F} {J} contents sink of options is_kept ending volume j old new kn
     }
 
 -- up to a read that failed
-pub talked_so_far : {J : Type 0} (sink : Sink J) (options : ShellOptions) (is_open : Bool) (volume : Seen Parts) (j : J)
+pub talked_so_far : {F J : Type 0} (contents : F → Option (List ℕ)) (sink : Sink J) (options : ShellOptions)
+    (is_open : Bool) (volume : Seen Parts) (j : J)
     (old new : Held Parts J) (known left start out : Option (List ℕ))
     → is_open ≡ is_some options.journal_out
     → old ≡ begun volume j (manner_of options is_open) → IsBegun options volume
-    → (HasBegun old → HasKeptSoFar log_talker options.framing sink old new known left start out)
-    → HasTalkedSoFar options known start out
-talked_so_far {J} sink options is_open volume j old new known left start out filed is begin heard = record {
+    → (HasBegun old → HasKeptSoFar (shell_talker contents) options.framing sink old new known left start out)
+    → HasTalkedSoFar contents options known start out
+talked_so_far {F} {J} contents sink options is_open volume j old new known left start out filed is begin heard = record {
   left = left;
-  heard = subst (λ (b : Bool). HasHeardOver (IsBegun options) (manner_of options b) known left start out) filed
-      (begun_heard sink (IsBegun options) volume j (manner_of options is_open) old new known left start out is begin
+  heard = subst (λ (b : Bool). HasHeardOver (keeps_image contents) (IsBegun options) (manner_of options b) known left start out) filed
+      (begun_heard (keeps_image contents) sink (IsBegun options) volume j (manner_of options is_open) old new known left start out is begin
       (begun_empty options volume begin) heard);
 }
 

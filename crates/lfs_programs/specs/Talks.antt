@@ -10,9 +10,9 @@ use Rattle.lfs_programs.specs.declared.options.ShellOptions.{ShellOptions}
 use Rattle.lfs_audit.specs.declared.fault.RunFault.{RunFault}
 use Rattle.lfs_audit.specs.declared.fault.RunFault.TheVariants.{Read}
 use Rattle.lfs_live.specs.Held.{Held, Sink}
-use Rattle.lfs_live.specs.Scripts.{HasHeardOver, IsKeptTalkOver, IsLogFault, IsTalkOver, Manner, log_talker}
+use Rattle.lfs_live.specs.Scripts.{HasHeardOver, IsKeptTalkOver, IsLogFault, IsTalkOver, Manner}
 use Rattle.lfs_live.specs.Talking.{IsKeptTalk, has_fault_in}
-use Rattle.lfs_programs.specs.Volumes.{HasSaved, IsBegun}
+use Rattle.lfs_programs.specs.Volumes.{HasSaved, IsBegun, keeps_image, shell_talker}
 use Rattle.lfs_staging.specs.declared.parts.Parts.{Parts}
 use Rattle.lfs_volume.specs.Seen.{Seen}
 use Rattle.lfs_command.specs.Ends.{EndsUnasked}
@@ -37,7 +37,7 @@ IsKept contents options is_saved left = is_saved ≡ true → IfSome options.ima
 pub record HasHeard {F J : Type 0} (contents : F → Option (List ℕ)) (sink : Sink J) (options : ShellOptions)
     (ending : Ending) (old new : Held Parts J) (known left start out : Option (List ℕ)) : Type 0 where
   pub after : Held Parts J
-  pub talk : IsKeptTalk log_talker options.framing sink old after ending.has_fault known left start out
+  pub talk : IsKeptTalk (shell_talker contents) options.framing sink old after ending.has_fault known left start out
   pub saved : IsKept contents options ending.is_saved after.volume
   pub same : new ≡ record after { volume = new.volume }
 
@@ -45,7 +45,7 @@ pub record HasHeard {F J : Type 0} (contents : F → Option (List ℕ)) (sink : 
 -- kept; and whether one of the lines that were heard has a fault.
 pub record HasAnswered {F : Type 0} (contents : F → Option (List ℕ)) (options : ShellOptions) (ending : Ending)
     (known left start out : Option (List ℕ)) : Type 0 where
-  pub talk : IsTalkOver (IsBegun options) (manner_of options false) known left start out
+  pub talk : IsTalkOver (keeps_image contents) (IsBegun options) (manner_of options false) known left start out
   pub saved : IsKept contents options ending.is_saved talk.new.volume
   pub faulty : ending.has_fault ≡ has_fault_in talk.talk.heard
 
@@ -55,7 +55,7 @@ pub record HasFiled {F : Type 0} (contents : F → Option (List ℕ)) (options :
     (known left start out : Option (List ℕ)) : Type 0 where
   pub before : F
   pub after : F
-  pub talk : IsKeptTalkOver (IsBegun options) (manner_of options true) ending.is_kept 1 (contents before)
+  pub talk : IsKeptTalkOver (keeps_image contents) (IsBegun options) (manner_of options true) ending.is_kept 1 (contents before)
       (contents after) known left start out
   pub saved : IsKept contents options ending.is_saved talk.talk.new.volume
   pub faulty : ending.has_fault ≡ has_fault_in talk.talk.talk.heard
@@ -73,9 +73,11 @@ abbrev pub whole_with : Bool → Ending
 whole_with has_fault = record { is_kept = true; is_saved = true; has_fault = has_fault }
 
 -- the same up to a read that failed
-pub record HasTalkedSoFar (options : ShellOptions) (known start out : Option (List ℕ)) : Type 0 where
+pub record HasTalkedSoFar {F : Type 0} (contents : F → Option (List ℕ)) (options : ShellOptions)
+    (known start out : Option (List ℕ)) : Type 0 where
   pub left : Option (List ℕ)
-  pub heard : HasHeardOver (IsBegun options) (manner_of options (is_some options.journal_out)) known left start out
+  pub heard : HasHeardOver (keeps_image contents) (IsBegun options)
+      (manner_of options (is_some options.journal_out)) known left start out
 
 -- a file, whose bytes these are where they are known, got the page of a film
 pub record HasPage {F : Type 0} (contents : F → Option (List ℕ)) (reel : Reel) : Type 0 where
@@ -121,7 +123,7 @@ pub record HasBrokenOff {F : Type 0} (contents : F → Option (List ℕ)) (optio
     (known start out : Option (List ℕ)) : Type 0 where
   pub fault : ShellFault
   pub cause : IsShellFault options fault
-  pub so_far : fault ≡ Talk Read → HasTalkedSoFar options known start out
+  pub so_far : fault ≡ Talk Read → HasTalkedSoFar contents options known start out
   pub answered : (why : FilmFault) → fault ≡ Film why
       → (ending : Ending) × HasTalked contents options ending known start out
   pub unkept : fault ≡ Journal → (ending : Ending) × (ending.is_kept ≡ false)

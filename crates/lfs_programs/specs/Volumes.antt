@@ -1,13 +1,15 @@
 -- The volume that a talk begins with, and the file in which it is kept.
 use Rattle.std.specs.Prelude.{◌≡◌, ◌⊎◌, ℕ, List, [], Option, IsSome}
+use Rattle.lfs_types.specs.declared.level.Level.{Level}
 use Rattle.lfs_staging.specs.declared.parts.Parts.{Parts}
 use Rattle.lfs_logstore.specs.States.{state_of}
 use Rattle.lfs_volume.specs.Journals.{AtPresent, Begins}
 use Rattle.lfs_volume.specs.Seen.{Seen}
 use Rattle.lfs_server.specs.Fresh.{IsFormatFault}
-use Rattle.lfs_checking.specs.Files.{IsLoaded, IsSaved}
+use Rattle.lfs_checking.specs.Files.{HasImage, IsLoaded, IsSaved}
 use Rattle.lfs_audit.specs.declared.fault.RunFault.TheVariants as run
-use Rattle.lfs_live.specs.Scripts.{IsFresh}
+use Rattle.lfs_live.specs.Scripts.{IsFresh, log_talker}
+use Rattle.lfs_live.specs.Talkers.{Talker}
 use Rattle.lfs_programs.specs.declared.fault.ShellFault.{ShellFault}
 use Rattle.lfs_programs.specs.declared.fault.ShellFault.TheVariants.{Talk, Image}
 use Rattle.lfs_programs.specs.declared.options.ShellOptions.{ShellOptions}
@@ -34,6 +36,13 @@ IsUnbegun options (Talk (run.Format fault)) =
 IsUnbegun options (Talk run.Memory) = Unit {0}
 IsUnbegun options (Image fault) = IsSome options.image
 IsUnbegun options fault = ⊥
+
+-- the log store, as `lfs_shell` is talked to: it is kept where a file got its image
+abbrev pub keeps_image : {F : Type 0} → (F → Option (List ℕ)) → Parts → Level → Type 0
+keeps_image contents store level = HasImage contents store.log level
+
+abbrev pub shell_talker : {F : Type 0} → (F → Option (List ℕ)) → Talker Parts
+shell_talker contents = log_talker (keeps_image contents)
 
 -- a file got the image of what a talk left of a volume: a store of which nothing waits, and a level, that show the tree
 -- that the journal led to

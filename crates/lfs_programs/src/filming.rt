@@ -4,23 +4,25 @@ ghost use Rattle.std.specs.Prelude.{◌≡◌, true, false, IfErr, IfOk, IsSome,
 ghost use Rattle.lfs_audit.specs.declared.fault.RunFault.TheVariants.{Read as Failed};
 ghost use Rattle.lfs_live.specs.Faults.{IsTalkFault};
 ghost use Rattle.lfs_live.specs.Held.{HasBegun, sink_of};
-ghost use Rattle.lfs_live.specs.Scripts.{log_talker};
 ghost use Rattle.lfs_live.specs.Talking.{HasKeptSoFar};
 ghost use Rattle.lfs_programs.specs.Talks.{Finishes, HasHeard, HasPage, HasTalked, HasTalkedSoFar, IsFilmed};
-ghost use Rattle.lfs_programs.specs.Volumes.{IsBegun};
+ghost use Rattle.lfs_programs.specs.Volumes.{IsBegun, shell_talker};
 
 use crate::fault::{FilmFault, ShellFault};
 use crate::options::ShellOptions;
 use crate::volume::keep;
 use lfs_audit::fault::RunFault;
+use lfs_checking::fault::KeepFault;
+use lfs_checking::keeping::save_file;
 use lfs_film::film::Film;
 use lfs_live::start::run_over;
 use lfs_live::talk::Setting;
 use lfs_live::tended::Tended;
-use lfs_live::watch::Watch;
-use lfs_live::witnesses::Witnesses;
+use lfs_live::watch::{Unkept, Watch};
+use lfs_live::witnesses::{Teller, Witnesses};
 use lfs_logstore::LogStore;
 use lfs_sinks::sink::{JournalSink, LineSink, Nowhere};
+use lfs_types::level::Level;
 use lfs_volume::volume::Volume;
 use std::alloc::{AllocError, Global};
 use std::fs::{self, File};
@@ -33,14 +35,37 @@ pub(crate) const NAME: &str = "lfs_shell";
 /// The name of a film's file while it is written, behind that of the film.
 const PART: &str = ".part";
 
-/// One who is shown each line that was answered.
+/// One who is shown each line that was answered, and keeps the volume where a line asks for that.
 #[derive(Drop)]
-pub(crate) struct Filming {
+pub(crate) struct Filming<'a, F: Files> {
     /// The film, where one is made.
     film: Option<Film>,
+    /// The files.
+    files: &'a F,
+    /// The image's file, where one is asked for.
+    image: Option<&'a str>,
 }
 
-impl Watch<LogStore> for Filming {
+impl<F: Files> Watch<LogStore> for Filming<'_, F> {
+    ghost use Rattle.lfs_checking.specs.Files.{HasImage};
+
+    ghost kept = { λ store level. HasImage F.File.contents store.log level };
+
+    fn has_file(&self) -> bool {
+        self.image.is_some()
+    }
+
+    fn keep(&self, alloc: Global, store: &LogStore, level: Level) -> Result<(), Unkept> {
+        let Some(path) = self.image else {
+            return Err(Unkept::Unwritten);
+        };
+        match save_file(self.files, alloc, store, level, path) {
+            Ok(()) => Ok(()),
+            Err(KeepFault::Memory) => Err(Unkept::Memory),
+            Err(_) => Err(Unkept::Unwritten),
+        }
+    }
+
     fn watch(
         &mut self,
         alloc: Global,
@@ -118,20 +143,26 @@ pub(crate) fn hear<F: Files, R: Read, W: Write, D: Write>(
         → IsSome means.now.options.journal_out) }
     ensures saved { IfOk result (λ heard. heard.ending.is_saved ≡ false
         → IsSome means.now.options.image) }
-    ensures so_far { IfErr result (λ fault. fault ≡ Failed → HasTalkedSoFar means.now.options
+    ensures so_far { IfErr result (λ fault. fault ≡ Failed → HasTalkedSoFar F.File.contents means.now.options
         (R.remaining reader.old) (W.contents writer.old) (W.contents writer.new)) }
     ensures fault { IfErr result IsTalkFault }
 {
-    let Means { alloc, options, .. } = *means;
+    let Means {
+        files,
+        alloc,
+        options,
+    } = *means;
     let watch = Filming {
         film: options.film.map(|_| Film::new(alloc)),
+        files,
+        image: options.image,
     };
     let Outset { volume, journal } = outset;
     let Some(file) = journal else {
         let witnesses = Witnesses {
             sink: Nowhere,
             is_open: false,
-            program: NAME,
+            program: Teller::Shell,
             watch,
         };
         let mut tended = Tended::new(alloc, volume, options.cleans, witnesses);
@@ -145,7 +176,7 @@ pub(crate) fn hear<F: Files, R: Read, W: Write, D: Write>(
     let witnesses = Witnesses {
         sink: LineSink::new(alloc, file),
         is_open: true,
-        program: NAME,
+        program: Teller::Shell,
         watch,
     };
     let mut tended = Tended::new(alloc, volume, options.cleans, witnesses);
@@ -168,7 +199,7 @@ pub(crate) fn hear<F: Files, R: Read, W: Write, D: Write>(
 /// The talk's fault.
 fn hear_over<F: Files, J: JournalSink + Drop, R: Read, W: Write, D: Write>(
     means: &Means<'_, F>,
-    tended: &mut Tended<LogStore, J, Filming>,
+    tended: &mut Tended<LogStore, J, Filming<'_, F>>,
     reader: &mut R,
     writer: &mut W,
     teller: &mut D,
@@ -185,7 +216,7 @@ fn hear_over<F: Files, J: JournalSink + Drop, R: Read, W: Write, D: Write>(
     ensures saved { IfOk result (λ ending. ending.is_saved ≡ false
         → IsSome means.now.options.image) }
     ensures so_far { IfErr result (λ fault. fault ≡ Failed → HasBegun tended.old
-        → HasKeptSoFar log_talker means.now.options.framing (sink_of J.contents J.next)
+        → HasKeptSoFar (shell_talker F.File.contents) means.now.options.framing (sink_of J.contents J.next)
         tended.old tended.new (R.remaining reader.old) (R.remaining reader.new)
         (W.contents writer.old) (W.contents writer.new)) }
     ensures fault { IfErr result IsTalkFault }

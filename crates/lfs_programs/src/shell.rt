@@ -221,7 +221,7 @@ fn run<F: Files, R: Read, W: Write, D: Write>(
         → IsSome means.now.options.journal_out) }
     ensures saved { IfOk result (λ heard. heard.ending.is_saved ≡ false
         → IsSome means.now.options.image) }
-    ensures so_far { IfErr result (λ fault. fault ≡ Failed → HasTalkedSoFar means.now.options
+    ensures so_far { IfErr result (λ fault. fault ≡ Failed → HasTalkedSoFar F.File.contents means.now.options
         (R.remaining reader.old) (W.contents stdout.old) (W.contents stdout.new)) }
     ensures fault { IfErr result IsTalkFault }
 {

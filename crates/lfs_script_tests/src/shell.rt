@@ -127,6 +127,63 @@ fn is_unbroken_by_images<R: Files + AllocGlobal>(rt: &R) -> anyhow::Result<bool>
     Ok(all)
 }
 
+/// Lines that save a volume, and change it behind that.
+const SAVING: &str = "create /a 0644\n.save\n.check\nunlink /a\n.save now\n.journal\n.quit\n";
+
+/// What is told of them: the save's Sync is entered, and tells nothing of its own.
+const SAVED: &str = "0 ok
+saved
+ok
+segments 5 clean of 6
+bytes 768 live
+numbers 2 used of 16
+waiting 0 blocks 0 records
+0 ok
+fault Words line 5 at 1: .help tells these words
+0 as 0 0 | create /a 0644 | ok
+0 as 0 0 | sync | ok
+0 as 0 0 | unlink /a | ok
+entries 3
+served 3
+denied 0
+refused 0
+cleaner 0
+";
+
+/// Words that ask for an image, a small one.
+const SMALL: [&str; 4] = [
+    "lfs_shell",
+    "--segments=6",
+    "--inodes=16",
+    "--image=volume.img",
+];
+
+/// Whether a word saves the volume, by a Sync that is entered, and the volume goes on and is saved at the end too.
+fn is_saved_where_asked<R: Files + AllocGlobal>(rt: &R) -> bool {
+    let _ = fs::remove_file(rt, IMAGE);
+    let saved = run(rt, &SMALL, SAVING);
+    let then = run(rt, &SMALL, ".check\nstat /a\n");
+    let _ = fs::remove_file(rt, IMAGE);
+    let is_found_well = then.answers().starts_with("ok\n");
+    let is_gone = then.answers().ends_with("\n0 denied N2 ENOENT 0 1\n");
+    saved.is_done() && saved.out.as_slice() == SAVED.as_bytes() && is_found_well && is_gone
+}
+
+/// Whether what a word saved is there where the talk breaks off behind it, as its next answer finds no room.
+fn is_saved_before_a_break<R: Files + AllocGlobal>(rt: &R) -> bool {
+    let _ = fs::remove_file(rt, IMAGE);
+    let alloc = rt.alloc();
+    let mut room = [0; 11];
+    let mut out = room.as_mut_slice();
+    let mut err = Vec::new(alloc);
+    let mut stdin = "create /a 0644\n.save\nunlink /a\n".as_bytes();
+    let env = (Words { words: &SMALL }, alloc);
+    let status = lfs_shell(&env, rt, &mut stdin, &mut out, &mut err);
+    let then = run(rt, &SMALL, "stat /a\n");
+    let _ = fs::remove_file(rt, IMAGE);
+    status == 1 && then.answers() == "0 stat 4 file 0 0 0644 00000000 0\n"
+}
+
 /// A file that is rewritten and written out so often that two segments and a part of the third are written: the first time
 /// takes four blocks of the log, each other time three.
 fn rewrites<R: AllocGlobal>(rt: &R) -> anyhow::Result<String> {
@@ -236,6 +293,8 @@ fn is_framed_where_asked<R: Files + AllocGlobal>(rt: &R) -> bool {
 pub fn is_as_told<R: Files + AllocGlobal + Print>(rt: &R) -> anyhow::Result<bool> {
     let image = is_unbroken_by_images(rt)?;
     println!(rt; "lfs_shell --image: as unbroken, {image}")?;
+    let saved = is_saved_where_asked(rt) && is_saved_before_a_break(rt);
+    println!(rt; "lfs_shell .save: saved behind its sync, {saved}")?;
     let clean = is_cleaned_unasked(rt)?;
     println!(rt; "lfs_shell --clean: more clean segments, {clean}")?;
     let film = is_film_of_no_file_refused(rt);
@@ -244,5 +303,5 @@ pub fn is_as_told<R: Files + AllocGlobal + Print>(rt: &R) -> anyhow::Result<bool
     println!(rt; "lfs_shell --strict: by a line's fault, {strict}")?;
     let framed = is_framed_where_asked(rt);
     println!(rt; "lfs_shell --framed: each answer behind the count of its lines, {framed}")?;
-    Ok(image && clean && film && strict && framed)
+    Ok(image && saved && clean && film && strict && framed)
 }

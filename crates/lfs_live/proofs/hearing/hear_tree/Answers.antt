@@ -2,7 +2,7 @@ use Rattle.std.proofs.Common.{◌≡◌, ℕ, List, IfOk, subst, sym, ap, ◌∙
 use Rattle.lfs_browse.specs.declared.look.Look.TheVariants.{Tree}
 use Rattle.lfs_live.specs.Hearing.{look_heard, path_said}
 use Rattle.lfs_live.specs.declared.hearing.Heard.{Heard}
-use Rattle.lfs_live.proofs.HearingLemmas.{heard_lone, heard_root, heard_tree, rest_behind}
+use Rattle.lfs_live.proofs.HearingLemmas.{heard_root, heard_tree, heard_upkeep, rest_behind}
 use Rattle.lfs_live.proofs.hearing.hear_tree.Goals as goal
 
 pub returns-then-starts_with : goal.returns-then-starts_with
@@ -19,6 +19,6 @@ returns-then-asks_tree c =
 
 pub returns : goal.returns
 returns c =
-    subst (λ (said : Heard). IfOk c.hear_dot.result (λ heard. heard ≡ said))
-    (heard_lone c.args.line.now (sym c.starts_with.ensures.value ∙ c.if-starts_with.false)
-    (sym c.asks_tree.ensures ∙ c.if-asks_tree.false)) c.hear_dot.ensures
+    subst (λ (said : Heard). IfOk c.hear_upkeep.result (λ heard. heard ≡ said))
+    (heard_upkeep c.args.line.now (sym c.starts_with.ensures.value ∙ c.if-starts_with.false)
+    (sym c.asks_tree.ensures ∙ c.if-asks_tree.false)) c.hear_upkeep.ensures

@@ -15,7 +15,7 @@ returns-in_err-run_over-clause-so_far g c =
     made.fresh.2 made.begins in
     let exit = err_from_is_err_and c.from_residual-in_err-run_over.result c.from_residual-in_err-run_over.ensures.1 in
     rw (exit.1, exit.2)
-    (λ is. begun_heard sink (IsFresh p.segments p.inodes p.frames p.journal) c.in_ok-volume.volume before.sink
+    (λ is. begun_heard g.V.Watch.kept sink (IsFresh p.segments p.inodes p.frames p.journal) c.in_ok-volume.volume before.sink
     (record { is_open = before.is_open; cleans = c.args.setup.cleans; framing = c.args.setup.framing }) _ c.run_over.new.tended _ _ _ _
     c.new-tended.ensures fresh made.fresh.0 (c.in_err-run_over.ensures.so_far is))
 
@@ -41,9 +41,9 @@ returns-clause-written g c =
     let made = c.in_ok-volume.ensures in
     let fresh = fresh_log p.segments p.inodes p.frames p.journal c.in_ok-volume.volume made.fresh.0 made.fresh.1
     made.fresh.2 made.begins in
-    kept_as sink begins manner c.run_over.new.tended after.result.sink
+    kept_as g.V.Watch.kept sink begins manner c.run_over.new.tended after.result.sink
     after.result.is_open _ _ _ _ _ _ after.ensures.sink after.ensures.is_open
-    (begun_talk sink begins c.in_ok-volume.volume before.sink manner _ c.run_over.new.tended _ _ _ _ _
+    (begun_talk g.V.Watch.kept sink begins c.in_ok-volume.volume before.sink manner _ c.run_over.new.tended _ _ _ _ _
     c.new-tended.ensures fresh made.fresh.0 c.in_ok-run_over.ensures.written)
 
 pub returns-clause-silent : goal.returns-clause-silent

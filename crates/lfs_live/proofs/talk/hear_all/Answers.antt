@@ -11,7 +11,7 @@ pub loop-before-init : goal.loop-before-init
 loop-before-init g c =
     let s = g.F.CleanedStore in
     let r = talker_of (cleaner_of g.F.FileStore.state g.F.FileStore.is_settled g.F.FileStore.made s.cleaner) g.F.ShowsLog.map_text
-    g.F.ShowsLog.segment_text g.F.ShowsLog.space_text in
+    g.F.ShowsLog.segment_text g.F.ShowsLog.space_text g.F.ChecksLog.checked g.V.Watch.kept in
     record {
       heard = λ begins. heard_none r c.args.setting.framing
           (sink_of g.J.JournalSink.contents g.J.JournalSink.next) c.args.tended.now _ _ _ _
@@ -26,7 +26,7 @@ pub returns-in_err-hear_next-clause-so_far : goal.returns-in_err-hear_next-claus
 returns-in_err-hear_next-clause-so_far g c =
     let s = g.F.CleanedStore in
     let r = talker_of (cleaner_of g.F.FileStore.state g.F.FileStore.is_settled g.F.FileStore.made s.cleaner) g.F.ShowsLog.map_text
-    g.F.ShowsLog.segment_text g.F.ShowsLog.space_text in
+    g.F.ShowsLog.segment_text g.F.ShowsLog.space_text g.F.ChecksLog.checked g.V.Watch.kept in
     let sink = sink_of g.J.JournalSink.contents g.J.JournalSink.next in
     let exit = err_from_is_err_and c.from_residual.result c.from_residual.ensures.1 in
     rw (exit.1, exit.2)
@@ -40,7 +40,7 @@ pub returns-then-not-branch-clause-heard : goal.returns-then-not-branch-clause-h
 returns-then-not-branch-clause-heard g c =
     let s = g.F.CleanedStore in
     let r = talker_of (cleaner_of g.F.FileStore.state g.F.FileStore.is_settled g.F.FileStore.made s.cleaner) g.F.ShowsLog.map_text
-    g.F.ShowsLog.segment_text g.F.ShowsLog.space_text in
+    g.F.ShowsLog.segment_text g.F.ShowsLog.space_text g.F.ChecksLog.checked g.V.Watch.kept in
     let sink = sink_of g.J.JournalSink.contents g.J.JournalSink.next in
     let last = c.in_ok-hear_next.ensures.last c.if-not-branch.true in
     λ begins. heard_last r c.args.setting.framing sink c.args.tended.now c.loop-before.tended c.hear_next.new.tended
@@ -64,7 +64,7 @@ pub loop-before-preserved : goal.loop-before-preserved
 loop-before-preserved g c =
     let s = g.F.CleanedStore in
     let r = talker_of (cleaner_of g.F.FileStore.state g.F.FileStore.is_settled g.F.FileStore.made s.cleaner) g.F.ShowsLog.map_text
-    g.F.ShowsLog.segment_text g.F.ShowsLog.space_text in
+    g.F.ShowsLog.segment_text g.F.ShowsLog.space_text g.F.ChecksLog.checked g.V.Watch.kept in
     let sink = sink_of g.J.JournalSink.contents g.J.JournalSink.next in
     let next = c.in_ok-hear_next.ensures.next c.if-not-branch.false in
     record {
@@ -88,7 +88,7 @@ pub returns-clause-so_far : goal.returns-clause-so_far
 returns-clause-so_far g c =
     let s = g.F.CleanedStore in
     let r = talker_of (cleaner_of g.F.FileStore.state g.F.FileStore.is_settled g.F.FileStore.made s.cleaner) g.F.ShowsLog.map_text
-    g.F.ShowsLog.segment_text g.F.ShowsLog.space_text in
+    g.F.ShowsLog.segment_text g.F.ShowsLog.space_text g.F.ChecksLog.checked g.V.Watch.kept in
     let sink = sink_of g.J.JournalSink.contents g.J.JournalSink.next in
     λ is begins. heard_enough r c.args.setting.framing sink c.args.tended.now c.loop-before.tended c.loop-before.standing.speaker
     c.loop-before.before c.loop-before.standing.has_fault _ _ _ _

@@ -9,7 +9,7 @@ abbrev pub invariant-loop-before : goal.invariant-loop-before
 invariant-loop-before g l =
     let s = g.F.CleanedStore in
     let r = talker_of (cleaner_of g.F.FileStore.state g.F.FileStore.is_settled g.F.FileStore.made s.cleaner) g.F.ShowsLog.map_text
-    g.F.ShowsLog.segment_text g.F.ShowsLog.space_text in
+    g.F.ShowsLog.segment_text g.F.ShowsLog.space_text g.F.ChecksLog.checked g.V.Watch.kept in
     record {
       heard : HasBegun l.fn.tended → HasHeard r l.fn.setting.framing
           (sink_of g.J.JournalSink.contents g.J.JournalSink.next) l.fn.tended l.tended l.standing.speaker l.before

@@ -9,7 +9,7 @@ pub returns-in_err-has_fault-clause-so_far : goal.returns-in_err-has_fault-claus
 returns-in_err-has_fault-clause-so_far g c =
     let s = g.F.CleanedStore in
     let r = talker_of (cleaner_of g.F.FileStore.state g.F.FileStore.is_settled g.F.FileStore.made s.cleaner) g.F.ShowsLog.map_text
-    g.F.ShowsLog.segment_text g.F.ShowsLog.space_text in
+    g.F.ShowsLog.segment_text g.F.ShowsLog.space_text g.F.ChecksLog.checked g.V.Watch.kept in
     let sink = sink_of g.J.JournalSink.contents g.J.JournalSink.next in
     let exit = err_from_is_err_and c.from_residual.result c.from_residual.ensures.1 in
     rw (exit.1, exit.2)
@@ -20,7 +20,7 @@ pub returns-clause-written : goal.returns-clause-written
 returns-clause-written g c =
     let s = g.F.CleanedStore in
     let r = talker_of (cleaner_of g.F.FileStore.state g.F.FileStore.is_settled g.F.FileStore.made s.cleaner) g.F.ShowsLog.map_text
-    g.F.ShowsLog.segment_text g.F.ShowsLog.space_text in
+    g.F.ShowsLog.segment_text g.F.ShowsLog.space_text g.F.ChecksLog.checked g.V.Watch.kept in
     let sink = sink_of g.J.JournalSink.contents g.J.JournalSink.next in
     λ begins. talk_ended r c.args.setting.framing sink c.args.tended.now c.hear_all.new.tended
     c.in_ok-has_fault.has_fault _ _ _ (g.W.Write.contents c.hear_all.new.writer) _

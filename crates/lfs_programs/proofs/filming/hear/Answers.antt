@@ -7,7 +7,7 @@ pub returns-in_err-ending-clause-so_far : goal.returns-in_err-ending-clause-so_f
 returns-in_err-ending-clause-so_far g c =
     let exit = err_from_is_err_and c.from_residual.result c.from_residual.ensures.1 in
     rw (exit.1, exit.2)
-    (λ is. talked_so_far _ c.args.means.now.options false c.args.outset.volume _ _ c.hear_over.new.tended
+    (λ is. talked_so_far g.F.File.Write.contents _ c.args.means.now.options false c.args.outset.volume _ _ c.hear_over.new.tended
     _ (g.R.Read.remaining c.hear_over.new.reader) _ _
     (sym (ap is_some c.in_default.is) ∙ c.requires.filed) c.new-tended.ensures c.requires.begun
     (c.in_err-ending.ensures.so_far is))
@@ -36,7 +36,7 @@ returns-in_err-ending-2-clause-so_far g c =
     let residual = c.from_residual-in_err-ending-2 in
     let exit = err_from_is_err_and residual.result residual.ensures.1 in
     rw (exit.1, exit.2)
-    (λ is. talked_so_far _ c.args.means.now.options true c.args.outset.volume _ _ c.hear_over-2.new.tended
+    (λ is. talked_so_far g.F.File.Write.contents _ c.args.means.now.options true c.args.outset.volume _ _ c.hear_over-2.new.tended
     _ (g.R.Read.remaining c.hear_over-2.new.reader) _ _
     (sym (ap is_some c.in-Some.is) ∙ c.requires.filed) c.new-tended-2.ensures c.requires.begun
     (c.in_err-ending-2.ensures.so_far is))

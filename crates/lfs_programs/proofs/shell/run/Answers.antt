@@ -7,7 +7,7 @@ use Rattle.lfs_programs.proofs.shell.run.Goals as goal
 pub returns-in-Ok-clause-so_far : goal.returns-in-Ok-clause-so_far
 returns-in-Ok-clause-so_far g c =
     subst (λ (known : Option (List ℕ)). IfErr c.hear.result (λ fault. fault ≡ Read
-    → HasTalkedSoFar c.args.means.now.options known (g.W.Write.contents c.args.stdout.now)
+    → HasTalkedSoFar g.F.File.Write.contents c.args.means.now.options known (g.W.Write.contents c.args.stdout.now)
     (g.W.Write.contents c.hear.new.writer)))
     (pieces_left (λ b. g.R.Read.remaining b.now) c.in-Ok.pieces _ c.in-Ok.ensures.inner c.in-Ok.ensures.empty
     (ap (λ (n : ℕ). n == 0) c.in-Ok.ensures.capacity)) c.hear.ensures.so_far
