@@ -35,11 +35,11 @@ use Rattle.lfs_mount.specs.Handled.{Behind, BehindFree, BehindMissing, GoesOnFla
 use Rattle.lfs_mount.specs.Handled.{IsHandled, IsIdle, IsLookedAt, IsMade, IsReleased, IsRename, IsRenamed}
 use Rattle.lfs_mount.specs.Handled.{IsRenamedToFree, IsSet, IsSetAttr, IsSetJudged, IsTold, Unless, is_missing}
 use Rattle.lfs_mount.specs.Making.{AreMade, calls_as}
-use Rattle.lfs_mount.specs.Opens.{OnKept, kept_for}
+use Rattle.lfs_mount.specs.Leaving.{OnKept, kept_for}
 use Rattle.lfs_mount.specs.Runs.{GoesOn}
 use Rattle.lfs_mount.specs.declared.mount.Beside.{Beside}
 use Rattle.lfs_mount.specs.declared.mount.Sizes.{Sizes}
-use Rattle.lfs_mount.specs.declared.kept.Kept.{Kept}
+use Rattle.lfs_opens.specs.declared.kept.Kept.{Kept}
 use Rattle.lfs_mount.proofs.LookedLemmas.{look_goes}
 use Rattle.lfs_mount.proofs.TendingLemmas.{goes_on_again, goes_on_none}
 

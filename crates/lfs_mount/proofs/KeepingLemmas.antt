@@ -27,11 +27,13 @@ use Rattle.lfs_fuse_calls.specs.declared.told.Told.TheVariants as told
 use Rattle.lfs_mount.specs.Answered.{IsHeard, IsToldDated, IsToldKept}
 use Rattle.lfs_mount.specs.Handled.{hangs_in}
 use Rattle.lfs_mount.specs.Keeping.{AreStillKept, IsStillKept, StaysUnless, ChangesIf, is_closed, is_slot}
-use Rattle.lfs_mount.specs.Opens.{AreLeft, AreSettled, AreUnkept, ArePreparedFor, IsFree, IsLeaving, IsPrepared, OnKept}
-use Rattle.lfs_mount.specs.Opens.{closed_at, kept_for, opened_in, opened_on, opener_of, slot_of, unkept, OnOpener, IsKept}
-use Rattle.lfs_mount.specs.Rewritten.{AreChangedIf, Shown, file_behind, is_rewrite, kept_behind, shown_slot}
-use Rattle.lfs_mount.specs.declared.kept.Kept.{Kept}
-use Rattle.lfs_mount.specs.declared.kept.OpenFile.{OpenFile}
+use Rattle.lfs_opens.specs.Opens.{AreLeft, AreSettled, AreUnkept, IsFree}
+use Rattle.lfs_mount.specs.Leaving.{ArePreparedFor, IsLeaving, IsPrepared, OnKept}
+use Rattle.lfs_opens.specs.Opens.{closed_at, opened_in, opened_on, opener_of, slot_of, unkept}
+use Rattle.lfs_mount.specs.Leaving.{kept_for, OnOpener, IsKept}
+use Rattle.lfs_opens.specs.Rewritten.{AreChangedIf, Shown, file_behind, is_rewrite, kept_behind, shown_slot}
+use Rattle.lfs_opens.specs.declared.kept.Kept.{Kept}
+use Rattle.lfs_opens.specs.declared.kept.OpenFile.{OpenFile}
 use Rattle.lfs_mount.specs.declared.mount.Beside.{Beside}
 use Rattle.lfs_mount.specs.declared.mount.Sizes.{Sizes}
 

@@ -13,9 +13,10 @@ use Rattle.lfs_fuse_wire.specs.declared.handles.Write.{Write}
 use Rattle.lfs_fuse_wire.specs.declared.attributes.Time.{Time}
 use Rattle.lfs_fuse_calls.specs.declared.told.Told.{Told}
 use Rattle.lfs_mount.specs.Answered.{IsToldKept}
-use Rattle.lfs_mount.specs.Opens.{OnKept, file_at_slot, kept_for, kept_to, slot_of, where_gone}
-use Rattle.lfs_mount.specs.Rewritten.{AreRewritten, TellsWritten, end_of, part_of}
-use Rattle.lfs_mount.specs.declared.kept.Kept.{Kept}
+use Rattle.lfs_opens.specs.Opens.{file_at_slot, kept_to, slot_of}
+use Rattle.lfs_mount.specs.Leaving.{OnKept, kept_for, where_gone}
+use Rattle.lfs_opens.specs.Rewritten.{AreRewritten, TellsWritten, end_of, part_of}
+use Rattle.lfs_opens.specs.declared.kept.Kept.{Kept}
 use Rattle.lfs_mount.specs.declared.mount.Beside.{Beside}
 
 module _ {F : Type 0} (now : Time) (caller : Caller) (node : ℕ) (message : Said) (old new : Seen F)

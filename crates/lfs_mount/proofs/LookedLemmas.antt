@@ -8,7 +8,7 @@ use Rattle.lfs_volume.specs.Journals.{AtPresent, IsJournal}
 use Rattle.lfs_volume.specs.Seen.{Seen}
 use Rattle.lfs_nodes.specs.declared.parts.Parts.{Parts}
 use Rattle.lfs_nodes.specs.Nodes.{AreNodes, known}
-use Rattle.lfs_mount.specs.Opens.{IsLooked}
+use Rattle.lfs_mount.specs.Leaving.{IsLooked}
 use Rattle.lfs_mount.specs.Runs.{GoesOn, IsRun}
 use Rattle.lfs_mount.specs.Trees.{StayTrue}
 

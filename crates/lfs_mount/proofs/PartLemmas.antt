@@ -4,7 +4,7 @@ use Rattle.std.proofs.Common.{subst, arith, append_assoc, length-append}
 use Rattle.std.proofs.lemmas.List.{drop-drop}
 use Rattle.lfs_types.specs.Caller.{Caller}
 use Rattle.lfs_types.specs.Tree.{World}
-use Rattle.lfs_mount.specs.Opens.{IsPiece, IsReadBy, bytes_at}
+use Rattle.lfs_mount.specs.Leaving.{IsPiece, IsReadBy, bytes_at}
 
 part_rest : (k : ℕ) (rest : List ℕ) → take k rest ++ drop (length (take k rest)) rest ≡ rest
 part_rest zero rest = refl

@@ -21,14 +21,16 @@ use Rattle.lfs_stamps.specs.Change.{change_of, other_node}
 use Rattle.lfs_stamps.specs.Times.{dated, stamped}
 use Rattle.lfs_mount.specs.Handled.{IsTold, hangs_in}
 use Rattle.lfs_mount.specs.Keeping.{AreStillKept}
-use Rattle.lfs_mount.specs.Loans.{due, noted, with_handle}
-use Rattle.lfs_mount.specs.Opens.{AreLeft, ArePreparedFor, IsFree, IsLastLook, IsLeaving, IsLooked, OnKept, TellsKept}
-use Rattle.lfs_mount.specs.Opens.{kept_for, opened_on}
-use Rattle.lfs_mount.specs.Rewritten.{AreRewritten}
+use Rattle.lfs_opens.specs.Loans.{due, noted, with_handle}
+use Rattle.lfs_opens.specs.Opens.{AreLeft, IsFree, TellsKept}
+use Rattle.lfs_mount.specs.Leaving.{ArePreparedFor, IsLastLook, IsLeaving, IsLooked, OnKept}
+use Rattle.lfs_opens.specs.Opens.{opened_on}
+use Rattle.lfs_mount.specs.Leaving.{kept_for}
+use Rattle.lfs_opens.specs.Rewritten.{AreRewritten}
 use Rattle.lfs_mount.specs.declared.mount.Beside.{Beside}
 use Rattle.lfs_mount.specs.declared.mount.Sizes.{Sizes}
-use Rattle.lfs_mount.specs.declared.kept.Kept.{Kept}
-use Rattle.lfs_mount.specs.declared.kept.OpenFile.{OpenFile}
+use Rattle.lfs_opens.specs.declared.kept.Kept.{Kept}
+use Rattle.lfs_opens.specs.declared.kept.OpenFile.{OpenFile}
 
 -- the inode number of each node of a mount
 abbrev pub rows_in : Parts → ℕ → Option ℕ

@@ -8,10 +8,11 @@ use Rattle.lfs_nodes.specs.Reads.{hang_in}
 use Rattle.lfs_fuse_wire.specs.Said.{Said, release}
 use Rattle.lfs_fuse_wire.specs.declared.attributes.Time.{Time}
 use Rattle.lfs_fuse_calls.specs.declared.told.Told.{Told}
-use Rattle.lfs_mount.specs.Opens.{kept_for, slot_of}
-use Rattle.lfs_mount.specs.Rewritten.{Shown, file_behind, is_rewrite, kept_behind, shown_file, shown_slot}
-use Rattle.lfs_mount.specs.declared.kept.Kept.{Kept}
-use Rattle.lfs_mount.specs.declared.kept.OpenFile.{OpenFile}
+use Rattle.lfs_opens.specs.Opens.{slot_of}
+use Rattle.lfs_mount.specs.Leaving.{kept_for}
+use Rattle.lfs_opens.specs.Rewritten.{Shown, file_behind, is_rewrite, kept_behind, shown_file, shown_slot}
+use Rattle.lfs_opens.specs.declared.kept.Kept.{Kept}
+use Rattle.lfs_opens.specs.declared.kept.OpenFile.{OpenFile}
 
 abbrev pub is_slot : Option ℕ → ℕ → Bool
 is_slot None slot = false

@@ -2,10 +2,8 @@ pub mod Answered
 pub mod Flags
 pub mod Handled
 pub mod Keeping
-pub mod Loans
+pub mod Leaving
 pub mod Making
-pub mod Opens
-pub mod Rewritten
 pub mod Room
 pub mod Runs
 pub mod Tending

@@ -6,14 +6,13 @@ ghost use Rattle.lfs_fuse_calls.specs.Telling.{TellsBytes};
 ghost use Rattle.lfs_fuse_wire.specs.Said.{said};
 ghost use Rattle.lfs_fuse_wire.specs.Views.{view};
 ghost use Rattle.lfs_mount.specs.Answered.{IsAnswered, IsHeard, IsToldDated, IsToldKept, IsToldKeptOrDated, live_in, replied};
-ghost use Rattle.lfs_mount.specs.Opens.{OnKept, kept_for};
+ghost use Rattle.lfs_mount.specs.Leaving.{OnKept, kept_for};
 ghost use Rattle.lfs_mount.specs.Runs.{GoesOn};
 ghost use Rattle.lfs_mount.specs.Trees.{StayTrue};
 
-use crate::loans::with_handle;
+use lfs_opens::loans::with_handle;
 use crate::mount::Mount;
-use crate::rewriting::new_size;
-use crate::room::MAX_WRITE;
+use lfs_opens::rewriting::{MAX_WRITE, new_size};
 use lfs_fuse_calls::caller::caller;
 use lfs_fuse_calls::told::Told;
 use lfs_fuse_reply::errno::Errno;

@@ -7,11 +7,12 @@ ghost use Rattle.lfs_fuse_calls.specs.Paths.{IsPathOf};
 ghost use Rattle.lfs_nodes.specs.Maps.{same_place};
 ghost use Rattle.lfs_nodes.specs.Nodes.{place_at};
 ghost use Rattle.lfs_mount.specs.Handled.{hangs_in};
-ghost use Rattle.lfs_mount.specs.Opens.{ArePrepared, ArePreparedFor, IsLastLook, IsLeaving, IsLooked, IsPiece, IsPrepared, IsReadBy, IsSeenSo, IsSight, IsTaken, unlinked};
+ghost use Rattle.lfs_mount.specs.Leaving.{ArePrepared, ArePreparedFor, IsLastLook, IsLeaving, IsLooked, IsPiece, IsPrepared, IsReadBy, IsSeenSo, IsSight, IsTaken, unlinked};
 
-use crate::kept::{Kept, Sight};
+use crate::sight::Sight;
+use lfs_opens::kept::Kept;
 use crate::mount::Mount;
-use crate::opens::Opens;
+use lfs_opens::opens::Opens;
 use lfs_fuse_calls::attr::attr;
 use lfs_fuse_calls::paths::path_of;
 use lfs_fuse_calls::told::Told;

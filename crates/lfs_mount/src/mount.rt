@@ -5,8 +5,8 @@ ghost use Rattle.lfs_stamps.specs.Stamps.{born};
 ghost use Rattle.lfs_mount.specs.Trees.{AreTrue};
 
 use crate::listing::Listings;
-use crate::loans::Loans;
-use crate::opens::Opens;
+use lfs_opens::loans::Loans;
+use lfs_opens::opens::Opens;
 use crate::tree::Tree;
 use lfs_fuse_wire::attributes::Time;
 use lfs_nodes::Nodes;

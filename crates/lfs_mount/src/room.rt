@@ -7,15 +7,13 @@ use crate::mount::Sizes;
 use lfs_fuse_calls::attr::attr;
 use lfs_fuse_reply::reply::{InitReply, Statfs};
 use lfs_fuse_wire::init::{Init, InitFlags};
+use lfs_opens::rewriting::MAX_WRITE;
 use lfs_types::attrs::Attrs;
 use lfs_types::store::FileStore;
 
 /// What is taken up of the kernel's offer: larger writes, O_TRUNC in OPEN, control calls of directories, set-id bits
 /// as the volume's matter, messages of 32 pages, mmap beside direct I/O.
 const WANTED: u64 = 0x10_4048_0828;
-
-/// The most bytes of a write.
-pub(crate) const MAX_WRITE: u32 = 131_072;
 
 /// The blocks of the last two segments, which are for what gives blocks back.
 const KEPT_BACK: u64 = 128;

@@ -1,7 +1,7 @@
 use Rattle.std.proofs.Common.{arith, ◌≡◌, ◌<◌, ◌++◌, ap, length}
 use Rattle.std.proofs.lemmas.Grind.{common_steps}
 use Rattle.lfs_model.specs.Steps.{world_after}
-use Rattle.lfs_mount.specs.Opens.{IsPiece}
+use Rattle.lfs_mount.specs.Leaving.{IsPiece}
 use Rattle.lfs_mount.proofs.LookedLemmas.{before_look, looked_again}
 use Rattle.lfs_mount.proofs.PartLemmas.{read_last, read_on}
 use Rattle.lfs_mount.proofs.leaving.all_shown.Goals as goal

@@ -1,6 +1,6 @@
 use Rattle.std.proofs.Common.{◌≡◌, ◌++◌, ◌+◌, ◌-◌, length, drop}
 use Rattle.lfs_volume.specs.Journals.{AtPresent}
-use Rattle.lfs_mount.specs.Opens.{IsLooked, bytes_at}
+use Rattle.lfs_mount.specs.Leaving.{IsLooked, bytes_at}
 use Rattle.lfs_mount.proofs.leaving.all_shown.Given as goal
 
 abbrev pub invariant-loop-volume : goal.invariant-loop-volume

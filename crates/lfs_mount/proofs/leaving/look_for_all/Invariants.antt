@@ -1,6 +1,6 @@
 use Rattle.std.proofs.Common.{◌≡◌, ℕ, ◌<◌, ◌≤◌, None}
 use Rattle.std.specs.Prelude.{slice_index_or}
-use Rattle.lfs_mount.specs.Opens.{IsLooked, IsPrepared, IsSeenSo}
+use Rattle.lfs_mount.specs.Leaving.{IsLooked, IsPrepared, IsSeenSo}
 use Rattle.lfs_mount.proofs.leaving.look_for_all.Given as goal
 
 abbrev pub invariant-loop-slot : goal.invariant-loop-slot

@@ -8,9 +8,9 @@ use Rattle.lfs_nodes.specs.declared.parts.Parts.{Parts}
 use Rattle.lfs_fuse_calls.specs.declared.told.Told.{Told}
 use Rattle.lfs_mount.specs.Answered.{IsToldDated, live_in, rows_in}
 use Rattle.lfs_mount.specs.Handled.{IsTold, hangs_in}
-use Rattle.lfs_mount.specs.Loans.{due, noted}
+use Rattle.lfs_opens.specs.Loans.{due, noted}
 use Rattle.lfs_mount.specs.Trees.{StayTrue}
-use Rattle.lfs_mount.specs.declared.loans.Loans.{Loans}
+use Rattle.lfs_opens.specs.declared.loans.Loans.{Loans}
 use Rattle.lfs_mount.specs.declared.mount.Sizes.{Sizes}
 use Rattle.lfs_mount.proofs.LookedLemmas.{look_then_stays}
 use Rattle.lfs_mount.proofs.mount.Mount.called.Goals as goal

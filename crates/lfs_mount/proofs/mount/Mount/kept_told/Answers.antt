@@ -7,8 +7,9 @@ use Rattle.lfs_fuse_wire.specs.Said.{write}
 use Rattle.lfs_fuse_wire.specs.Views.{view}
 use Rattle.lfs_fuse_calls.specs.Asked.{writes}
 use Rattle.lfs_mount.specs.Answered.{IsToldKept}
-use Rattle.lfs_mount.specs.Opens.{OnKept, file_at_slot, kept_for, kept_to, slot_of}
-use Rattle.lfs_mount.specs.Rewritten.{TellsWritten, end_of, part_of}
+use Rattle.lfs_opens.specs.Opens.{file_at_slot, kept_to, slot_of}
+use Rattle.lfs_mount.specs.Leaving.{OnKept, kept_for}
+use Rattle.lfs_opens.specs.Rewritten.{TellsWritten, end_of, part_of}
 use Rattle.lfs_mount.proofs.KeptLemmas.{write_kept}
 use Rattle.lfs_mount.proofs.mount.Mount.kept_told.Goals as goal
 

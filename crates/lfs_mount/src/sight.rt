@@ -1,0 +1,15 @@
+//! Where a file is to be looked at, before it is removed.
+
+use lfs_fuse_reply::attr::Attr;
+use lfs_types::path::Path;
+
+/// Where a node's file is to be looked at, and what is told of its attributes.
+#[derive(Drop)]
+pub struct Sight {
+    /// The node.
+    pub(crate) node: u64,
+    /// A path that leads to it.
+    pub(crate) path: Path,
+    /// Its attributes.
+    pub(crate) attr: Attr,
+}

@@ -1,0 +1,3 @@
+pub mod Loans
+pub mod Opens
+pub mod Rewritten
