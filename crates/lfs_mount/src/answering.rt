@@ -10,9 +10,7 @@ ghost use Rattle.lfs_mount.specs.Leaving.{OnKept, kept_for};
 ghost use Rattle.lfs_mount.specs.Runs.{GoesOn};
 ghost use Rattle.lfs_mount.specs.Trees.{StayTrue};
 
-use lfs_opens::loans::with_handle;
 use crate::mount::Mount;
-use lfs_opens::rewriting::{MAX_WRITE, new_size};
 use lfs_fuse_calls::caller::caller;
 use lfs_fuse_calls::told::Told;
 use lfs_fuse_reply::errno::Errno;
@@ -20,6 +18,8 @@ use lfs_fuse_wire::attributes::Time;
 use lfs_fuse_wire::header::Header;
 use lfs_fuse_wire::message::Message;
 use lfs_nodes::NodeId;
+use lfs_opens::loans::with_handle;
+use lfs_opens::rewriting::{MAX_WRITE, new_size};
 use lfs_stamps::change::{change_of, other_node};
 use lfs_types::cred::Cred;
 use lfs_types::store::FileStore;

@@ -5,11 +5,11 @@ ghost use Rattle.lfs_stamps.specs.Stamps.{born};
 ghost use Rattle.lfs_mount.specs.Trees.{AreTrue};
 
 use crate::listing::Listings;
-use lfs_opens::loans::Loans;
-use lfs_opens::opens::Opens;
 use crate::tree::Tree;
 use lfs_fuse_wire::attributes::Time;
 use lfs_nodes::Nodes;
+use lfs_opens::loans::Loans;
+use lfs_opens::opens::Opens;
 use lfs_stamps::times::Times;
 use lfs_types::store::FileStore;
 use lfs_volume::volume::Volume;
