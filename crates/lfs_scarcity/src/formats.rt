@@ -1,9 +1,11 @@
-//! Frames, caches and what is laid out, at their least sizes.
+//! Frames, caches, slots of open files and what is laid out, at their least sizes.
 
 use crate::told::told;
 use lfs_cache::Cache;
 use lfs_ifile::Ifile;
 use lfs_logstore::LogStore;
+use lfs_opens::loans::Loans;
+use lfs_opens::opens::Opens;
 use lfs_recency::Frames;
 use lfs_segments::segments::Segments;
 use lfs_types::store::Params;
@@ -48,5 +50,15 @@ pub fn formats<W: Write>(alloc: Global, writer: &mut W) {
     }
     if told(writer, "plain", FlatFiles::new(alloc, 16)) {
         told(writer, "plain", FlatFiles::new(alloc, 16));
+    }
+}
+
+/// The slots of a mount's open files are made, and the modes that some of these are to get.
+pub fn opens<W: Write>(alloc: Global, writer: &mut W) {
+    if told(writer, "opens", Opens::new(alloc)) {
+        told(writer, "opens", Opens::new(alloc));
+    }
+    if told(writer, "loans", Loans::new(alloc, 16)) {
+        told(writer, "loans", Loans::new(alloc, 16));
     }
 }

@@ -77,6 +77,7 @@ where
         Word::Frames => formats::frames(alloc, writer),
         Word::Cache => formats::cache(alloc, writer),
         Word::Formats => formats::formats(alloc, writer),
+        Word::Opens => formats::opens(alloc, writer),
         Word::Names => parses::names(alloc, writer),
         Word::Paths => parses::paths(alloc, writer),
         Word::Script => parses::script(alloc, reader, writer),

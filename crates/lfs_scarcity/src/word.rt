@@ -17,6 +17,8 @@ pub enum Word {
     Cache,
     /// The four things that are laid out are.
     Formats,
+    /// The slots of open files are made.
+    Opens,
     /// Names are parsed.
     Names,
     /// Paths are parsed.
@@ -36,13 +38,14 @@ pub enum Word {
 }
 
 /// Each word as it is spelled.
-const WORDS: [(&[u8], Word); 14] = [
+const WORDS: [(&[u8], Word); 15] = [
     (b"run", Word::Run),
     (b"threads", Word::Threads),
     (b"serve", Word::Serve),
     (b"frames", Word::Frames),
     (b"cache", Word::Cache),
     (b"formats", Word::Formats),
+    (b"opens", Word::Opens),
     (b"names", Word::Names),
     (b"paths", Word::Paths),
     (b"script", Word::Script),
