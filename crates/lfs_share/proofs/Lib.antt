@@ -1,0 +1,3 @@
+pub mod PassLemmas
+pub mod LiveLemmas
+pub mod ShareLemmas
