@@ -1,25 +1,32 @@
 -- Where a segment is clean, a dirty one with few live bytes is gainful (`worth`); where three are not clean, there is
 -- one, or more bytes are live than the share (`past`), for `restoring::restore`. All that are dirty having more, they
 -- have more than the share together: at most two are clean, and one is active.
-use Rattle.std.proofs.Common.{◌≡◌, ℕ, zero, suc, ◌+◌, ◌-◌, ◌*◌, ◌<◌, ◌≤◌, List, length, refl, ap}
+use Rattle.std.proofs.Common.{◌≡◌, ℕ, zero, suc, ◌+◌, ◌-◌, ◌*◌, ◌<◌, ◌≤◌, List, length, refl, ap, ◌∙◌}
 use Rattle.std.proofs.Common.{inl, inr, arith}
 use Rattle.std.proofs.lemmas.Bool.{cases_eq, cases_lt}
 use Rattle.std.specs.Prelude.{if◌then◌else◌, ◌==◌}
 use Rattle.lfs_inodes.specs.declared.inode.Inode.{Inode}
 use Rattle.lfs_ifile.specs.declared.segment.SegState.{SegState}
 use Rattle.lfs_ifile.specs.declared.segment.SegState.TheVariants.{Clean, Dirty, Active}
-use Rattle.lfs_log.specs.Parts.{live_of, state_of}
+use Rattle.lfs_segments.specs.Memory.{room_of}
+use Rattle.lfs_log.specs.Parts.{LogParts, live_of, state_of}
 use Rattle.lfs_bmap.specs.Counting.{total}
 use Rattle.lfs_bmap.specs.Log.{clean_unit}
 use Rattle.lfs_staging.specs.declared.parts.Parts.{Parts}
 use Rattle.lfs_staging.specs.Store.{IsSettled, IsStore}
-use Rattle.lfs_segwrite.specs.Applying.{waiting_blocks}
+use Rattle.lfs_segwrite.specs.Applying.{WritesWaiting, waiting_blocks}
 use Rattle.lfs_segwrite.specs.Collecting.{entries_of}
 use Rattle.lfs_segwrite.proofs.CollectingLemmas.{entries_of-length}
 use Rattle.lfs_segwrite.specs.Gaining.{IsGainful, NoneIsGainful, live_infos, space}
 use Rattle.lfs_logstore.specs.Gaining.{GainsSpace}
-use Rattle.lfs_share.specs.Share.{LacksShare}
+use Rattle.lfs_share.specs.Share.{IsWithinShare, KeepsOne, LacksShare, taken}
 use Rattle.lfs_share.proofs.LiveLemmas.{live_weighs}
+use Rattle.lfs_share.proofs.TakenLemmas.{live_few}
+use Rattle.lfs_logstore.specs.States as state
+use Rattle.lfs_logstore.proofs.RoomLemmas.{same_waiting}
+use Rattle.lfs_staging.specs.Filling.{SameButClean}
+use Rattle.lfs_types.specs.StoreStates.{Shape}
+use Rattle.lfs_staging.specs.Files.{content_of}
 use Rattle.lfs_share.proofs.PassLemmas.{blocks_bound, widest_bound}
 
 pub worth : (p : Parts) (segment : ℕ) → IsStore p → segment < p.log.memory.segments
@@ -133,4 +140,50 @@ gained_more old new settled g same =
     elim g.written.left [
       | inl here ↦ let left = here.1 in let clean = here.2 in omega arith
       | inr opened ↦ let short = opened.2 in absurd (omega arith)
+    ]
+
+-- ---- a segment stays clean
+pub kept_written : (old new : Parts) → WritesWaiting old new → KeepsOne old → 0 < new.log.clean
+kept_written old new w kept = elim w.left [
+  | inl here ↦ let same = here.2 in elim kept [
+    | inl two ↦ omega arith
+    | inr fits ↦ let some = fits.0 in omega arith
+  ]
+  | inr opened ↦ let less = opened.1 in let short = opened.2 in elim kept [
+    | inl two ↦ omega arith
+    | inr fits ↦ let room = fits.1 in absurd (omega arith)
+  ]
+]
+
+pub kept_settled : (p : Parts) → IsSettled p → 0 < p.log.clean → KeepsOne p
+kept_settled p settled some = let none = settled_blocks p settled in inr (some, omega arith)
+
+pub kept_gained : (old new : Parts) → IsSettled old → GainsSpace old new → 0 < old.log.clean → 0 < new.log.clean
+kept_gained old new settled g some =
+    let between = kept_written old g.between g.written (kept_settled old settled some) in
+    let clean = g.reclaimed.clean in
+    omega arith
+
+-- ---- within the share nothing is lacking
+pub never : (old new : Parts) → IsStore new → (state.state_of new).content ≡ (state.state_of old).content
+    → (state.state_of new).shape ≡ (state.state_of old).shape
+    → IsWithinShare (state.state_of old) → 0 < new.log.clean → LacksShare new → ⊥
+never old new store content shape within some (inl none) = omega arith
+never old new store content shape within some (inr large) =
+    let few = live_few new store in
+    let numbers : length new.log.tables.rows ≡ length old.log.tables.rows = ap (λ (s : Shape). s.numbers) shape in
+    let segments : new.log.memory.segments ≡ old.log.memory.segments = ap (λ (s : Shape). s.segments) shape in
+    let same : taken (length new.log.tables.rows) (content_of new) ≡ taken (length old.log.tables.rows) (content_of old) =
+    ap (λ n. taken n (content_of new)) numbers ∙ ap (taken (length old.log.tables.rows)) content in
+    omega arith
+
+-- a read may fill frames, and moves nothing
+pub kept_read : (p q : Parts) → SameButClean p q → KeepsOne p → KeepsOne q
+kept_read p q h kept =
+    let waits = same_waiting p q h in
+    let left : room_of q.log.memory ≡ room_of p.log.memory = ap (λ (l : LogParts). room_of l.memory) h.log in
+    let clean : q.log.clean ≡ p.log.clean = ap (λ (l : LogParts). l.clean) h.log in
+    elim kept [
+      | inl two ↦ inl (omega arith)
+      | inr fits ↦ let some = fits.0 in let room = fits.1 in inr (omega arith, omega arith)
     ]

@@ -1,16 +1,13 @@
 //! Room is made again, segment by segment.
 
-ghost use Rattle.std.specs.Prelude.{◌≡◌, ◌<◌, ◌≤◌, OnErr, OnOk};
+ghost use Rattle.std.specs.Prelude.{◌≡◌, ◌≤◌, OnErr, OnOk};
 ghost use Rattle.lfs_segwrite.specs.Applying.{WritesWaiting};
 ghost use Rattle.lfs_staging.specs.Store.{IsSettled};
 ghost use Rattle.lfs_logstore.specs.States.{state_of};
-ghost use Rattle.lfs_share.specs.Share.{LacksShare};
+ghost use Rattle.lfs_share.specs.Share.{IsWithinShare, KeepsOne, LacksShare};
 
 use lfs_logstore::{LogStore, NotGainful};
 use lfs_types::store::FileStore;
-
-/// The live bytes of a segment that is always worth cleaning, where another one is clean: nine blocks.
-pub const LOW_BYTES: u32 = 4_608;
 
 /// The clean segments behind which any change has room.
 pub const ENOUGH: u32 = 3;
@@ -20,7 +17,7 @@ pub const ENOUGH: u32 = 3;
 pub struct PastShare;
 
 /// Writes what waits.
-fn settle(store: &mut LogStore)
+pub(crate) fn settle(store: &mut LogStore)
     ensures { WritesWaiting store.old store.new }
 {
     match store.sync() {
@@ -30,10 +27,12 @@ fn settle(store: &mut LogStore)
 }
 
 /// Writes what waits, and cleans segments until three are clean. `PastShare` where no segment is clean to begin with, or
-/// where more bytes are live than the share.
+/// where more bytes are live than those of the share: never where the files take no more than the share, and a segment
+/// stays clean once what waits is written.
 pub fn restore(store: &mut LogStore) -> Result<(), PastShare>
     ensures restored { OnOk result (ENOUGH ≤ store.new.log.clean) }
     ensures past { OnErr result (LacksShare store.new) }
+    ensures always { IsWithinShare (state_of store.old) → KeepsOne store.old → OnErr result ⊥ }
     ensures settled { IsSettled store.new }
     ensures content { (state_of store.new).content ≡ (state_of store.old).content }
     ensures shape { (state_of store.new).shape ≡ (state_of store.old).shape }
