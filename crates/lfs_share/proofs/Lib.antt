@@ -1,0 +1,5 @@
+pub mod PassLemmas
+pub mod LiveLemmas
+pub mod TakenLemmas
+pub mod ShareLemmas
+pub mod GrowthLemmas

@@ -1,0 +1,40 @@
+use Rattle.std.proofs.Common.{◌+◌, ◌≤◌, arith}
+use Rattle.lfs_logstore.specs.States.{state_of}
+use Rattle.lfs_segwrite.proofs.BoundLemmas.{all_in_reach}
+use Rattle.lfs_share.proofs.GrowthLemmas.{grown_share, growth_most}
+use Rattle.lfs_share.specs.Share.{share_of, taken}
+use Rattle.lfs_share.proofs.store.SharedStore.apply.Goals as goal
+
+pub growth_of_all-growth-requires-clause-reach : goal.growth_of_all-growth-requires-clause-reach
+growth_of_all-growth-requires-clause-reach c =
+    all_in_reach _ c.args.changes.now _ c.requires.few_bytes c.requires.each
+
+pub growth_of_all-growth-requires-clause-few : goal.growth_of_all-growth-requires-clause-few
+growth_of_all-growth-requires-clause-few c =
+    let few = growth_most (state_of c.self.inside.store).content c.args.changes.now
+    (all_in_reach _ c.args.changes.now _ c.requires.few_bytes c.requires.each) in
+    omega (arith, c.requires.few, few)
+
+pub may_grow-requires-clause-few : goal.may_grow-requires-clause-few
+may_grow-requires-clause-few c =
+    let few = growth_most (state_of c.self.inside.store).content c.args.changes.now
+    (all_in_reach _ c.args.changes.now _ c.requires.few_bytes c.requires.each) in
+    omega (arith, c.requires.few, few, c.growth_of_all-growth.ensures)
+
+pub overflow_add-self : goal.overflow_add-self
+overflow_add-self c = omega (arith, c.may_grow.ensures.fits c.if-not-may_grow.false)
+
+-- what the files take behind the changes
+held : (c : goal.After-self-1) → let new = state_of c.apply_behind.new.store in
+    let most = c.may_grow.new.most + c.growth_of_all-growth.result in
+    (taken new.shape.numbers new.content ≤ most) × (most ≤ share_of new.shape.segments)
+held c = grown_share c.self.inside.store c.make_way.new.store c.apply_behind.new.store c.args.changes.now
+    c.may_grow.new.most c.growth_of_all-growth.result c.make_way.ensures.content c.make_way.ensures.shape
+    c.apply_behind.ensures.applied c.apply_behind.ensures.shape c.growth_of_all-growth.ensures
+    c.may_grow.ensures.least (c.may_grow.ensures.may c.if-not-may_grow.false)
+
+pub invariant_of-self-2 : goal.invariant_of-self-2
+invariant_of-self-2 c = (c.apply_behind.ensures.kept, (held c).0, (held c).1)
+
+pub returns-clause-within : goal.returns-clause-within
+returns-clause-within c = omega (arith, (held c).0, (held c).1)

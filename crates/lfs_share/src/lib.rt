@@ -1,0 +1,11 @@
+//! A log store that always comes back: where its files take no more than a share of the volume, cleaning makes room again.
+#![tactic(auto)]
+
+mod growing;
+mod restoring;
+mod store;
+mod taking;
+
+pub use restoring::{ENOUGH, PastShare, restore};
+pub use store::SharedStore;
+pub use taking::LOW_UNITS;
