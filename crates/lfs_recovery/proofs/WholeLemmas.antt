@@ -51,7 +51,7 @@ pub whole_at-none : (m : SegmentMemory) (address above : ℕ) (block : List ℕ)
 unfolding whole_at
 whole_at-none m address above block at none = ap (told_if (is_next m address above)) (none ∙ ap told_in at)
 
-told_if-some : (test : Told → Bool) (o : Option Told) (t : Told) → told_if test o ≡ Some t → (o ≡ Some t)
+pub told_if-some : (test : Told → Bool) (o : Option Told) (t : Told) → told_if test o ≡ Some t → (o ≡ Some t)
     × (test t ≡ true)
 told_if-some test None t e = absurd (none-some t e)
 told_if-some test (Some u) t e =

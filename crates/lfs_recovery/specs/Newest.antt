@@ -1,59 +1,43 @@
--- The records in whole partial segments, and the newest of each number.
-use Rattle.std.specs.Prelude.{◌≡◌, ℕ, zero, suc, ◌<◌, ◌≤◌, ◌==◌, nat_lt, if◌then◌else◌, List, [], ◌∷◌, ◌++◌, Option}
-use Rattle.std.specs.Prelude.{Some, None, length, option_map, slice_index_or}
-use Rattle.lfs_types.specs.Ranges.{most_inodes}
+-- The records in the partial segments of the logs, and which of a number is the newest.
+use Rattle.std.specs.Prelude.{◌≡◌, ℕ, ◌+◌, ◌*◌, ◌<◌, ◌≤◌, ◌⊎◌, Option, Some, None, slice_index_or}
 use Rattle.lfs_inodes.specs.Reading.{Fields, fields_in}
 use Rattle.lfs_inodes.specs.Slots.{slot_of}
+use Rattle.lfs_segments.specs.declared.entry.LogicalBlock.TheVariants.{Inodes}
+use Rattle.lfs_segments.specs.Entry.{unused}
 use Rattle.lfs_segments.specs.Memory.{SegmentMemory, block_at}
+use Rattle.lfs_segments.specs.Serial.{Told, told_in}
+use Rattle.lfs_recovery.specs.declared.places.PartialSegment.{PartialSegment}
 use Rattle.lfs_recovery.specs.declared.places.RecordPlace.{RecordPlace}
-use Rattle.lfs_recovery.specs.Course.{Course, at_inodes, course, listed}
+use Rattle.lfs_recovery.specs.Logs.{IsLogged}
 
--- the place of a record with these fields
-abbrev pub place_of : ℕ → ℕ → ℕ → Fields → RecordPlace
-place_of serial address slot f = record {
-  serial = serial;
-  number = f.attributes.number;
-  version = f.attributes.version;
-  address = address;
-  slot = slot;
-}
+-- A record stands in a slot of an inode block, as an entry of the summary of a partial segment in a log calls it. It has
+-- the partial segment's serial, and the number and version that are spelled there.
+pub record IsRecord (m : SegmentMemory) (r : RecordPlace) : Type 0 where
+  pub segment : PartialSegment
+  pub logged : IsLogged m segment
+  pub told : Told
+  pub spelled : told_in (block_at m segment.address) ≡ Some told
+  pub entry : ℕ
+  pub named : entry < segment.count
+  pub inodes : (slice_index_or told.entries entry unused).block ≡ Inodes
+  pub serial : r.serial ≡ segment.serial
+  pub address : r.address ≡ segment.address + 1 + entry
+  pub slot : r.slot < 4
+  pub fields : Fields
+  pub read : fields_in (slot_of (block_at m r.address) r.slot) ≡ Some fields
+  pub number : r.number ≡ fields.attributes.number
+  pub version : r.version ≡ fields.attributes.version
 
--- the records in the first slots of an inode block
-unfoldable pub places_in : ℕ → ℕ → List ℕ → ℕ → List RecordPlace
-places_in serial address block zero = []
-places_in serial address block (suc slot) =
-    places_in serial address block slot
-    ++ listed (option_map (place_of serial address slot) (fields_in (slot_of block slot)))
+-- the place of a record among all slots of a memory
+abbrev pub slot_place : RecordPlace → ℕ
+slot_place r = 4 * r.address + r.slot
 
--- those of the block at an address, where the log names an inode block there
-unfoldable pub records_at : SegmentMemory → ℕ → Course → List RecordPlace
-records_at m address c = if at_inodes c then places_in c.serial address (block_at m address) 4 else []
+-- one record is no newer than another: its serial is lower, or it is the same and the record stands no later
+abbrev pub IsNoNewer : RecordPlace → RecordPlace → Type 0
+IsNoNewer r s = (r.serial < s.serial) ⊎ ((r.serial ≡ s.serial) × (slot_place r ≤ slot_place s))
 
--- The records in whole partial segments before an address, in the order of their addresses and slots.
-unfoldable pub records : SegmentMemory → ℕ → List RecordPlace
-records m zero = []
-records m (suc address) = records m address ++ records_at m address (course m address)
-
--- The newer of two records: that of the higher serial. Of one partial segment it is the later one.
-abbrev pub newer : Option RecordPlace → RecordPlace → RecordPlace
-newer None place = place
-newer (Some old) place = if nat_lt place.serial old.serial then old else place
-
-unfoldable pub newest_from : ℕ → Option RecordPlace → List RecordPlace → Option RecordPlace
-newest_from number noted [] = noted
-newest_from number noted (place ∷ places) =
-    newest_from number (if place.number == number then Some (newer noted place) else noted) places
-
--- the newest of the records of a number
-abbrev pub newest : ℕ → List RecordPlace → Option RecordPlace
-newest number places = newest_from number None places
-
--- a table of the newest records of all numbers
-pub record IsTable (table : List (Option RecordPlace)) (places : List RecordPlace) : Type 0 where
-  pub long : length table ≡ most_inodes
-  pub each : (n : ℕ) → n < most_inodes → slice_index_or table n None ≡ newest n places
-
--- what is noted is of the number of a record, and no older
-abbrev pub IsNewestOf : RecordPlace → Option RecordPlace → Type 0
-IsNewestOf place None = ⊥
-IsNewestOf place (Some noted) = (noted.number ≡ place.number) × (place.serial ≤ noted.serial)
+-- the newest record of a number: one of its records, and no other is newer; or it has none
+abbrev pub IsNewest : SegmentMemory → ℕ → Option RecordPlace → Type 0
+IsNewest m n None = (r : RecordPlace) → IsRecord m r → r.number ≡ n → ⊥
+IsNewest m n (Some s) =
+    IsRecord m s × ((s.number ≡ n) × ((r : RecordPlace) → IsRecord m r → r.number ≡ n → IsNoNewer r s))

@@ -1,14 +1,14 @@
 //! The newest record of each number.
 
 ghost use Rattle.std.specs.Prelude.{◌≡◌, ◌<◌, ◌*◌, ◌++◌, ℕ, List, IfOk, IfSome, None, Some, length, option_map, slice_index_or, vec_len};
-ghost use Rattle.std.specs.List.{Contains};
 ghost use Rattle.lfs_types.specs.Ranges.{most_inodes};
 ghost use Rattle.lfs_types.specs.declared.limits.TheConstants.{SEGMENT_BLOCKS};
 ghost use Rattle.lfs_inodes.specs.Reading.{fields_in};
 ghost use Rattle.lfs_inodes.specs.Slots.{slot_of};
 ghost use Rattle.lfs_recovery.specs.declared.places.RecordPlace.{RecordPlace};
-ghost use Rattle.lfs_recovery.specs.Course.{end_of, listed};
-ghost use Rattle.lfs_recovery.specs.Newest.{IsNewestOf, IsTable, newer, newest, place_of, places_in, records, records_at};
+ghost use Rattle.lfs_recovery.specs.Course.{listed};
+ghost use Rattle.lfs_recovery.specs.Newest.{IsNewest};
+ghost use Rattle.lfs_recovery.specs.Noted.{IsTable, newer, place_of, places_in, records_at};
 
 use crate::places::RecordPlace;
 use crate::reader::Reader;
@@ -19,21 +19,15 @@ use lfs_types::block::Block;
 use lfs_types::limits::MOST_INODES;
 use std::alloc::{AllocError, Global};
 
-/// For each inode number the newest of its records that stand in whole partial segments, and `None` where it has none.
+/// For each inode number the newest of its records that stand in the logs, and `None` where it has none: that of the
+/// highest serial, and of one serial that which stands last.
 pub fn newest_records(
     alloc: Global,
     memory: &Segments,
 ) -> Result<Vec<Option<RecordPlace>>, AllocError>
     ensures long { IfOk result (λ table. length table.items ≡ most_inodes) }
     ensures newest { IfOk result (λ table. (n : ℕ) → n < most_inodes
-        → slice_index_or table.items n None ≡ newest n (records memory.now (end_of memory.now))) }
-    // No record of the number has a higher serial.
-    ensures last { IfOk result (λ table. (place : RecordPlace) → place.number < most_inodes
-        → Contains (records memory.now (end_of memory.now)) place
-        → IsNewestOf place (slice_index_or table.items place.number None)) }
-    ensures there { IfOk result (λ table. (n : ℕ) (place : RecordPlace) → n < most_inodes
-        → slice_index_or table.items n None ≡ Some place
-        → Contains (records memory.now (end_of memory.now)) place × (place.number ≡ n)) }
+        → IsNewest memory.now n (slice_index_or table.items n None)) }
 {
     let mut table = vec![in alloc; None; MOST_INODES as usize]?;
     let mut reader = Reader::idle();

@@ -1,7 +1,8 @@
 //! The whole partial segments.
 
 ghost use Rattle.std.specs.Prelude.{◌≡◌, ◌++◌, All, IfOk, OnOk};
-ghost use Rattle.lfs_recovery.specs.Course.{end_of, listed, partials};
+ghost use Rattle.lfs_recovery.specs.Course.{listed};
+ghost use Rattle.lfs_recovery.specs.Logs.{AreLogs};
 ghost use Rattle.lfs_recovery.specs.Whole.{IsWhole};
 
 use crate::places::PartialSegment;
@@ -9,9 +10,9 @@ use crate::reader::Reader;
 use lfs_segments::segments::{SEGMENT_BLOCKS, Segments};
 use std::alloc::{AllocError, Global};
 
-/// The whole partial segments of a memory, each segment's in the order of their serials.
+/// The partial segments of the logs of all segments, in the order of their addresses.
 pub fn partial_segments(alloc: Global, memory: &Segments) -> Result<Vec<PartialSegment>, AllocError>
-    ensures found { IfOk result (λ list. list.items ≡ partials memory.now (end_of memory.now)) }
+    ensures logs { IfOk result (λ list. AreLogs memory.now list.items) }
     ensures whole { IfOk result (λ list. All (IsWhole memory.now) list.items) }
 {
     let mut list = Vec::new(alloc);

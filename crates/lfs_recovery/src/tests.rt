@@ -138,3 +138,13 @@ fn serials_rise_along_a_log(rt: HostRuntime) {
     expect_partials(&rt, rt.alloc(), &memory, &[(3, 64)]);
     expect_newest(&rt, rt.alloc(), &memory, Some((8, 65)));
 }
+
+#[test]
+fn log_goes_on_until_a_serial_falls(rt: HostRuntime) {
+    let mut memory = volume(&rt, rt.alloc());
+    put(&rt, &mut memory, &[summary_at(0, 1, 1), record(8)]);
+    put(&rt, &mut memory, &[summary_at(0, 3, 3), record(9)]);
+    put(&rt, &mut memory, &[summary_at(0, 5, 2), record(7)]);
+    expect_partials(&rt, rt.alloc(), &memory, &[(1, 1), (3, 3)]);
+    expect_newest(&rt, rt.alloc(), &memory, Some((9, 4)));
+}

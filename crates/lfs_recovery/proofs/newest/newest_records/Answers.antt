@@ -1,11 +1,12 @@
-use Rattle.std.proofs.Common.{◌≡◌, ◌+◌, ℕ, List, [], Option, sym, ap, subst, ◌∙◌, arith}
+use Rattle.std.proofs.Common.{◌≡◌, ◌+◌, ℕ, List, [], None, Option, get_or, sym, ap, subst, ◌∙◌, arith}
 use Rattle.std.proofs.lemmas.Grind.{common_steps}
-use Rattle.lfs_segments.specs.Memory.{SegmentMemory}
 use Rattle.lfs_recovery.specs.declared.places.RecordPlace.{RecordPlace}
 use Rattle.lfs_recovery.specs.Course.{course, end_of, entered, step}
-use Rattle.lfs_recovery.specs.Newest.{IsNewestOf, IsTable, records}
+use Rattle.lfs_recovery.specs.Newest.{IsNewest}
+use Rattle.lfs_recovery.specs.Noted.{IsTable, newest, records}
 use Rattle.lfs_recovery.proofs.CourseLemmas.{course-next, course-start}
-use Rattle.lfs_recovery.proofs.NewestLemmas.{IsTable-none, newest-last, newest-there, records-next}
+use Rattle.lfs_recovery.proofs.NewestLemmas.{IsTable-none, records-next}
+use Rattle.lfs_recovery.proofs.RecordLemmas.{newest_is}
 use Rattle.lfs_recovery.proofs.newest.newest_records.Goals as goal
 
 pub loop-address-init : goal.loop-address-init
@@ -28,21 +29,11 @@ loop-address-preserved c =
           ∙ course-next m l.address;
     }
 
--- the table at the end
-at_end : (m : SegmentMemory) (table : List (Option RecordPlace)) (address : ℕ) → address ≡ end_of m
-    → IsTable table (records m address) → IsTable table (records m (end_of m))
-at_end m table address all is = subst (λ (n : ℕ). IsTable table (records m n)) all is
-
-pub returns-clause-last : goal.returns-clause-last
-returns-clause-last c = λ place below there.
+pub returns-clause-newest : goal.returns-clause-newest
+returns-clause-newest c = λ n below.
     let l = c.loop-address in
     let m = c.args.memory.now in
-    let noted = at_end m l.table.items l.address (omega arith) l.invariant.noted in
-    subst (IsNewestOf place) (sym (noted.each place.number below)) (newest-last (records m (end_of m)) place there)
-
-pub returns-clause-there : goal.returns-clause-there
-returns-clause-there c = λ n place below is.
-    let l = c.loop-address in
-    let m = c.args.memory.now in
-    let noted = at_end m l.table.items l.address (omega arith) l.invariant.noted in
-    newest-there n (records m (end_of m)) place (sym (noted.each n below) ∙ is)
+    let all : l.address ≡ end_of m = omega arith in
+    let each : get_or l.table.items n None ≡ newest n (records m (end_of m)) =
+    l.invariant.noted.each n below ∙ ap (λ (a : ℕ). newest n (records m a)) all in
+    subst (IsNewest m n) (sym each) (newest_is m n)

@@ -1,6 +1,6 @@
 use Rattle.std.proofs.Common.{◌≡◌}
 use Rattle.lfs_recovery.specs.Course.{course, entered}
-use Rattle.lfs_recovery.specs.Newest.{IsTable, records}
+use Rattle.lfs_recovery.specs.Noted.{IsTable, records}
 use Rattle.lfs_recovery.proofs.newest.newest_records.Given as goal
 
 -- the newest before the address, where the reader is to come

@@ -3,7 +3,7 @@ use Rattle.std.proofs.Common.{arith}
 use Rattle.std.proofs.lemmas.List.{get_or_default}
 use Rattle.lfs_recovery.specs.declared.places.RecordPlace.{RecordPlace}
 use Rattle.lfs_recovery.specs.Course.{listed}
-use Rattle.lfs_recovery.specs.Newest.{IsTable, newer}
+use Rattle.lfs_recovery.specs.Noted.{IsTable, newer}
 use Rattle.lfs_recovery.proofs.NewestLemmas.{noted_more}
 use Rattle.lfs_recovery.proofs.newest.note.Goals as goal
 

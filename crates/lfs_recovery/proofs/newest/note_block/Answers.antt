@@ -1,5 +1,5 @@
 use Rattle.std.proofs.Common.{◌≡◌, ◌++◌, ℕ, append-nil, sym, subst, arith}
-use Rattle.lfs_recovery.specs.Newest.{IsTable, places_in}
+use Rattle.lfs_recovery.specs.Noted.{IsTable, places_in}
 use Rattle.lfs_recovery.proofs.NewestLemmas.{places-next}
 use Rattle.lfs_recovery.proofs.newest.note_block.Goals as goal
 

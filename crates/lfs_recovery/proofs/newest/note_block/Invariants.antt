@@ -1,6 +1,6 @@
 use Rattle.std.proofs.Common.{◌≡◌, ◌++◌, List, vec_len}
 use Rattle.lfs_recovery.specs.declared.places.RecordPlace.{RecordPlace}
-use Rattle.lfs_recovery.specs.Newest.{IsTable, places_in}
+use Rattle.lfs_recovery.specs.Noted.{IsTable, places_in}
 use Rattle.lfs_recovery.proofs.newest.note_block.Given as goal
 
 -- the records of the slots so far are noted

@@ -1,6 +1,6 @@
 use Rattle.std.proofs.Common.{append-nil, sym, subst, ◌++◌, List}
 use Rattle.lfs_recovery.specs.declared.places.RecordPlace.{RecordPlace}
-use Rattle.lfs_recovery.specs.Newest.{IsTable}
+use Rattle.lfs_recovery.specs.Noted.{IsTable}
 use Rattle.lfs_recovery.proofs.NewestLemmas.{records_at-none, records_at-some}
 use Rattle.lfs_recovery.proofs.newest.note_records.Goals as goal
 

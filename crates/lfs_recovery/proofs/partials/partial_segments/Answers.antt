@@ -1,8 +1,9 @@
-use Rattle.std.proofs.Common.{◌≡◌, ◌+◌, All, List, sym, ap, subst, ◌∙◌}
+use Rattle.std.proofs.Common.{◌≡◌, ◌+◌, All, List, sym, ap, subst, ◌∙◌, arith}
 use Rattle.lfs_recovery.specs.declared.places.PartialSegment.{PartialSegment}
-use Rattle.lfs_recovery.specs.Course.{begun, course, entered, partials, step}
+use Rattle.lfs_recovery.specs.Course.{begun, course, end_of, entered, partials, step}
 use Rattle.lfs_recovery.specs.Whole.{IsWhole}
 use Rattle.lfs_recovery.proofs.CourseLemmas.{course-next, course-start, partials-next, whole-partials}
+use Rattle.lfs_recovery.proofs.LogLemmas.{partials-logs}
 use Rattle.lfs_recovery.proofs.partials.partial_segments.Goals as goal
 
 pub loop-address-init : goal.loop-address-init
@@ -28,3 +29,10 @@ returns-clause-whole c =
     let l = c.loop-address in
     subst (λ (list : List PartialSegment). All (IsWhole c.args.memory.now) list) (sym l.invariant.found)
     (whole-partials c.args.memory.now l.address)
+
+pub returns-clause-logs : goal.returns-clause-logs
+returns-clause-logs c =
+    let l = c.loop-address in
+    let m = c.args.memory.now in
+    let all : l.address ≡ end_of m = omega arith in
+    partials-logs m l.list.items (l.invariant.found ∙ ap (partials m) all)
