@@ -3,7 +3,8 @@
 -- earlier change only takes less.
 use Rattle.std.proofs.Common.{◌≡◌, ◌⊎◌, ℕ, zero, suc, ◌+◌, ◌-◌, ◌*◌, ◌/◌, ◌<◌, ◌≤◌, List, [], ◌∷◌, length, min}
 use Rattle.std.proofs.Common.{Option, Some, None, refl, sym, ap, ◌∙◌, subst, inl, inr, arith}
-use Rattle.std.specs.Prelude.{if◌then◌else◌, ◌==◌, All}
+use Rattle.std.specs.Prelude.{if◌then◌else◌, ◌==◌, All, IsSomeAnd}
+use Rattle.lfs_inodes.specs.Facts.{block_count}
 use Rattle.std.specs.FinMap as map
 use Rattle.std.proofs.lemmas.Bool.{cases_eq, cases_lt, cond-true, cond-false, eq-eqb, ne_eqb}
 use Rattle.std.proofs.lemmas.List.{length-append, length-drop, length-replicate, length-take}
@@ -27,9 +28,9 @@ use Rattle.lfs_staging.specs.View.{record_of, tree_of}
 use Rattle.lfs_staging.proofs.FileLemmas.{file_at-none, file_at-some, get-content_of}
 use Rattle.lfs_logstore.specs.States.{state_of}
 use Rattle.lfs_segwrite.specs.Applying.{IsInReach}
-use Rattle.lfs_share.specs.Growing.{growth_of, growth_of_all, growth_to}
+use Rattle.lfs_share.specs.Growing.{IsEven, growth_of, growth_of_all, growth_to}
 use Rattle.lfs_share.specs.Share.{share_of, taken, units_of_file, units_of_length}
-use Rattle.lfs_share.proofs.TakenLemmas.{tables_few, total_add, total_le}
+use Rattle.lfs_share.proofs.TakenLemmas.{tables_few, tables_le, total_add, total_le}
 
 -- ---- lengths
 splice_length : (old : List ℕ) (start : ℕ) (bytes : List ℕ) → (length (splice old start bytes) ≡ length old)
@@ -217,6 +218,38 @@ file_few p number None store is =
 
 pub each_few : (p : Parts) → IsStore p → (number : ℕ) → units_of_file (map.get (content_of p) number) ≤ 70000
 each_few p store number = file_few p number (record_of p number) store refl
+
+-- ---- changes that add nothing
+units_le : (len other : ℕ) → block_count len ≤ block_count other → units_of_length len ≤ units_of_length other
+units_le len other le = let tables = tables_le (block_count len) (block_count other) le in omega arith
+
+no_growth_to : (c : Content) (ino len : ℕ) (o : Option File) → map.get c ino ≡ o
+    → IsSomeAnd o (λ f. block_count len ≤ block_count (length f.bytes)) → growth_to c ino len ≡ 0
+no_growth_to c ino len (Some f) is few =
+    let there : units_of_file (map.get c ino) ≡ units_of_length (length f.bytes) = ap units_of_file is in
+    let less = units_le len (length f.bytes) few in
+    omega arith
+no_growth_to c ino len None is few = absurd few
+
+no_growth : (c : Content) (change : Change) → IsEven c change → growth_of c change ≡ 0
+no_growth c (Make ino attrs) even = absurd even
+no_growth c (Remove ino) even = refl
+no_growth c (SetAttrs ino attrs) even = refl
+no_growth c (Put ino off bytes) even = elim (cases_eq (length bytes.now) 0) [
+  | inl none ↦ cond-true {A = ℕ} _ 0 (growth_to c ino (off + length bytes.now)) (eq-eqb (length bytes.now) 0 none)
+  | inr some ↦
+      cond-false {A = ℕ} _ 0 (growth_to c ino (off + length bytes.now)) (ne_eqb (length bytes.now) 0 some)
+      ∙ no_growth_to c ino (off + length bytes.now) (map.get c ino) refl (even (omega arith))
+]
+no_growth c (SetLength ino len) even = no_growth_to c ino len (map.get c ino) refl even
+
+pub even_growth : (c : Content) (changes : List Change) → All (IsEven c) changes → growth_of_all c changes ≡ 0
+even_growth c [] even = refl
+even_growth c (change ∷ changes) even =
+    let one = no_growth c change (even 0 change (omega arith)) in
+    let rest = even_growth c changes (λ k d low. even (suc k) d (omega arith)) in
+    let growth = sum_by-cons (growth_of c) change changes in
+    omega arith
 
 -- ---- the share of a state
 -- a bound holds of a store with this content and this shape

@@ -120,27 +120,48 @@ first_three : (f : ℕ → ℕ) → total f 3 ≡ f 2 + (f 1 + (f 0 + 0))
 unfolding total
 first_three f = refl
 
-tables_most : (blocks : ℕ) → ((140 < blocks) → tables_of blocks ≡ 2 + (blocks - 140 + 127) / 128)
-    × ((12 < blocks) → 1 ≤ tables_of blocks)
-tables_most blocks = elim (cases_lt 140 blocks) [
-  | inl far ↦ let is = cond-true {A = ℕ} _ (2 + (blocks - 140 + 127) / 128) (if nat_lt 12 blocks then 1 else 0)
-      (lt-ltb 140 blocks far) in (λ h. is, λ h. omega arith)
+-- the indirect blocks of a file, by where its last block stands
+pub tables_cases : (blocks : ℕ) → ((140 < blocks) × (tables_of blocks ≡ 2 + (blocks - 140 + 127) / 128))
+    ⊎ (((12 < blocks) × (blocks ≤ 140) × (tables_of blocks ≡ 1)) ⊎ ((blocks ≤ 12) × (tables_of blocks ≡ 0)))
+tables_cases blocks = elim (cases_lt 140 blocks) [
+  | inl far ↦ inl (
+    far,
+    cond-true {A = ℕ} _ (2 + (blocks - 140 + 127) / 128) (if nat_lt 12 blocks then 1 else 0)
+        (lt-ltb 140 blocks far),
+  )
   | inr near ↦
       let is = cond-false {A = ℕ} _ (2 + (blocks - 140 + 127) / 128) (if nat_lt 12 blocks then 1 else 0)
       (le-ltb 140 blocks near) in
-      (λ h. absurd (omega arith), λ h. let one = cond-true {A = ℕ} _ 1 0 (lt-ltb 12 blocks h) in omega arith)
+      inr (elim (cases_lt 12 blocks) [
+        | inl some ↦ inl (some, near, is ∙ cond-true {A = ℕ} _ 1 0 (lt-ltb 12 blocks some))
+        | inr few ↦ inr (few, is ∙ cond-false {A = ℕ} _ 1 0 (le-ltb 12 blocks few))
+      ])
+]
+
+tables_most : (blocks : ℕ) → ((140 < blocks) → tables_of blocks ≡ 2 + (blocks - 140 + 127) / 128)
+    × ((12 < blocks) → 1 ≤ tables_of blocks)
+tables_most blocks = elim (tables_cases blocks) [
+  | inl far ↦ let is = far.1 in (λ h. is, λ h. omega arith)
+  | inr near ↦ elim near [
+    | inl some ↦ let low = some.1 in let is = some.2 in (λ h. absurd (omega arith), λ h. omega arith)
+    | inr few ↦ let low = few.0 in (λ h. absurd (omega arith), λ h. absurd (omega arith))
+  ]
 ]
 
 pub tables_few : (blocks : ℕ) → 128 * tables_of blocks ≤ blocks + 256
-tables_few blocks = elim (cases_lt 140 blocks) [
-  | inl far ↦ let is = (tables_most blocks).0 far in omega arith
-  | inr near ↦
-      let is = cond-false {A = ℕ} _ (2 + (blocks - 140 + 127) / 128) (if nat_lt 12 blocks then 1 else 0)
-      (le-ltb 140 blocks near) in
-      elim (cases_lt 12 blocks) [
-        | inl some ↦ let one = cond-true {A = ℕ} _ 1 0 (lt-ltb 12 blocks some) in omega arith
-        | inr few ↦ let none = cond-false {A = ℕ} _ 1 0 (le-ltb 12 blocks few) in omega arith
-      ]
+tables_few blocks = elim (tables_cases blocks) [
+  | inl far ↦ let some = far.0 in let is = far.1 in omega arith
+  | inr near ↦ elim near [ inl some ↦ let is = some.2 in omega arith | inr few ↦ let is = few.1 in omega arith ]
+]
+
+-- more blocks have no fewer
+pub tables_le : (a b : ℕ) → a ≤ b → tables_of a ≤ tables_of b
+tables_le a b le = elim (tables_cases a) [
+  | inl far ↦ let some = far.0 in let is = far.1 in let other = (tables_most b).0 (omega arith) in omega arith
+  | inr near ↦ elim near [
+    | inl one ↦ let some = one.0 in let is = one.2 in let other = (tables_most b).1 (omega arith) in omega arith
+    | inr few ↦ let is = few.1 in omega arith
+  ]
 ]
 
 -- Keys of a file: the record has 128 bytes, and a block some only if it leads to data below a bound.

@@ -5,7 +5,9 @@ mod growing;
 mod restoring;
 mod store;
 mod taking;
+mod telling;
 
 pub use restoring::{ENOUGH, PastShare, restore};
 pub use store::SharedStore;
 pub use taking::LOW_UNITS;
+pub use telling::{Outcome, apply_or_gain};

@@ -1,6 +1,6 @@
 //! The store.
 
-ghost use Rattle.std.specs.Prelude.{◌≡◌, ◌+◌, ◌^◌, ◌<◌, ◌≤◌, ◌⊎◌, IfErr, IfNone, IfSome, IsFalse, IsSome, IsTrue, OnErr, OnOk, length};
+ghost use Rattle.std.specs.Prelude.{◌≡◌, ◌+◌, ◌^◌, ◌<◌, ◌≤◌, ◌⊎◌, All, IfErr, IfNone, IfSome, IsFalse, IsSome, IsTrue, OnErr, OnOk, length};
 ghost use Rattle.std.specs.FinMap.{get};
 ghost use Rattle.lfs_types.specs.Changes.{CanApply, applied};
 ghost use Rattle.lfs_types.specs.Stored.{IsLeastFree, Reads, bytes_of, shown_attrs, slice_of};
@@ -8,7 +8,7 @@ ghost use Rattle.lfs_staging.specs.Filling.{SameButClean};
 ghost use Rattle.lfs_staging.specs.Store.{IsSettled};
 ghost use Rattle.lfs_segwrite.specs.Applying.{WritesWaiting};
 ghost use Rattle.lfs_logstore.specs.States.{state_of};
-ghost use Rattle.lfs_share.specs.Growing.{PassesShare, growth_of_all};
+ghost use Rattle.lfs_share.specs.Growing.{IsEven, PassesShare, growth_of_all};
 ghost use Rattle.lfs_share.specs.Share.{IsWithinShare, KeepsOne, share_of, taken};
 
 use crate::growing::{growth_of_all, taken};
@@ -113,10 +113,14 @@ impl SharedStore {
     }
 
     /// Makes all the changes, in order, or none. `NoSpace` only where they make files take more, and more than the share.
+    /// What files take is counted anew, over all numbers, where that isn't sure; and where fewer than three segments are
+    /// clean, some are cleaned first.
     pub fn apply(&mut self, changes: &[Change<'_>], by: Reserve) -> Result<(), StoreRefusal>
         requires { CanApply (state_of self.old).shape.numbers changes.now (state_of self.old).content }
         ensures applied { OnOk result ((state_of self.new).content
             ≡ applied changes.now (state_of self.old).content) }
+        // Never where they give back, or add nothing.
+        ensures even { All (IsEven (state_of self.old).content) changes.now → OnErr result ⊥ }
         ensures past { OnErr result (PassesShare changes.now (state_of self.old)) }
         ensures refused { OnErr result (self.new ≡ self.old) }
         ensures cause { IfErr result (λ refusal. refusal ≡ StoreRefusal.NoSpace) }

@@ -1,7 +1,9 @@
-use Rattle.std.proofs.Common.{◌+◌, ◌≤◌, arith}
+use Rattle.std.proofs.Common.{◌+◌, ◌≤◌, All, subst, sym, arith}
+use Rattle.lfs_staging.specs.declared.parts.Parts.{Parts}
+use Rattle.lfs_share.specs.Growing.{IsEven}
 use Rattle.lfs_logstore.specs.States.{state_of}
 use Rattle.lfs_segwrite.proofs.BoundLemmas.{all_in_reach}
-use Rattle.lfs_share.proofs.GrowthLemmas.{grown_share, growth_most}
+use Rattle.lfs_share.proofs.GrowthLemmas.{even_growth, grown_share, growth_most}
 use Rattle.lfs_share.specs.Share.{share_of, taken}
 use Rattle.lfs_share.proofs.store.SharedStore.apply.Goals as goal
 
@@ -38,3 +40,18 @@ invariant_of-self-2 c = (c.apply_behind.ensures.kept, (held c).0, (held c).1)
 
 pub returns-clause-within : goal.returns-clause-within
 returns-clause-within c = omega (arith, (held c).0, (held c).1)
+
+pub returns-then-not-may_grow-clause-even : goal.returns-then-not-may_grow-clause-even
+returns-then-not-may_grow-clause-even c even =
+    let old = c.self.inside.store in
+    let changes = c.args.changes.now in
+    let none = even_growth (state_of old).content changes
+    (subst (λ (p : Parts). All (IsEven (state_of p).content) changes) (sym c.self.view_is) even) in
+    omega (
+      arith,
+      none,
+      c.may_grow.ensures.not c.if-not-may_grow.true,
+      c.growth_of_all-growth.ensures,
+      c.may_grow.ensures.least,
+      c.may_grow.ensures.within,
+    )
