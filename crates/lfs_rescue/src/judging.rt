@@ -1,0 +1,138 @@
+//! Whether a volume is the one that the newest records of some blocks tell.
+
+ghost use Rattle.std.specs.Prelude.{◌≡◌, ◌<◌, ◌*◌, ◌+◌, ◌↔◌, IfErr, IsTrue, OnOk, Some, length};
+ghost use Rattle.lfs_types.specs.declared.limits.TheConstants.{SEGMENT_BLOCKS};
+ghost use Rattle.lfs_types.specs.Ranges.{most_inodes};
+ghost use Rattle.lfs_segments.specs.Memory.{next_address};
+ghost use Rattle.lfs_rescue.specs.Recovering.{AreAt, AreKept, HasNewest, IsBehind, IsKeptAt, IsOther, StandsAt};
+
+use crate::fault::RecoverFault;
+use crate::starts::without_serial;
+use lfs_ifile::InodePlace;
+use lfs_log::Log;
+use lfs_recovery::{PartialSegment, RecordPlace};
+use lfs_segments::segments::{SEGMENT_BLOCKS, Segments};
+use lfs_types::block::{Block, ZERO_BLOCK};
+
+/// What of a volume is not as the newest records, the last partial segment and the blocks have it.
+pub(crate) fn judge(
+    log: &Log,
+    memory: &Segments,
+    last: &PartialSegment,
+    starts: &[bool],
+    places: &[Option<RecordPlace>],
+    marks: &[bool],
+) -> Result<(), RecoverFault>
+    requires starts { length starts.now ≡ memory.now.segments * SEGMENT_BLOCKS }
+    requires places { length places.now ≡ most_inodes }
+    requires marks { length marks.now ≡ most_inodes }
+    ensures numbers { OnOk result (AreAt log.now places.now marks.now) }
+    ensures end { OnOk result (next_address log.now.memory ≡ last.now.address + 1 + last.now.count) }
+    ensures segments { OnOk result (log.now.memory.segments ≡ memory.now.segments) }
+    ensures kept { OnOk result (AreKept starts.now memory.now log.now.memory) }
+    ensures fault { IfErr result IsOther }
+{
+    check_numbers(log, places, marks)?;
+    if u64::from(log.next_address()) != u64::from(last.address) + u64::from(last.count) + 1 {
+        return Err(RecoverFault::End);
+    }
+    check_blocks(log, memory, starts)
+}
+
+/// The first number that has not its newest record, or is not in use exactly where it is marked.
+fn check_numbers(
+    log: &Log,
+    places: &[Option<RecordPlace>],
+    marks: &[bool],
+) -> Result<(), RecoverFault>
+    requires places { length places.now ≡ most_inodes }
+    requires marks { length marks.now ≡ most_inodes }
+    ensures numbers { OnOk result (AreAt log.now places.now marks.now) }
+    ensures fault { IfErr result IsOther }
+{
+    for number in 0..log.inodes() {
+        let index = number as usize;
+        if !stands_at(log.place(number), &places[index], marks[index]) {
+            return Err(RecoverFault::Number { number });
+        }
+    }
+    Ok(())
+}
+
+/// Whether a number is in use exactly where it is marked, and then has its newest record.
+fn stands_at(place: Option<InodePlace>, newest: &Option<RecordPlace>, marked: bool) -> bool
+    ensures { IsTrue result ↔ StandsAt place newest.now marked }
+{
+    match place {
+        Some(place) => marked && is_newest(place, newest),
+        None => !marked,
+    }
+}
+
+/// Whether a place is that of a record.
+fn is_newest(place: InodePlace, newest: &Option<RecordPlace>) -> bool
+    ensures { IsTrue result ↔ HasNewest (Some place) newest.now }
+{
+    let Some(newest) = newest else {
+        return false;
+    };
+    if place.addr != newest.address {
+        return false;
+    }
+    if u32::from(place.slot) != newest.slot {
+        return false;
+    }
+    place.version == newest.version
+}
+
+/// The first block that is not kept.
+fn check_blocks(log: &Log, memory: &Segments, starts: &[bool]) -> Result<(), RecoverFault>
+    requires { length starts.now ≡ memory.now.segments * SEGMENT_BLOCKS }
+    ensures segments { OnOk result (log.now.memory.segments ≡ memory.now.segments) }
+    ensures kept { OnOk result (AreKept starts.now memory.now log.now.memory) }
+    ensures fault { IfErr result IsOther }
+{
+    if log.segments() != memory.segments() {
+        return Err(RecoverFault::Segments);
+    }
+    for address in 0..memory.segments() * SEGMENT_BLOCKS {
+        if !is_kept(log, memory, starts[address as usize], address) {
+            return Err(RecoverFault::Block { address });
+        }
+    }
+    Ok(())
+}
+
+/// Whether a block is as it was, but for the serial where a partial segment starts, or is zeros behind the end of the
+/// active segment's log.
+fn is_kept(log: &Log, memory: &Segments, starts: bool, address: u32) -> bool
+    requires here { address < memory.now.segments * SEGMENT_BLOCKS }
+    requires there { address < log.now.memory.segments * SEGMENT_BLOCKS }
+    ensures { IsTrue result ↔ IsKeptAt starts memory.now log.now.memory address }
+{
+    let block = log.block(address);
+    if is_behind(log, address) {
+        return same(block, &ZERO_BLOCK);
+    }
+    if starts {
+        return same(block, &without_serial(memory.block(address)));
+    }
+    same(block, memory.block(address))
+}
+
+/// Whether two blocks are the same.
+fn same(block: &Block, other: &Block) -> bool
+    ensures { IsTrue result ↔ (block.now ≡ other.now) }
+{
+    block == other
+}
+
+/// Whether an address stands behind the end of the active segment's log.
+fn is_behind(log: &Log, address: u32) -> bool
+    ensures { IsTrue result ↔ IsBehind log.now.memory address }
+{
+    if address / SEGMENT_BLOCKS != log.active() {
+        return false;
+    }
+    address >= log.next_address()
+}
