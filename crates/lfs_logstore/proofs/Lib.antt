@@ -3,3 +3,4 @@ pub mod AddressLemmas
 pub mod ReclaimLemmas
 pub mod OpeningLemmas
 pub mod RoomLemmas
+pub mod FrameLemmas

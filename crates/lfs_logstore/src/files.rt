@@ -1,14 +1,17 @@
 //! The store's files.
 
-ghost use Rattle.std.specs.Prelude.{◌≡◌, [], length, IsSome, OnErr, OnOk};
+ghost use Rattle.std.specs.Prelude.{◌≡◌, ◌+◌, ◌-◌, ◌/◌, ◌<◌, [], length, IsSome, OnErr, OnOk};
 ghost use Rattle.std.specs.FinMap.{get};
+ghost use Rattle.lfs_types.specs.declared.block.TheConstants.{BLOCK_SIZE};
 ghost use Rattle.lfs_types.specs.Changes.{CanApply};
 ghost use Rattle.lfs_types.specs.StoreStates.{Applies};
 ghost use Rattle.lfs_types.specs.Stored.{Reads, bytes_of, slice_of};
-ghost use Rattle.lfs_staging.specs.Filling.{SameButClean};
+ghost use Rattle.lfs_staging.specs.Filling.{IsCached, SameButClean};
+ghost use Rattle.lfs_staging.specs.View.{version_of};
 ghost use Rattle.lfs_segwrite.specs.Applying.{HasRoomFor, MakesChanges, WritesWaiting};
 ghost use Rattle.lfs_staging.specs.Store.{IsSettled};
 ghost use Rattle.lfs_logstore.specs.Answering.{ComesTo};
+ghost use Rattle.lfs_logstore.specs.Frames.{KeepsCached};
 ghost use Rattle.lfs_logstore.specs.States.{state_of};
 
 use crate::store::LogStore;
@@ -39,6 +42,9 @@ impl FileStore for LogStore {
         ensures state { state_of self.new ≡ state_of self.old }
         // No address moves, and what waits waits: frames may be taken for clean blocks.
         ensures still { SameButClean self.old self.new }
+        // The last block that was read has a clean frame, or waits, or is a hole.
+        ensures cached { 0 < result → IsCached ino (version_of self.old ino)
+            ((off + result - 1) / BLOCK_SIZE) self.new }
     {
         self.parts.read(ino, off, into)
     }
@@ -66,12 +72,13 @@ impl FileStore for LogStore {
         apply(&mut self.parts, changes, by).map_err(|_| StoreRefusal::NoSpace)
     }
 
-    /// Writes what waits. It always has room.
+    /// Writes what waits. It always has room. What the cache holds it holds behind it, clean.
     #[tactic(auto, using(crate::proofs::RoomLemmas::settled_room))]
     fn sync(&mut self) -> Result<(), StoreRefusal>
         ensures applies { Applies (state_of self.old) [] result (state_of self.new) }
         ensures settled { OnOk result (IsSettled self.new) }
         ensures written { WritesWaiting self.old self.new }
+        ensures held { KeepsCached self.old self.new }
         ensures never { OnErr result ⊥ }
     {
         write_waiting(&mut self.parts);

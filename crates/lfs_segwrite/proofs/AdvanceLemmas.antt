@@ -5,6 +5,7 @@ use Rattle.std.proofs.lemmas.Bool.{cases_Bool, false≢true}
 use Rattle.lfs_segments.specs.Memory.{next_address}
 use Rattle.lfs_cache.specs.Contents.{block_in}
 use Rattle.lfs_staging.specs.declared.parts.Parts.{Parts}
+use Rattle.lfs_staging.proofs.HeldFrames.{KeepsFrames-refl, KeepsFrames-trans}
 use Rattle.lfs_segwrite.specs.Flushing.{Waits}
 use Rattle.lfs_staging.specs.Keys.{log_state}
 use Rattle.lfs_segwrite.specs.Recording.{Advances}
@@ -33,6 +34,7 @@ Advances-refl from p = record {
   still = λ n c low below none. refl;
   moved = λ n c low below waits none. absurd (none waits);
   blocks = λ a apart. refl;
+  held = KeepsFrames-refl p.cache;
 }
 
 pub Advances-trans : (from : ℕ) (a b c : Parts) → Advances from a b → Advances from b c → Advances from a c
@@ -62,6 +64,7 @@ Advances-trans from a b c h g = record {
         )
   ];
   blocks = λ place apart. g.blocks place (past place apart) ∙ h.blocks place apart;
+  held = KeepsFrames-trans a.cache b.cache c.cache h.held g.held;
 }
   where
     inside : (n : ℕ) → n < length a.log.tables.rows → n < length b.log.tables.rows

@@ -34,6 +34,7 @@ use Rattle.lfs_segwrite.specs.Room.{KeepsFiles}
 use Rattle.lfs_staging.specs.Store.{IsSettled, IsStore}
 use Rattle.lfs_staging.specs.Changing.{StaysInLog}
 use Rattle.lfs_staging.specs.Staging.{IsStaged}
+use Rattle.lfs_staging.proofs.HeldFrames.{KeepsFrames-same, KeepsFrames-trans}
 use Rattle.lfs_staging.proofs.KeptLemmas.{staged_store, store_staged}
 use Rattle.lfs_staging.proofs.StagedLemmas.{stays-refl}
 use Rattle.lfs_ifile.specs.Tables.{row_at}
@@ -187,6 +188,7 @@ module _ (old a new : Parts) (blocks : ℕ) (is : blocks ≡ waiting_blocks old)
         flushes.still n c (subst (λ k. n < k) (sym (ap (λ (rs : List InodeRow). length rs) kept.rows)) low) below
         (λ waits. none (waits_room old a kept n c waits))
         ∙ kept.keys.places n c low below;
+    held = KeepsFrames-trans old.cache a.cache new.cache (KeepsFrames-same old.cache a.cache kept.cache) flushes.held;
     left =
         let clean = flushes.clean in
         let grown = flushes.grown in

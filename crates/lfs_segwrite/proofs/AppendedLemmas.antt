@@ -31,6 +31,7 @@ use Rattle.lfs_staging.specs.View.{key_of, root_in, tree_of, version_of, waiting
 use Rattle.lfs_staging.specs.Waiting.{AreOnce}
 use Rattle.lfs_segwrite.proofs.PutLemmas.{blocks_put, next_some, record_put, unread_next}
 use Rattle.lfs_segwrite.proofs.AlikeLemmas.{AreAlike, alike_content, alike_files, alike_place, alike_staged}
+use Rattle.lfs_staging.proofs.HeldFrames.{KeepsFrames-same}
 
 -- spare bytes may be fewer
 pub fewer_spare : (p : Parts) (more less : ℕ) → less ≤ more → IsStaged p more → IsStaged p less
@@ -123,6 +124,7 @@ module _ (p q : Parts) (a : ℕ) (block : List ℕ) (put : AppendsBlock p q a bl
     moved = λ n c low below waits none. absurd (none (waits_after n c waits));
     blocks = λ b apart. put.blocks b (let end = put.end in let inside = put.inside in
         elim apart [ inl low ↦ λ e. omega arith | inr high ↦ λ e. omega arith ]);
+    held = KeepsFrames-same p.cache q.cache put.cache;
   }
 
 -- a summary is such a block

@@ -308,5 +308,6 @@ flushed p q staged ready settled h grown = record {
   still = h.still;
   moved = λ n c low below waits. h.moved n c low below waits (none_waits q settled n c);
   blocks = h.blocks;
+  held = h.held;
   grown = grown;
 }

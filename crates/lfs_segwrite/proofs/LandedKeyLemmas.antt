@@ -254,4 +254,5 @@ module _ (p q : Parts) (v : Inode) (block : FileBlock) (a : ℕ) (h : LandsKey p
     moved = moved_there from first;
     blocks = λ b apart. h.place.blocks b (let end = h.place.end in let room = h.room in
         elim apart [ inl low ↦ λ e. omega arith | inr high ↦ λ e. omega arith ]);
+    held = h.landed.held;
   }

@@ -44,6 +44,7 @@ use Rattle.lfs_staging.proofs.ViewLemmas.{record_of-logged}
 use Rattle.lfs_staging.proofs.RecordsLemmas.{once_front, waiting-front}
 use Rattle.lfs_staging.proofs.WaitingLemmas.{waiting-head, waiting-tail}
 use Rattle.lfs_staging.proofs.KeyLemmas.{row_place}
+use Rattle.lfs_staging.proofs.HeldFrames.{KeepsFrames-same}
 
 -- ---- the list of records, and the last of them
 waiting-last : (front : List Inode) (v : Inode) → waiting_in front v.number ≡ None
@@ -304,4 +305,5 @@ module _ (p q : Parts) (v : Inode) (front : List Inode) (address slot : ℕ) (h 
     still = stays;
     moved = moves from first;
     blocks = λ a apart. ap (λ (m : SegmentMemory). block_at m a) h.memory;
+    held = KeepsFrames-same p.cache q.cache h.cache;
   }

@@ -26,6 +26,7 @@ use Rattle.lfs_bmap.specs.declared.blocks.TheConstants.{BLOCK_CODES}
 use Rattle.lfs_staging.specs.declared.cutting.TheConstants.{CUT_FRAMES}
 use Rattle.lfs_staging.specs.declared.records.TheConstants.{WAITING_LIMIT}
 use Rattle.lfs_staging.specs.View.{version_of}
+use Rattle.lfs_staging.specs.Frames.{KeepsFrames}
 use Rattle.lfs_staging.specs.Files.{content_of}
 use Rattle.lfs_staging.specs.Keys.{log_state}
 use Rattle.lfs_staging.specs.Staging.{IsStaged}
@@ -126,7 +127,7 @@ pub record HasRoom (p : Parts) : Type 0 where
 
 -- All that waited was written as one partial segment: where the log ended, or at the start of a segment that was opened
 -- for it, where it had no room. The content is the same, nothing waits, and each key that did not wait has the place
--- that it had.
+-- that it had. The cache holds each block that it held, clean now.
 pub record WritesWaiting (old new : Parts) : Type 0 where
   pub store : IsStore new
   pub settled : IsSettled new
@@ -136,6 +137,7 @@ pub record WritesWaiting (old new : Parts) : Type 0 where
   pub versions : (number : ℕ) → version_of new number ≡ version_of old number
   pub still : (number code : ℕ) → number < length old.log.tables.rows → code < BLOCK_CODES → (Waits old number code → ⊥)
       → (log_state new).at number code ≡ (log_state old).at number code
+  pub held : KeepsFrames old.cache new.cache
   pub left : ((next_address new.log.memory ≡ next_address old.log.memory + waiting_blocks old)
       × (room_of old.log.memory ≤ room_of new.log.memory + waiting_blocks old) × (new.log.clean ≡ old.log.clean))
       ⊎ ((SEGMENT_BLOCKS ≤ room_of new.log.memory + waiting_blocks old + 1) × (new.log.clean + 1 ≡ old.log.clean)

@@ -10,6 +10,7 @@ use Rattle.lfs_bmap.specs.declared.blocks.TheConstants.{BLOCK_CODES}
 use Rattle.lfs_bmap.specs.Moves.{DirtyIn, Moves, StaysDirty}
 use Rattle.lfs_staging.specs.declared.parts.Parts.{Parts}
 use Rattle.lfs_segwrite.specs.Collecting.{blocks_of_entries, entries_of}
+use Rattle.lfs_staging.specs.Frames.{KeepsFrames}
 use Rattle.lfs_staging.specs.Files.{content_of}
 use Rattle.lfs_staging.specs.Keys.{log_state}
 use Rattle.lfs_staging.specs.Store.{IsSettled, IsStore}
@@ -34,7 +35,7 @@ Waits p number (suc code) = IsLocked (key_of number (version_of p number) (suc c
 
 -- All that waited was written as one partial segment, behind what the active segment held: one summary and the blocks
 -- that it names, and nothing where nothing waited. The content is the same. Each key that waited has a place there,
--- every other one the place that it had, and no other block changed.
+-- every other one the place that it had, and no other block changed. The cache holds each block that it held, clean now.
 pub record Flushes (old new : Parts) : Type 0 where
   pub store : IsStore new
   pub settled : IsSettled new
@@ -54,4 +55,5 @@ pub record Flushes (old new : Parts) : Type 0 where
   pub blocks : (a : ℕ) → (a < next_address old.log.memory)
       ⊎ (SEGMENT_BLOCKS * old.log.memory.active + SEGMENT_BLOCKS ≤ a)
       → block_at new.log.memory a ≡ block_at old.log.memory a
+  pub held : KeepsFrames old.cache new.cache
   pub grown : next_address new.log.memory ≡ next_address old.log.memory + blocks_of_entries (entries_of old)

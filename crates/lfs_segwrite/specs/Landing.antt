@@ -18,6 +18,7 @@ use Rattle.lfs_staging.specs.Keys.{log_state}
 use Rattle.lfs_staging.specs.Store.{HolderWaits, IsWithin}
 use Rattle.lfs_staging.specs.View.{key_of, record_of, tree_of}
 use Rattle.lfs_staging.specs.Addressing.{IsWaiting}
+use Rattle.lfs_staging.specs.Frames.{KeepsFrames}
 
 -- the entry that names a block of a file
 abbrev pub entry_of : Inode → FileBlock → SummaryEntry
@@ -59,7 +60,7 @@ pub record MayLand (p : Parts) (v : Inode) (block : FileBlock) : Type 0 where
   pub parent : (i : ℕ) (up : List ℕ) → way_to block ≡ i ∷ up → HolderWaits p.cache v.number v.version up
 
 -- A block of a file landed at an address: the log has it there with the bytes that it meant, and no data block of any
--- file reads otherwise. It waits no more, and its frame stays in the cache, clean, with its bytes.
+-- file reads otherwise. It waits no more, and its frame stays in the cache, clean, with its bytes; no other is given up.
 pub record LandsBlock (old new : Parts) (v : Inode) (block : FileBlock) (a : ℕ) : Type 0 where
   pub lands : (i : ℕ) (up : List ℕ) → way_to block ≡ i ∷ up → Lands (tree_of old v.number) (tree_of new v.number) i up a
   pub records : (number : ℕ) → number ≢ v.number → record_of new number ≡ record_of old number
@@ -71,6 +72,7 @@ pub record LandsBlock (old new : Parts) (v : Inode) (block : FileBlock) (a : ℕ
   pub settled : block_in (key_of v.number v.version (code_of block)) new.cache.locked ≡ None
   pub cached : block_in (key_of v.number v.version (code_of block)) new.cache.lru
       ≡ block_in (key_of v.number v.version (code_of block)) old.cache.locked
+  pub held : KeepsFrames old.cache new.cache
 
 -- A key took a place in the block at an address that the log just got, at its end: every other key kept the place that
 -- it had. Live bytes apart, nothing else of the log changed.

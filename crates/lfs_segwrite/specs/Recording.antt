@@ -12,13 +12,14 @@ use Rattle.lfs_bmap.specs.declared.blocks.TheConstants.{BLOCK_CODES}
 use Rattle.lfs_bmap.specs.declared.blocks.FileBlock.{FileBlock}
 use Rattle.lfs_bmap.specs.Blocks.{logical_of}
 use Rattle.lfs_staging.specs.declared.parts.Parts.{Parts}
+use Rattle.lfs_staging.specs.Frames.{KeepsFrames}
 use Rattle.lfs_staging.specs.Files.{content_of}
 use Rattle.lfs_segwrite.specs.Flushing.{Waits}
 use Rattle.lfs_staging.specs.Keys.{log_state}
 use Rattle.lfs_staging.specs.View.{fields_at, version_of}
 
 -- The log went on behind an address: each key that waits no more has a place there, every other one the place that it
--- had. No other block changed, and the content is the same.
+-- had. No other block changed, the content is the same, and no frame is given up.
 pub record Advances (from : ℕ) (old new : Parts) : Type 0 where
   pub content : content_of new ≡ content_of old
   pub segments : new.log.memory.segments ≡ old.log.memory.segments
@@ -38,6 +39,7 @@ pub record Advances (from : ℕ) (old new : Parts) : Type 0 where
       → (from ≤ (log_state new).at number code / 4) × ((log_state new).at number code / 4 < next_address new.log.memory)
   pub blocks : (a : ℕ) → (a < from) ⊎ (SEGMENT_BLOCKS * old.log.memory.active + SEGMENT_BLOCKS ≤ a)
       → block_at new.log.memory a ≡ block_at old.log.memory a
+  pub held : KeepsFrames old.cache new.cache
 
 -- The log has the record of an inode in a slot of the block at an address, and names it there.
 pub record StandsAt (p : Parts) (v : Inode) (address slot : ℕ) : Type 0 where

@@ -35,6 +35,7 @@ pub mod ForgettingLemmas
 pub mod CleanLemmas
 pub mod FilledLemmas
 pub mod HeldLemmas
+pub mod HeldFrames
 pub mod OtherBytesLemmas
 pub mod OtherNumbers
 pub mod GivenBackLemmas

@@ -9,5 +9,6 @@ pub mod Waiting
 pub mod Putting
 pub mod Changing
 pub mod Clean
+pub mod Frames
 pub mod Cutting
 pub mod Addressing

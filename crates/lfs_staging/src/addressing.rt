@@ -6,8 +6,10 @@ ghost use Rattle.lfs_inodes.specs.declared.inode.TheConstants.{ADDRESS_LIMIT};
 ghost use Rattle.lfs_cache.specs.Changes.{IsContents};
 ghost use Rattle.lfs_cache.specs.declared.key.Key.{Key};
 ghost use Rattle.lfs_cache.specs.Contents.{block_in};
+ghost use Rattle.lfs_bmap.specs.declared.blocks.TheConstants.{FIRST_DATA_CODE};
 ghost use Rattle.lfs_bmap.specs.Blocks.{IsFileBlock, way_to};
 ghost use Rattle.lfs_staging.specs.Addressing.{IsWaiting, Sets, SetsEntry, StaysWaiting};
+ghost use Rattle.lfs_staging.specs.Frames.{KeepsFrames};
 ghost use Rattle.lfs_staging.specs.Store.{HolderWaits, IsPresent, IsWithin};
 
 use crate::parts::{Parts, key_of};
@@ -20,9 +22,11 @@ use lfs_inodes::inode::Inode;
 #[tactic(auto, using(crate::proofs::HeldLemmas::gains_none))]
 fn set_entry(cache: &mut Cache, key: Key, index: usize, address: u32)
     requires inside { index < 128 }
+    requires table { key.lbn.0 < FIRST_DATA_CODE }
     requires waits { IsSome (block_in key cache.old.locked) }
-    ensures { (block : List ℕ) → block_in key cache.old.locked ≡ Some block
+    ensures set { (block : List ℕ) → block_in key cache.old.locked ≡ Some block
         → SetsEntry cache.old cache.new key index address block }
+    ensures held { KeepsFrames cache.old cache.new }
 {
     match cache.dirty(key) {
         Some(indirect) => {
@@ -48,6 +52,7 @@ impl Parts {
         ensures set { (i : ℕ) (up : List ℕ) → way_to block ≡ i ∷ up
             → Sets self.old self.new inode.now i up address }
         ensures waiting { StaysWaiting self.old self.new inode.now }
+        ensures held { KeepsFrames self.old.cache self.new.cache }
     {
         let Some(Cell { table, index }) = block.cell() else {
             return;

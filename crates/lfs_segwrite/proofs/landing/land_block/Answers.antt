@@ -20,6 +20,7 @@ use Rattle.lfs_staging.specs.Keys.{log_state}
 use Rattle.lfs_segwrite.specs.Landing.{AppendsBlock, entry_of}
 use Rattle.lfs_staging.specs.View.{LiesIn, blocks_of, key_of, tree_of}
 use Rattle.lfs_staging.proofs.FileLemmas.{tree_from-of}
+use Rattle.lfs_staging.proofs.HeldFrames.{KeepsFrames-same, KeepsFrames-trans, settled_frames}
 use Rattle.lfs_staging.proofs.HeldLemmas.{clean_was, keeps_gains, settled_own}
 use Rattle.lfs_staging.proofs.KeyLemmas.{lies_in, place-block}
 use Rattle.lfs_segwrite.proofs.KeepingLemmas.{content_kept, files_kept, frames_kept, frames_only}
@@ -179,6 +180,11 @@ returns-clause-landed c =
       rows = st.rows ∙ ap (λ (t : Tables). t.rows) st.put.tables;
       settled = st.gone;
       cached = own_clean c w.0 w.1 w.2;
+      held = KeepsFrames-trans p.cache s.cache q.cache
+          (KeepsFrames-trans p.cache r.cache s.cache (KeepsFrames-same p.cache r.cache st.put.cache)
+          c.set_address.ensures.held)
+          (settled_frames s.cache q.cache (key_of v.number v.version c.code.result) c.settle.ensures.kept
+          c.settle.ensures.others);
     }
 
 pub returns-clause-log : goal.returns-clause-log

@@ -1,9 +1,13 @@
-use Rattle.std.proofs.Common.{◌∷◌, [], IsSome, refl, sym, ap, ◌∙◌, subst}
+use Rattle.std.proofs.Common.{◌<◌, ◌∷◌, [], IsSome, refl, sym, ap, ◌∙◌, subst}
+use Rattle.lfs_cache.specs.declared.key.Key.{Key}
 use Rattle.lfs_cache.specs.Contents.{block_in}
+use Rattle.lfs_bmap.specs.declared.blocks.TheConstants.{FIRST_DATA_CODE}
 use Rattle.lfs_bmap.specs.Blocks.{way_to, code_of}
+use Rattle.lfs_bmap.proofs.HolderLemmas.{table_of-code}
 use Rattle.lfs_staging.specs.declared.parts.Parts.{Parts}
 use Rattle.lfs_staging.specs.Addressing.{Sets, SetsEntry}
 use Rattle.lfs_staging.specs.View.{key_of}
+use Rattle.lfs_staging.proofs.HeldFrames.{KeepsFrames-refl}
 use Rattle.lfs_staging.proofs.KeyLemmas.{code-other, within_root, cell_inside}
 use Rattle.lfs_staging.proofs.SettingLemmas.{at_way, holder_locked, sets_entry, sets_record, some_there, stays_entry}
 use Rattle.lfs_staging.proofs.SettingLemmas.{stays_record}
@@ -32,6 +36,9 @@ returns-in-Record-clause-waiting c =
     c.with_root.ensures.attributes c.replace.ensures.record
     refl c.requires.cache c.requires.present c.replace.ensures.items
 
+pub returns-in-Record-clause-held : goal.returns-in-Record-clause-held
+returns-in-Record-clause-held c = KeepsFrames-refl c.args.self.now.cache
+
 pub set_entry-requires : goal.set_entry-requires
 set_entry-requires c =
     let p = c.args.self.now in let v = c.args.inode.now in let t = c.in-Some.field-0.table in
@@ -40,6 +47,8 @@ set_entry-requires c =
     (c.requires.parent c.in-Some.field-0.index (way_to t) c.in-Some.ensures.way) in
     record {
       inside = cell_inside t c.in-Some.field-0.index c.in-Some.ensures.inside;
+      table = subst (λ n. n < FIRST_DATA_CODE) (sym (ap (λ (k : Key). k.lbn.0) c.key_of-key.ensures
+          ∙ ap code_of c.in-Some.ensures.table)) (table_of-code c.args.block c.requires.block);
       waits = subst (λ k. IsSome (block_in k p.cache.locked)) (ap (key_of v.number v.version) (code_at-way_to t)
           ∙ sym c.key_of-key.ensures) locked;
     }
@@ -59,7 +68,7 @@ returns-in-Single c =
     (subst (λ k. IsSome (block_in (key_of v.number v.version k) p.cache.locked)) (code_at-way_to t) locked) in
     let set = subst (λ k. SetsEntry p.cache q.cache k c.in-Some.field-0.index c.args.address here.0)
     c.key_of-key.ensures
-    (c.set_entry.ensures here.0 (ap (λ k. block_in k p.cache.locked) c.key_of-key.ensures ∙ here.1)) in
+    (c.set_entry.ensures.set here.0 (ap (λ k. block_in k p.cache.locked) c.key_of-key.ensures ∙ here.1)) in
     record {
       set = at_way (λ i up. Sets p q v i up c.args.address) (way_to c.args.block) c.in-Some.field-0.index
           (way_to t) c.in-Some.ensures.way
@@ -67,4 +76,5 @@ returns-in-Single c =
           set);
       waiting = stays_entry p q v t c.in-Some.field-0.index c.args.address here.0 some c.requires.record refl refl
           here.1 set c.requires.present;
+      held = c.set_entry.ensures.held;
     }
