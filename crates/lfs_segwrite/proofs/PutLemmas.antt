@@ -1,9 +1,10 @@
 -- A block put at the log's end leaves each file as it was: `appends`, for `append_block` and `append_waiting`, and
--- `record_put` and `unread_next`, for AppendedLemmas too. Each key lies before the log's end or in another segment (IsLog), so no file has a block at the
--- address that is written next, and each record stands where the log was written before (`record_older`). Address 0
--- means none, and the log never goes on there (`next_some`) as the first segment begins with the label; a log that
--- could write over its own blocks would break `unread_next`.
-use Rattle.std.proofs.Common.{◌≡◌, ◌≢◌, ℕ, zero, suc, ◌+◌, ◌*◌, ◌/◌, ◌<◌, ◌≤◌, List, [], length, Some, refl, sym, ap, ◌∙◌}
+-- `record_put` and `unread_next`, for AppendedLemmas too. Each key lies before the log's end or in another segment
+-- (IsLog), so no file has a block at the address that is written next, and each record stands where the log was written
+-- before (`record_older`). Address 0 means none, and the log never goes on there (`next_some`) as the first segment
+-- begins with the label; a log that could write over its own blocks would break `unread_next`.
+use Rattle.std.proofs.Common.{◌≡◌, ◌≢◌, ℕ, zero, suc, ◌+◌, ◌*◌, ◌/◌, ◌<◌, ◌≤◌, List, [], length, Some, refl, sym, ap}
+use Rattle.std.proofs.Common.{◌∙◌}
 use Rattle.std.proofs.Common.{subst, inl, inr, arith}
 use Rattle.std.proofs.lemmas.Bool.{cases_Bool, cases_eq, cases_lt, cond-true}
 use Rattle.lfs_ifile.specs.declared.inode.InodePlace.{InodePlace}
