@@ -1,9 +1,10 @@
--- A block put at the log's end leaves each file as it was: `record_put` and `unread_next`, for `append_block` and
--- AppendedLemmas. Each key lies before the log's end or in another segment (IsLog), so no file has a block at the
--- address that is written next, and each record stands where the log was written before (`record_older`). Address 0
--- means none, and the log never goes on there (`next_some`) as the first segment begins with the label; a log that
--- could write over its own blocks would break `unread_next`.
-use Rattle.std.proofs.Common.{◌≡◌, ◌≢◌, ℕ, zero, suc, ◌+◌, ◌*◌, ◌/◌, ◌<◌, ◌≤◌, List, [], length, Some, sym, ap, ◌∙◌}
+-- A block put at the log's end leaves each file as it was: `appends`, for `append_block` and `append_waiting`, and
+-- `record_put` and `unread_next`, for AppendedLemmas too. Each key lies before the log's end or in another segment
+-- (IsLog), so no file has a block at the address that is written next, and each record stands where the log was written
+-- before (`record_older`). Address 0 means none, and the log never goes on there (`next_some`) as the first segment
+-- begins with the label; a log that could write over its own blocks would break `unread_next`.
+use Rattle.std.proofs.Common.{◌≡◌, ◌≢◌, ℕ, zero, suc, ◌+◌, ◌*◌, ◌/◌, ◌<◌, ◌≤◌, List, [], length, Some, refl, sym, ap}
+use Rattle.std.proofs.Common.{◌∙◌}
 use Rattle.std.proofs.Common.{subst, inl, inr, arith}
 use Rattle.std.proofs.lemmas.Bool.{cases_Bool, cases_eq, cases_lt, cond-true}
 use Rattle.lfs_ifile.specs.declared.inode.InodePlace.{InodePlace}
@@ -14,14 +15,16 @@ use Rattle.lfs_inodes.specs.Slots.{slot_of}
 use Rattle.lfs_segments.specs.declared.entry.SummaryEntry.{SummaryEntry}
 use Rattle.lfs_segments.specs.Log.{Expects, Extends, IsOlder}
 use Rattle.lfs_segments.specs.Memory.{IsLaidOut, SegmentMemory, block_at, log_start, next_address, room_of}
-use Rattle.lfs_log.specs.Parts.{IsParts, record_place}
+use Rattle.lfs_log.specs.Parts.{IsParts, LogParts, record_place}
+use Rattle.lfs_log.specs.Parts as log
 use Rattle.lfs_log.proofs.NameLemmas.{written_older}
-use Rattle.lfs_bmap.specs.Log.{IsLog}
+use Rattle.lfs_bmap.specs.Log.{IsLog, Writes}
 use Rattle.lfs_bmap.specs.Reading.{IsUnread, address}
 use Rattle.lfs_bmap.specs.Ways.{code_at, way_of}
 use Rattle.lfs_bmap.proofs.ReadingLemmas.{address-root}
 use Rattle.lfs_bmap.proofs.WayLemmas.{known_way_of, way_of-zero}
 use Rattle.lfs_staging.specs.declared.parts.Parts.{Parts}
+use Rattle.lfs_segwrite.specs.Landing.{AppendsBlock, ExpectsSome}
 use Rattle.lfs_staging.specs.Keys.{log_state}
 use Rattle.lfs_staging.specs.View.{fields_at, record_of, tree_of, waiting_in, waiting_or}
 use Rattle.lfs_staging.proofs.FileLemmas.{free_place, record_of-past}
@@ -120,3 +123,29 @@ unread_next p number spare parts log room low = λ way known e.
           let below = key.written (omega (arith, at, room)) in
           omega (arith, at, below)
     ]
+
+-- A block that was put at the log's end, where the log expected one: each file is as it was.
+pub appends : (p : Parts) (l : LogParts) (a : ℕ) (block : List ℕ) → IsParts p.log → IsLog (log_state p) 0
+    → (e : ExpectsSome p.log.memory) → a ≡ next_address p.log.memory → block_at l.memory a ≡ block
+    → l.tables ≡ p.log.tables → Extends p.log.memory l.memory
+    → next_address l.memory ≡ next_address p.log.memory + 1 → Expects l.memory e.rest
+    → Writes (log_state p) (log.log_state l (log_state p).at) 1
+    → AppendsBlock p (record { log = l; cache = p.cache; waiting = p.waiting }) a block
+appends p l a block parts is_log e end written tables extends next expects step =
+    let q : Parts = record { log = l; cache = p.cache; waiting = p.waiting } in
+    let room : 1 ≤ room_of p.log.memory = let fit = e.expects.fit in omega arith in
+    record {
+      end = end;
+      somewhere = λ none. let some = next_some p.log.memory parts.laid_out in omega (arith, end, none, some);
+      inside = omega (arith, end, room);
+      tables = tables;
+      cache = refl;
+      waiting = refl;
+      written = written;
+      blocks = λ b other. blocks_put p.log.memory l.memory _ e.rest extends next e.expects expects b
+          (λ is. other (is ∙ sym end));
+      unread = λ number low. subst (IsUnread (tree_of p number)) (sym end)
+          (unread_next p number 0 parts is_log room low);
+      records = λ number. record_put p q number 0 parts is_log extends tables refl;
+      step = step;
+    }

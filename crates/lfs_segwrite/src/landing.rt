@@ -1,9 +1,9 @@
 //! Writing what waits into the log.
 
-ghost use Rattle.std.specs.Prelude.{◌≡◌, ◌+◌, ◌*◌, ◌≤◌, ◌∷◌, length, List, Some, false};
+ghost use Rattle.std.specs.Prelude.{◌≡◌, ◌+◌, ◌*◌, ◌≤◌, ◌∷◌, ℕ, length, List, Some, false};
 ghost use Rattle.lfs_inodes.specs.declared.inode.Inode.{Inode};
 ghost use Rattle.lfs_cache.specs.declared.key.Key.{Key};
-ghost use Rattle.lfs_cache.specs.Contents.{IsLocked};
+ghost use Rattle.lfs_cache.specs.Contents.{IsLocked, block_in};
 ghost use Rattle.lfs_cache.specs.Keys.{same_key};
 ghost use Rattle.lfs_segments.specs.declared.entry.SummaryEntry.{SummaryEntry};
 ghost use Rattle.lfs_segments.specs.Log.{Expects, Extends, entry_at};
@@ -24,6 +24,29 @@ use lfs_inodes::inode::Inode;
 use lfs_segments::entry::SummaryEntry;
 use lfs_staging::parts::Parts;
 use lfs_types::block::Block;
+
+/// Writes a block that waits at the log's end, which expects one, and gives its address.
+fn append_waiting(parts: &mut Parts, key: Key) -> u32
+    requires parts { IsParts parts.old.log }
+    requires log { IsLog (log_state parts.old) 0 }
+    requires expected { ExpectsSome parts.old.log.memory }
+    requires waits { IsLocked key parts.old.cache }
+    ensures put { (bytes : List ℕ) → block_in key parts.old.cache.locked ≡ Some bytes
+        → AppendsBlock parts.old parts.new result bytes }
+    ensures named { (entry : SummaryEntry) (rest : List SummaryEntry)
+        → Expects parts.old.log.memory (entry ∷ rest)
+        → entry_at parts.new.log.memory result ≡ Some entry }
+    ensures next { next_address parts.new.log.memory ≡ next_address parts.old.log.memory + 1 }
+    ensures extends { Extends parts.old.log.memory parts.new.log.memory }
+    ensures expects { (entry : SummaryEntry) (rest : List SummaryEntry)
+        → Expects parts.old.log.memory (entry ∷ rest) → Expects parts.new.log.memory rest }
+    ensures kept { IsParts parts.new.log }
+{
+    match parts.cache.dirty(key) {
+        Some(bytes) => parts.log.put(bytes),
+        None => unreachable!(),
+    }
+}
 
 /// Writes a block at the log's end, which expects one, and gives its address.
 pub(crate) fn append_block(parts: &mut Parts, bytes: &Block) -> u32
@@ -68,15 +91,14 @@ pub fn land_block(parts: &mut Parts, inode: &Inode, block: FileBlock) -> u32
     ensures fewer { length parts.new.cache.locked ≤ length parts.old.cache.locked }
 {
     let from = parts.address_of(inode, block);
-    let bytes = *parts.block_of(inode, block);
-    let to = append_block(parts, &bytes);
-    parts.set_address(inode, block, to);
-    parts.log.move_live(block, from, to);
     let key = Key {
         ino: inode.number,
         version: inode.version,
         lbn: BlockCode(block.code()),
     };
+    let to = append_waiting(parts, key);
+    parts.set_address(inode, block, to);
+    parts.log.move_live(block, from, to);
     parts.cache.settle(key);
     to
 }

@@ -16,6 +16,7 @@ pub mod TakenLemmas
 pub mod WaitingLemmas
 pub mod KeptLemmas
 pub mod PuttingLemmas
+pub mod WholeLemmas
 pub mod GrowthLemmas
 pub mod MakingLemmas
 pub mod GivingLemmas

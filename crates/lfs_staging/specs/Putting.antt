@@ -1,5 +1,5 @@
 -- Bytes put into a file.
-use Rattle.std.specs.Prelude.{◌≡◌, ◌≢◌, ℕ, ◌+◌, ◌-◌, ◌/◌, ◌<◌, ◌≤◌, max, List, length, Some, true}
+use Rattle.std.specs.Prelude.{◌≡◌, ◌≢◌, ℕ, ◌+◌, ◌-◌, ◌*◌, ◌/◌, ◌<◌, ◌≤◌, max, List, length, Some, true}
 use Rattle.std.specs.FinMap as map
 use Rattle.lfs_types.specs.Changes.{changed_at}
 use Rattle.lfs_types.specs.Splicing.{splice}
@@ -22,6 +22,10 @@ use Rattle.lfs_staging.specs.Staging.{IsStaged, MayStage, TakesFrames}
 use Rattle.lfs_staging.specs.Store.{AreFiles, ParentsWait}
 use Rattle.lfs_staging.specs.Waiting.{without}
 use Rattle.lfs_staging.specs.View.{LiesIn, blocks_of, record_of, tree_of}
+
+-- all of block n of a file is among some bytes at a place of it
+abbrev pub Covers : ℕ → ℕ → List ℕ → Type 0
+Covers n start bytes = (start ≤ BLOCK_SIZE * n) × (BLOCK_SIZE * n + BLOCK_SIZE ≤ start + length bytes)
 
 -- how many blocks some bytes at a place of a file fall into, at least one
 abbrev pub blocks_of_put : ℕ → ℕ → ℕ

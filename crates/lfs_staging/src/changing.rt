@@ -1,6 +1,7 @@
 //! Changing what waits: bytes put into a file.
 
-ghost use Rattle.std.specs.Prelude.{◌≡◌, ◌+◌, ◌*◌, ◌-◌, ◌/◌, ◌<◌, ◌≤◌, ℕ, List, max, length, Some};
+ghost use Rattle.std.specs.Prelude.{◌≡◌, ◌+◌, ◌*◌, ◌-◌, ◌/◌, ◌<◌, ◌≤◌, ◌^◌, ℕ, List, max, length, IfNone, IfSome, Some};
+ghost use Rattle.lfs_bmap.specs.Pieces.{IsPut};
 ghost use Rattle.lfs_bmap.specs.Reading.{address};
 ghost use Rattle.lfs_bmap.specs.Ways.{IsBlockWay, codes_on, data_way};
 ghost use Rattle.lfs_staging.specs.View.{record_of, tree_of};
@@ -8,7 +9,7 @@ ghost use Rattle.lfs_types.specs.declared.limits.TheConstants.{FILE_BLOCKS};
 ghost use Rattle.lfs_cache.specs.declared.cache.TheConstants.{LOCKED_LIMIT};
 ghost use Rattle.lfs_inodes.specs.Reading.{Fields};
 ghost use Rattle.lfs_inodes.specs.Facts.{IsSizeOf, block_count};
-ghost use Rattle.lfs_staging.specs.Putting.{GrowsTo, MayChange, MayPut, PutsBlock, PutsBytes, frames_of_put, with_attrs, with_put};
+ghost use Rattle.lfs_staging.specs.Putting.{Covers, GrowsTo, MayChange, MayPut, PutsBlock, PutsBytes, frames_of_put, with_attrs, with_put};
 ghost use Rattle.lfs_staging.specs.Files.{content_of};
 ghost use Rattle.lfs_staging.specs.Staging.{HasFrames, IsStaged, MayStage};
 
@@ -17,6 +18,25 @@ use lfs_bmap::blocks::FileBlock;
 use lfs_bmap::pieces::{blocks_touched, put_piece};
 use lfs_inodes::inode::Inode;
 use lfs_types::attrs::Attrs;
+use lfs_types::block::{BLOCK_SIZE, Block};
+
+/// A data block of a file, where all of it is among bytes put at byte `off` of the file.
+fn whole_of<'a>(index: u32, off: u64, bytes: &'a [u8]) -> Option<&'a Block>
+    requires { off + length bytes.now < 2 ^ 64 }
+    ensures whole { IfSome result (λ block. (old : List ℕ) → IsPut index off bytes.now old block.now) }
+    ensures part { IfNone result (Covers index off bytes.now → ⊥) }
+{
+    let first = BLOCK_SIZE as u64 * u64::from(index);
+    let end = off + bytes.len() as u64;
+    if first < off || end < first + BLOCK_SIZE as u64 {
+        return None;
+    }
+    let from = (first - off) as usize;
+    match <&Block>::try_from(&bytes[from..from + BLOCK_SIZE]) {
+        Ok(block) => Some(block),
+        Err(_) => unreachable!(),
+    }
+}
 
 impl Parts {
     /// Puts bytes, at least one, into a file in use at byte `off`: they wait, with the record and the
@@ -61,8 +81,23 @@ impl Parts {
     }
 
     /// Puts into a data block of a file what falls into it of bytes put at byte `off` of the file, all
-    /// below its size.
+    /// below its size. A block that is overwritten whole isn't read.
     fn put_block(&mut self, inode: &Inode, index: u32, off: u64, bytes: &[u8])
+        requires may { MayStage self.old inode.now }
+        requires room { HasFrames self.old inode.now.number (codes_on (data_way index)) }
+        requires block { index < FILE_BLOCKS }
+        requires within { index < block_count inode.now.size }
+        requires below { off + length bytes.now ≤ inode.now.size }
+        ensures { PutsBlock inode.now index off bytes.now self.old self.new }
+    {
+        match whole_of(index, off, bytes) {
+            Some(block) => self.stage_data(inode, index, block),
+            None => self.put_part(inode, index, off, bytes),
+        }
+    }
+
+    /// Puts it over what the block has.
+    fn put_part(&mut self, inode: &Inode, index: u32, off: u64, bytes: &[u8])
         requires may { MayStage self.old inode.now }
         requires room { HasFrames self.old inode.now.number (codes_on (data_way index)) }
         requires block { index < FILE_BLOCKS }

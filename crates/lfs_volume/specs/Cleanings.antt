@@ -1,9 +1,9 @@
 -- What a cleaner's call is answered over a store, and how it leaves the store.
-use Rattle.std.specs.Prelude.{◌≡◌, ◌≢◌, ◌⊎◌, ℕ, ◌+◌, ◌^◌, ◌<◌, ◌≤◌, List, Result, Ok, Err, IfSome, length}
+use Rattle.std.specs.Prelude.{◌≡◌, ◌≢◌, ◌⊎◌, ℕ, ◌+◌, ◌^◌, ◌<◌, ◌≤◌, List, Option, None, Some, Result, Ok, Err, IfSome, length}
 use Rattle.lfs_types.specs.Caller.{Caller}
 use Rattle.lfs_types.specs.Cleaned.{CleanerCalls, with_clean_segment}
 use Rattle.lfs_types.specs.StoreStates.{Follows, StoreState}
-use Rattle.lfs_types.specs.declared.answer.Resource.TheVariants.{NoMemory}
+use Rattle.lfs_types.specs.declared.answer.Resource.TheVariants.{JournalFull, NoMemory}
 use Rattle.lfs_types.specs.declared.cleaner.BlockInfo.{BlockInfo}
 use Rattle.lfs_types.specs.declared.cleaner.CleanFault.{CleanFault}
 use Rattle.lfs_types.specs.declared.cleaner.CleanerCall.{CleanerCall}
@@ -16,6 +16,8 @@ use Rattle.lfs_types.specs.declared.store.StoreRefusal.{StoreRefusal}
 use Rattle.lfs_model.specs.declared.journal.CleanerAnswer.{CleanerAnswer}
 use Rattle.lfs_model.specs.declared.journal.CleanerAnswer.TheVariants.{Refused, Denied, Fault, Ifile, Infos, Bmapv}
 use Rattle.lfs_model.specs.declared.journal.CleanerAnswer.TheVariants.{Marked, Cleaned}
+use Rattle.lfs_model.specs.declared.journal.CleanerOutcome.{CleanerOutcome}
+use Rattle.lfs_model.specs.declared.journal.CleanerOutcome.TheVariants as outcomes
 use Rattle.lfs_model.specs.declared.journal.Event.TheVariants.{Cleaner as Cleaning}
 use Rattle.lfs_model.specs.Cleaning.{IsCleaning, kind_of}
 use Rattle.lfs_model.specs.Memory.{HandsIn}
@@ -69,6 +71,13 @@ abbrev pub IsCleanerAnswer : {F : Type 0} → Cleaner F → F → Caller → Cle
 IsCleanerAnswer r old caller call (Denied denial) new = (caller.uid ≢ 0) × (denial ≡ not_superuser) × (new ≡ old)
 IsCleanerAnswer r old caller call (Refused NoMemory) new = MayWantMemory caller call × (new ≡ old)
 IsCleanerAnswer r old caller call answer new = (caller.uid ≡ 0) × IsDone r old call answer new
+
+-- the answer to a Segclean of which the journal tells this; of none there was no room in it
+abbrev pub reclaim_answer : Option CleanerOutcome → CleanerAnswer
+reclaim_answer None = Refused JournalFull
+reclaim_answer (Some outcomes.Denied) = Denied not_superuser
+reclaim_answer (Some (outcomes.Fault fault)) = Fault fault
+reclaim_answer (Some (outcomes.Done count)) = Cleaned
 
 -- how a cleaner's answer leaves the clean segments: one more where it made a segment clean, else no more than before
 abbrev pub CleansOnly : CleanerAnswer → StoreState → StoreState → Type 0

@@ -1,11 +1,11 @@
 //! The cleaner's calls over a store.
 
-ghost use Rattle.std.specs.Prelude.{◌≡◌, ◌^◌, ◌<◌, ◌≤◌, List, Ok, Err, IfSome, MatchResult, length};
+ghost use Rattle.std.specs.Prelude.{◌≡◌, ◌^◌, ◌<◌, ◌≤◌, List, Ok, Err, IfSome, MatchResult, Some, length};
 ghost use Rattle.lfs_types.specs.Caller.{Caller};
 ghost use Rattle.lfs_types.specs.Cleaned.{IsListingFault, ifile_size};
 ghost use Rattle.lfs_types.specs.declared.cleaner.BlockInfo.{BlockInfo};
 ghost use Rattle.lfs_model.specs.Runs.{outcome_of};
-ghost use Rattle.lfs_volume.specs.Cleanings.{IsCleaned, IsCleanerAnswer, IsCounted, IsDone, cleaner_of};
+ghost use Rattle.lfs_volume.specs.Cleanings.{IsCleaned, IsCleanerAnswer, IsCounted, IsDone, cleaner_of, reclaim_answer};
 
 use lfs_calls::tree::Tree;
 use lfs_model::journal::{CleanerAnswer, CleanerOutcome};
@@ -63,6 +63,25 @@ fn done<F: CleanedStore>(store: &mut Tree<F>, call: CleanerCall) -> CleanerAnswe
             Ok(()) => CleanerAnswer::Cleaned,
             Err(fault) => CleanerAnswer::Fault(fault),
         },
+    }
+}
+
+/// What the journal tells of a Segclean: a denial where the caller is not the superuser, else what the store's call gives.
+pub fn reclaimed<F: CleanedStore>(store: &mut Tree<F>, cred: &Cred, segment: u32) -> CleanerOutcome
+    ensures answered { IsCleanerAnswer
+        (cleaner_of F.state F.is_settled F.made F.cleaner)
+        store.old cred.now (CleanerCall.Segclean segment) (reclaim_answer (Some result)) store.new }
+    ensures cleaned { IsCleaned (F.state store.old) (F.state store.new) cred.now
+        (CleanerCall.Segclean segment) (reclaim_answer (Some result)) }
+    ensures told { outcome_of (reclaim_answer (Some result)) ≡ Some result }
+{
+    if cred.is_superuser() {
+        match store.segclean(segment) {
+            Ok(()) => CleanerOutcome::Done(0),
+            Err(fault) => CleanerOutcome::Fault(fault),
+        }
+    } else {
+        CleanerOutcome::Denied
     }
 }
 

@@ -1,6 +1,6 @@
 //! A volume: a file store under the rules, and the journal of what was answered.
 
-ghost use Rattle.std.specs.Prelude.{◌≡◌, ◌↔◌, ◌-◌, ◌^◌, ◌<◌, ◌≤◌, [], ◌∷◌, ◌++◌, length, vec_len, false, ⊤, IfOk, IfErr, MatchOption};
+ghost use Rattle.std.specs.Prelude.{◌≡◌, ◌↔◌, ◌-◌, ◌^◌, ◌<◌, ◌≤◌, [], ◌∷◌, ◌++◌, length, vec_len, false, ⊤, IfOk, IfErr, MatchOption, None};
 ghost use Rattle.std.specs.Vec.{vec_capacity};
 ghost use Rattle.lfs_types.specs.StoreStates.{Follows};
 ghost use Rattle.lfs_types.specs.Tree.{opening_world};
@@ -18,12 +18,12 @@ ghost use Rattle.lfs_calls.specs.Volumes.{HasWorld, IsVolume};
 ghost use Rattle.lfs_explain.specs.Asked.{asked};
 ghost use Rattle.lfs_explain.specs.Trails.{IsTrail, first_names, second_names};
 ghost use Rattle.lfs_volume.specs.CallRuns.{AreCallsAsked};
-ghost use Rattle.lfs_volume.specs.Cleanings.{CleansOnly, IsCleanerAnswer, cleaner_of};
+ghost use Rattle.lfs_volume.specs.Cleanings.{CleansOnly, IsCleanerAnswer, cleaner_of, reclaim_answer};
 ghost use Rattle.lfs_volume.specs.Copies.{is_lack_of_memory};
 ghost use Rattle.lfs_volume.specs.Journals.{AtPresent, Begins, IsAnswered, IsJournal, Since, Stays, StaysJournal, level_left, level_set};
 ghost use Rattle.lfs_volume.specs.StepRuns.{AreLegalAlone, AreSteps, IsActMade};
 
-use crate::cleaning::{cleaned, outcome};
+use crate::cleaning::{cleaned, outcome, reclaimed};
 use lfs_calls::not_served::answered;
 use lfs_calls::reading::read;
 use lfs_calls::serving::serve;
@@ -31,7 +31,7 @@ use lfs_calls::tree::Tree;
 use lfs_explain::explain::{Explanation, explain};
 use lfs_model::asking::CleanerAct;
 use lfs_model::counts::Counts;
-use lfs_model::journal::{Call, CleanerAnswer, Entry, Event};
+use lfs_model::journal::{Call, CleanerAnswer, CleanerOutcome, Entry, Event};
 use lfs_model::steps::{Act, Step, StepAnswer};
 use lfs_types::answer::{Answer, Resource, Served};
 use lfs_types::cleaned::CleanedStore;
@@ -384,6 +384,44 @@ impl<F: CleanedStore + Drop> Volume<F> {
         let cleaning = Event::Cleaner(act, outcome);
         enter(&mut self.journal, &mut self.counts, session, cred, cleaning);
         answer
+    }
+
+    /// Has a segment become clean, as `clean` does by a Segclean, and gives what the journal tells of its answer; `None`
+    /// where the journal has no room, and then nothing is done. No list of infos is moved for it.
+    pub fn reclaim(&mut self, session: u8, cred: &Cred, segment: u32) -> Option<CleanerOutcome>
+        ensures full { (result ≡ None) ↔ (length self.old.journal ≡ self.old.limit) }
+        ensures at_limit { length self.old.journal ≡ self.old.limit → self.new ≡ self.old }
+        ensures shown { AtPresent F.state self.old (IsVolume (F.state self.old.store)) }
+        ensures answered { length self.old.journal < self.old.limit → IsCleanerAnswer
+            (cleaner_of F.state F.is_settled F.made F.cleaner)
+            self.old.store cred.now (CleanerCall.Segclean segment) (reclaim_answer result)
+            self.new.store }
+        ensures entered { self.new.journal ≡ self.old.journal
+            ++ kept_cleaning session cred.now (CleanerCall.Segclean segment) (reclaim_answer result) }
+        ensures legal { Since (F.state self.new.since) self.new.since_level (λ from. IsJournal from
+            (F.state self.new.store) self.new.level self.new.journal self.new.limit) }
+        ensures stays { Stays (F.state self.old.store) (F.state self.new.store)
+            self.old.level self.new.level }
+        ensures cleans { CleansOnly (reclaim_answer result) (F.state self.old.store)
+            (F.state self.new.store) }
+        ensures since { self.new.since ≡ self.old.since }
+        ensures since_level { self.new.since_level ≡ self.old.since_level }
+        ensures limit { self.new.limit ≡ self.old.limit }
+    {
+        let is_full = self.journal.len() == self.limit as usize;
+        if is_full {
+            return None;
+        }
+        let outcome = reclaimed(&mut self.store, cred, segment);
+        let reclaiming = Event::Cleaner(CleanerAct::Segclean(segment), outcome);
+        enter(
+            &mut self.journal,
+            &mut self.counts,
+            session,
+            cred,
+            reclaiming,
+        );
+        Some(outcome)
     }
 
     /// Makes steps one after another, each as `call` or `clean` does. Room for the answers is asked for before the
