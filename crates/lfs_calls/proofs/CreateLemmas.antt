@@ -4,7 +4,7 @@
 -- so one entry more in one block lists just one row more (ListsRows-added of Listings). The hard part is a full
 -- directory (`crowded_in`, `roomy`): each of its blocks lacks room for a name of at most 255 bytes, hence has at least
 -- one entry, so another block size or entry size breaks these sums.
-use Rattle.std.proofs.Common.{◌≡◌, ◌≢◌, ℕ, ◌+◌, ◌*◌, ◌%◌, ◌<◌, ◌≤◌, List, [], ◌∷◌, length, Option, None, Some, refl}
+use Rattle.std.proofs.Common.{◌≡◌, ◌≢◌, ℕ, ◌+◌, ◌*◌, ◌/◌, ◌%◌, ◌<◌, ◌≤◌, List, [], ◌∷◌, length, Option, None, Some, refl}
 use Rattle.std.proofs.Common.{sym, ap, subst, ◌∙◌, ⊎_elim, arith}
 use Rattle.std.proofs.lemmas.Bool.{cases_eq}
 use Rattle.std.specs.FinMap as map
@@ -42,6 +42,7 @@ use Rattle.lfs_calls.proofs.MakeLemmas.{grown_length, least_unused-is}
 use Rattle.lfs_types.proofs.Maps.{get-insert_other}
 use Rattle.lfs_types.proofs.Pieces.{put_over, splice-put_over}
 use Rattle.lfs_types.proofs.Somewhere.{present, some_and, is_some_and, there_of}
+use Rattle.lfs_calls.proofs.StandLemmas.{stands_made}
 use Rattle.lfs_calls.proofs.StepLemmas.{ShownFile, attrs_reads, child_listed}
 use Rattle.lfs_types.specs.declared.limits.TheConstants.{FILE_BLOCKS, FILE_BYTES}
 use Rattle.lfs_calls.proofs.Visible.{Stored, shown_of, unused_of}
@@ -191,7 +192,7 @@ module _ {c : Content} {w : World} (shows : Shows c w) {path : List (List ℕ)} 
       -- it lists the new name, and otherwise what it listed
       pub gives_name : (before after : Content) → before ≡ c → (file : File) → file
           ≡ new_file caller kind dir.attrs.gid mode → MakesFile before after number file dir.number room.off room.block
-          → FindsNew c after dir.number (last path) (Some number)
+          → FindsNew c after dir.number (last path) (Some number) (room.off / 512)
       gives_name before after same file new makes =
           let grown : World = record w { rows = map.insert w.rows number new_row } in
           let shown = subst (Shows after) world_is (shows_after before after same file new makes) in
@@ -210,6 +211,9 @@ module _ {c : Content} {w : World} (shows : Shows c w) {path : List (List ℕ)} 
                 (directory_still c after w grown shows shown dir.number (files dir.number unlike)
                 (directory_at shows dir.number dir.attrs is.shown is.directory))
                 (child-new w.rows number new_row absent below is.free tree.unique);
+            stands = stands_made c after number dir.number (last path) room k f.file f.stored file
+                (ap (λ (g : File). g.bytes) new) fits
+                (subst (λ x. MakesFile x after number file dir.number room.off room.block) same makes);
           }
         where
           found_in_new : (d : ℕ) (x : List ℕ) (found : Option ℕ) → d ≡ number → map.get c d ≡ None → map.get after d

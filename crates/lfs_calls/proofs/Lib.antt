@@ -37,6 +37,7 @@ pub mod RenameOutcomes
 pub mod RowLemmas
 pub mod SearchLemmas
 pub mod ShrunkStore
+pub mod StandLemmas
 pub mod StateLemmas
 pub mod StepLemmas
 pub mod SwappedRows

@@ -3,7 +3,7 @@
 -- changes where one row hangs and no row's file, so every other name leads where it led (`found_still`), and the two
 -- names of the move are read off the tree after it. Over another row that row's number is gone, and nothing hung in it
 -- (`childless`), so no name that was found in it is lost; a Rename over a filled directory would break this.
-use Rattle.std.proofs.Common.{◌≡◌, ◌≢◌, ℕ, List, None, Some, sym, ap, subst, ◌∙◌, ⊎_elim}
+use Rattle.std.proofs.Common.{◌≡◌, ◌≢◌, ℕ, ◌/◌, List, None, Some, sym, ap, subst, ◌∙◌, ⊎_elim}
 use Rattle.std.proofs.lemmas.Bool.{cases_eq}
 use Rattle.std.specs.Prelude.{option_map}
 use Rattle.std.specs.FinMap as map
@@ -26,6 +26,7 @@ use Rattle.lfs_calls.proofs.Directories.{directory_at}
 use Rattle.lfs_calls.proofs.ListedNames.{directory_still, found_gone, found_now, found_still}
 use Rattle.lfs_calls.proofs.MovedPlaces.{above, at_file, f, g, hung, kind_old, small}
 use Rattle.lfs_calls.proofs.MovedStore.{Shows-moved, same_files}
+use Rattle.lfs_calls.proofs.StandLemmas.{stands_moved, stands_swapped}
 use Rattle.lfs_calls.proofs.SwappedRows.{child-swapped, child-swapped_other, swapped, swapped_files}
 use Rattle.lfs_calls.proofs.SwappedStore.{Shows-swapped}
 
@@ -83,7 +84,7 @@ module _ {c : Content} {w : World} (shows : Shows c w) (tree : IsTree w.rows) {m
     files_free = same_files w n (hung shows tree leaves).row (hung shows tree leaves).there q new
 
     -- it lists the row under its new name, no more under the old one, and otherwise what it listed
-    pub moves_free : MovesName c after p old q new n
+    pub moves_free : MovesName c after p old q new n (places.room.off / 512)
     moves_free =
         let hangs = hung shows tree leaves in
         let moved : World = record w { rows = rows_free } in
@@ -101,6 +102,8 @@ module _ {c : Content} {w : World} (shows : Shows c w) (tree : IsTree w.rows) {m
           gives = found_now c after w moved shows shows_free q new (Some n)
               (directory_still c after w moved shows shows_free q (files_free q) into)
               (child-moved w.rows n (row new) hangs.below tree.unique free);
+          stands = stands_moved c after p q n places.taken places.room old new found.taking.0 found.room.0
+              found.taking.1 found.room.1 writes;
         }
 
   -- ---- to that of another row
@@ -129,7 +132,7 @@ module _ {c : Content} {w : World} (shows : Shows c w) (tree : IsTree w.rows) {m
         after writes
 
     -- it lists the row under the other's name, no more under its old one, and otherwise what it listed
-    pub moves_over : IsChildless w.rows m → MovesName c after p old q new n
+    pub moves_over : IsChildless w.rows m → MovesName c after p old q new n (places.room.off / 512)
     moves_over childless =
         let hangs = hung shows tree leaves in
         let other = child-is w.rows q new m there in
@@ -155,4 +158,6 @@ module _ {c : Content} {w : World} (shows : Shows c w) (tree : IsTree w.rows) {m
           gives = found_now c after w moved shows shows_over q new (Some n)
               (directory_still c after w moved shows shows_over q (files q holds) into)
               (child-swapped w.rows tree.unique n m p q old new apart hangs other);
+          stands = stands_swapped c after p q n places.taken places.room old new found.taking.0 found.swap.0
+              found.taking.1 m found.swap.1 writes;
         }

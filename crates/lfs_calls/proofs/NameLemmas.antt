@@ -57,19 +57,19 @@ true_entered old new c dir name found entered others is was d n m h =
     entered_is (IsFound c) old new dir name found entered others is d n m h (λ apart. was d n m)
 
 -- and so of a content in which something else is found under one name
-pub true_named : (old new : NameCache) (before after : Content) (dir : ℕ) (name : List ℕ) (found : Option ℕ)
-    → says new dir name ≡ kept_of name (Some found) → SaysNoMore old new dir name → FindsNew before after dir name found
+pub true_named : {k : ℕ} (old new : NameCache) (before after : Content) (dir : ℕ) (name : List ℕ) (found : Option ℕ)
+    → says new dir name ≡ kept_of name (Some found) → SaysNoMore old new dir name → FindsNew before after dir name found k
     → AreTrue old before → AreTrue new after
 true_named old new before after dir name found entered others finds was d n m h =
     entered_is (IsFound after) old new dir name found entered others finds.finds d n m h
     (λ apart said. finds.keeps d n m apart (was d n m said))
 
 -- or under two
-pub true_moved : (names mid new : NameCache) (before after : Content) (from : ℕ) (old : List ℕ) (to : ℕ) (name : List ℕ)
+pub true_moved : {k : ℕ} (names mid new : NameCache) (before after : Content) (from : ℕ) (old : List ℕ) (to : ℕ) (name : List ℕ)
     (number : ℕ)
     → says mid from old ≡ kept_of old (Some None) → SaysNoMore names mid from old → says new to name
     ≡ kept_of name (Some (Some number)) → SaysNoMore mid new to name
-    → MovesName before after from old to name number → AreTrue names before → AreTrue new after
+    → MovesName before after from old to name number k → AreTrue names before → AreTrue new after
 true_moved names mid new before after from old to name number first others second others2 moves was d n m h =
     entered_is (IsFound after) mid new to name (Some number) second others2 moves.gives d n m h
     (λ away said. entered_is (IsFound after) names mid from old None first others moves.loses d n m said

@@ -3,7 +3,7 @@
 -- removal, of two numbers that differ as no row hangs in itself (`unlike`); the block lists all but the name
 -- (ListingsTaken). Nothing hung in the row, so names found elsewhere are found still; both changes are asked for as
 -- one, as between them the store shows no tree.
-use Rattle.std.proofs.Common.{◌≡◌, ◌≢◌, ℕ, List, [], ◌∷◌, length, None, Some, refl, sym, ap, subst, ◌∙◌, ⊎_elim, arith}
+use Rattle.std.proofs.Common.{◌≡◌, ◌≢◌, ℕ, ◌/◌, List, [], ◌∷◌, length, None, Some, refl, sym, ap, subst, ◌∙◌, ⊎_elim, arith}
 use Rattle.std.proofs.lemmas.Bool.{cases_eq}
 use Rattle.std.specs.Prelude.{IsSome, option_map}
 use Rattle.std.specs.Borrow.{Bor}
@@ -30,6 +30,7 @@ use Rattle.lfs_calls.proofs.ListingsTaken.{taken_length, ListsRows-taken}
 use Rattle.lfs_types.proofs.Maps.{get-insert_same, get-insert_other, get-remove_same, get-remove_other}
 use Rattle.lfs_calls.proofs.ShrunkStore.{Shows-shrunk}
 use Rattle.lfs_types.proofs.Somewhere.{present, is_some_and}
+use Rattle.lfs_calls.proofs.StandLemmas.{stands_taken}
 use Rattle.lfs_calls.proofs.StepLemmas.{ShownFile, shown_file, child_listed}
 use Rattle.lfs_model.proofs.Trees.{not_in_itself}
 
@@ -128,7 +129,7 @@ module _ (c : Content) (w : World) (shows : Shows c w) (tree : IsTree w.rows) (r
 
     -- its directories list what they listed, but for the name, under which none is found
     pub loses_name : IsChildless w.rows number → (after : Content) → TakesFile c after number dir room.off room.block
-        → FindsNew c after dir name None
+        → FindsNew c after dir name None (room.off / 512)
     loses_name childless after takes =
         let shown = shows_without after takes in
         let left : World = without_row number w in
@@ -146,4 +147,5 @@ module _ (c : Content) (w : World) (shows : Shows c w) (tree : IsTree w.rows) (r
               (directory_still c after w left shows shown dir (files dir unlike)
               (directory_at shows dir removal.dir.attrs is.shown_dir is.directory))
               (child-removed w.rows number tree.unique dir name hung);
+          stands = stands_taken c after number dir name room k f.file f.stored taking takes;
         }

@@ -11,7 +11,7 @@ use Rattle.lfs_dirs.specs.Directory.{number_in}
 use Rattle.lfs_known.specs.NamesSaid.{says}
 use Rattle.lfs_known.specs.declared.names.NameCache.{NameCache}
 use Rattle.lfs_known.specs.declared.name_table.NameTable.{NameTable}
-use Rattle.lfs_known.specs.Spots.{ArePlacedIn}
+use Rattle.lfs_known.specs.Spots.{ArePlacedIn, StandsBesides}
 use Rattle.lfs_calls.specs.Content.{IsDirectoryAt, all_entries}
 
 -- a directory lists a number under a name
@@ -48,10 +48,11 @@ abbrev pub KeepsBut : ℕ → List ℕ → Content → Content → Type 0
 KeepsBut dir name old new =
     (d : ℕ) (n : List ℕ) (found : Option ℕ) → (d ≡ dir → n ≡ name → ⊥) → IsFound old d n found → IsFound new d n found
 
--- under which this is found
-pub record FindsNew (old new : Content) (dir : ℕ) (name : List ℕ) (found : Option ℕ) : Type 0 where
+-- under which this is found, and which alone may stand in a block where it didn't
+pub record FindsNew (old new : Content) (dir : ℕ) (name : List ℕ) (found : Option ℕ) (k : ℕ) : Type 0 where
   pub keeps : KeepsBut dir name old new
   pub finds : IsFound new dir name found
+  pub stands : StandsBesides old new dir name k
 
 -- but for two
 abbrev pub KeepsButBoth : ℕ → List ℕ → ℕ → List ℕ → Content → Content → Type 0
@@ -59,9 +60,10 @@ KeepsButBoth from old to new before after =
     (d : ℕ) (n : List ℕ) (found : Option ℕ) → (d ≡ from → n ≡ old → ⊥) → (d ≡ to → n ≡ new → ⊥)
     → IsFound before d n found → IsFound after d n found
 
--- of which the first is none, and the second this number's
+-- of which the first is none, and the second this number's, and may stand in a block where it didn't, as no other may
 pub record MovesName (before after : Content) (from : ℕ) (old : List ℕ) (to : ℕ) (new : List ℕ)
-    (number : ℕ) : Type 0 where
+    (number k : ℕ) : Type 0 where
   pub keeps : KeepsButBoth from old to new before after
   pub loses : IsFound after from old None
   pub gives : IsFound after to new (Some number)
+  pub stands : StandsBesides before after to new k

@@ -14,7 +14,7 @@ ghost use Rattle.lfs_calls.specs.Makes.{CanEnter, IsRoom, IsRoomIn, StandsIn, wi
 ghost use Rattle.lfs_calls.specs.Removes.{IsTaking, ListsName};
 
 use crate::tree::Tree;
-use lfs_dirs::{added, entries, find, removed};
+use lfs_dirs::{added, entries, removed};
 use lfs_known::Hint;
 use lfs_types::block::{BLOCK_SIZE, Block};
 use lfs_types::limits::FILE_BYTES;
@@ -359,8 +359,7 @@ fn take_from<F: FileStore>(store: &mut Tree<F>, dir: u32, k: u64, name: &Name) -
     ensures state { F.state store.new ≡ F.state store.old }
 {
     let off = BLOCK_SIZE as u64 * k;
-    let block = read_block(store, dir, off);
-    find(&block, name)?;
-    let block = removed(&block, name);
+    let stored = read_block(store, dir, off);
+    let block = removed(&stored, name)?;
     Some(Room { off, block })
 }

@@ -1,6 +1,7 @@
 //! The calls that make a row.
 
-ghost use Rattle.std.specs.Prelude.{◌≡◌, [], ◌≤◌, ◌+◌, ◌<◌, Some, None, is_none, length};
+ghost use Rattle.std.specs.Prelude.{◌≡◌, [], ◌≤◌, ◌+◌, ◌/◌, ◌<◌, Some, None, is_none, length};
+ghost use Rattle.lfs_types.specs.declared.block.TheConstants.{BLOCK_SIZE};
 ghost use Rattle.lfs_types.specs.declared.path.TheConstants.{PATH_MAX};
 ghost use Rattle.lfs_types.specs.Stored.{shown_attrs};
 ghost use Rattle.lfs_types.specs.Tree.{Content, file_of};
@@ -21,6 +22,7 @@ use lfs_checks::names::{may_enter, may_search};
 use lfs_checks::site::Site;
 use lfs_types::answer::{Resource, Served};
 use lfs_types::attrs::{Attrs, Kind};
+use lfs_types::block::BLOCK_SIZE;
 use lfs_types::cred::Cred;
 use lfs_types::file_flags::FileFlags;
 use lfs_types::mode::Mode;
@@ -90,7 +92,8 @@ fn put_new<F: FileStore>(
     requires can { CanMake (F.state store.old) number dir room.now }
     requires finds { (after : Content) → MakesFile (F.state store.old).content after
         number (file_of attrs []) dir room.now.off room.now.block
-        → FindsNew (F.state store.old).content after dir name.now (Some number) }
+        → FindsNew (F.state store.old).content after dir name.now (Some number)
+        (room.now.off / BLOCK_SIZE) }
     ensures changes { ChangesTo (F.state store.old)
         (λ after. MakesFile (F.state store.old).content after
         number (file_of attrs []) dir room.now.off room.now.block)
@@ -108,7 +111,8 @@ fn put_new<F: FileStore>(
             bytes: &room.block,
         },
     ];
-    store.apply_naming(&changes, by, dir, name, Some(number))
+    let k = room.off / BLOCK_SIZE as u64;
+    store.apply_naming(&changes, by, dir, name, Some(number), k)
 }
 
 /// Makes an empty file.

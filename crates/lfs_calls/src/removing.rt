@@ -20,6 +20,7 @@ use lfs_checks::names::{may_remove, may_unlink};
 use lfs_checks::site::Site;
 use lfs_types::answer::Served;
 use lfs_types::attrs::Kind;
+use lfs_types::block::BLOCK_SIZE;
 use lfs_types::cred::Cred;
 use lfs_types::name::Name;
 use lfs_types::path::Path;
@@ -92,7 +93,8 @@ fn take_row<F: FileStore>(
             ino: removal.file.number,
         },
     ];
-    store.apply_naming(&changes, by, number, name, None)
+    let k = room.off / BLOCK_SIZE as u64;
+    store.apply_naming(&changes, by, number, name, None, k)
 }
 
 /// Removes a file.

@@ -1,6 +1,6 @@
 //! The call that gives a row another name.
 
-ghost use Rattle.std.specs.Prelude.{◌≡◌, ◌≤◌, ◌<◌, ◌+◌, ℕ, [], ◌∷◌, Some, None, true, false, length, Ok, IfErr, IfSome, IsSome, IsSomeAnd, OnOk, MatchOption};
+ghost use Rattle.std.specs.Prelude.{◌≡◌, ◌≤◌, ◌<◌, ◌+◌, ◌/◌, ℕ, [], ◌∷◌, Some, None, true, false, length, Ok, IfErr, IfSome, IsSome, IsSomeAnd, OnOk, MatchOption};
 ghost use Rattle.std.specs.FinMap.{get};
 ghost use Rattle.lfs_types.specs.declared.path.TheConstants.{PATH_MAX};
 ghost use Rattle.lfs_types.specs.declared.block.TheConstants.{BLOCK_SIZE};
@@ -260,7 +260,8 @@ fn put_blocks<F: FileStore>(
     requires new { IsBlockOf (F.state store.old).content dir room.now }
     requires moves { (after : Content) → WritesBlocks (F.state store.old).content after
         old_dir taken.now dir room.now → MovesName (F.state store.old).content after
-        old_dir names.now.old.now dir names.now.new.now names.now.number }
+        old_dir names.now.old.now dir names.now.new.now names.now.number
+        (room.now.off / BLOCK_SIZE) }
     ensures changes { ChangesTo (F.state store.old)
         (λ after. WritesBlocks (F.state store.old).content after old_dir taken.now dir room.now)
         result (F.state store.new) }
@@ -274,15 +275,16 @@ fn put_blocks<F: FileStore>(
         bytes: &room.block,
     };
     let (from, to) = ((old_dir, names.old), (dir, names.new));
+    let k = room.off / BLOCK_SIZE as u64;
     if old_dir == dir && taken.off == room.off {
-        return store.apply_moving(&[put], names.by, from, to, names.number);
+        return store.apply_moving(&[put], names.by, from, to, names.number, k);
     }
     let take = Change::Put {
         ino: old_dir,
         off: taken.off,
         bytes: &taken.block,
     };
-    store.apply_moving(&[take, put], names.by, from, to, names.number)
+    store.apply_moving(&[take, put], names.by, from, to, names.number, k)
 }
 
 /// The blocks that list a row under a name that another row has, and no more under the old one.
@@ -381,7 +383,8 @@ fn put_swapped<F: FileStore>(
     requires used { IsSome (get (F.state store.old).content gone) }
     requires moves { (after : Content) → SwapsBlocks (F.state store.old).content after
         old_dir taken.now dir room.now gone → MovesName (F.state store.old).content after
-        old_dir names.now.old.now dir names.now.new.now names.now.number }
+        old_dir names.now.old.now dir names.now.new.now names.now.number
+        (room.now.off / BLOCK_SIZE) }
     ensures changes { ChangesTo (F.state store.old)
         (λ after. SwapsBlocks (F.state store.old).content after old_dir taken.now dir room.now gone)
         result (F.state store.new) }
@@ -396,15 +399,16 @@ fn put_swapped<F: FileStore>(
     };
     let remove = Change::Remove { ino: gone };
     let (from, to) = ((old_dir, names.old), (dir, names.new));
+    let k = room.off / BLOCK_SIZE as u64;
     if old_dir == dir && taken.off == room.off {
-        return store.apply_moving(&[put, remove], names.by, from, to, names.number);
+        return store.apply_moving(&[put, remove], names.by, from, to, names.number, k);
     }
     let take = Change::Put {
         ino: old_dir,
         off: taken.off,
         bytes: &taken.block,
     };
-    store.apply_moving(&[take, put, remove], names.by, from, to, names.number)
+    store.apply_moving(&[take, put, remove], names.by, from, to, names.number, k)
 }
 
 /// Gives a file or a directory another name, in the same directory or in another. A file that has the name gives way to a

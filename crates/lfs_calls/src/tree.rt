@@ -5,10 +5,11 @@ ghost use Rattle.std.specs.Prelude.{◌≡◌, ◌≤◌, ◌<◌, ℕ, [], None
 ghost use Rattle.std.specs.FinMap.{get};
 ghost use Rattle.lfs_types.specs.Changes.{CanApply, applied};
 ghost use Rattle.lfs_types.specs.StoreStates.{Applies};
+ghost use Rattle.lfs_types.specs.Tree.{Content};
 ghost use Rattle.lfs_types.specs.Stored.{shown_attrs, bytes_of, slice_of, Reads, IsLeastFree};
 ghost use Rattle.lfs_known.specs.Shown.{AreShown};
 ghost use Rattle.lfs_known.specs.Full.{AreFull, IsFullBefore};
-ghost use Rattle.lfs_known.specs.Spots.{ArePlaced, ArePlacedIn};
+ghost use Rattle.lfs_known.specs.Spots.{ArePlaced, ArePlacedIn, StandsBesides};
 ghost use Rattle.lfs_model.specs.World.{child};
 ghost use Rattle.lfs_dirs.specs.Directory.{number_in};
 ghost use Rattle.lfs_dirs.specs.Reading.{entries_of};
@@ -17,7 +18,8 @@ ghost use Rattle.lfs_calls.specs.Names.{FindsNew, IsFound, KeepsNames, MovesName
 ghost use Rattle.lfs_calls.specs.Volumes.{InWorld};
 
 use lfs_known::{
-    AttrCache, DirHints, Hint, NameCache, NameTable, follow_attributes, follow_hints, follow_names,
+    AttrCache, DirHints, Hint, NameCache, NameTable, follow_attributes, follow_hints, follow_name,
+    follow_names,
 };
 use lfs_types::attrs::Attrs;
 use lfs_types::name::Name;
@@ -231,10 +233,12 @@ impl<F: FileStore> Tree<F> {
             &mut self.table,
             changes,
             by,
+            None,
         )
     }
 
-    /// Makes changes as `apply` does, after which something else is found under a name of a directory.
+    /// Makes changes as `apply` does, after which something else is found under a name of a directory, which may stand in
+    /// its block `k` then.
     pub(crate) fn apply_naming(
         &mut self,
         changes: &[Change<'_>],
@@ -242,11 +246,12 @@ impl<F: FileStore> Tree<F> {
         dir: u32,
         name: &Name,
         found: Option<u32>,
+        k: u64,
     ) -> Result<(), StoreRefusal>
         requires can { CanApply (F.state self.old).shape.numbers changes.now
             (F.state self.old).content }
         requires finds { FindsNew (F.state self.old).content
-            (applied changes.now (F.state self.old).content) dir name.now found }
+            (applied changes.now (F.state self.old).content) dir name.now found k }
         ensures applies { Applies (F.state self.old) changes.now result (F.state self.new) }
         ensures made { F.made self.old changes.now by result self.new }
     {
@@ -257,13 +262,14 @@ impl<F: FileStore> Tree<F> {
             &mut self.table,
             changes,
             by,
+            Some((dir, name, k)),
         )?;
         self.names.enter(dir, name, found);
         Ok(())
     }
 
     /// Makes changes as `apply` does, after which a directory lists a name no more, and the same or another lists a number
-    /// under a name.
+    /// under a name, which may stand in its block `k` then.
     pub(crate) fn apply_moving(
         &mut self,
         changes: &[Change<'_>],
@@ -271,12 +277,13 @@ impl<F: FileStore> Tree<F> {
         from: (u32, &Name),
         to: (u32, &Name),
         number: u32,
+        k: u64,
     ) -> Result<(), StoreRefusal>
         requires can { CanApply (F.state self.old).shape.numbers changes.now
             (F.state self.old).content }
         requires moves { MovesName (F.state self.old).content
             (applied changes.now (F.state self.old).content)
-            from.0 from.1.now to.0 to.1.now number }
+            from.0 from.1.now to.0 to.1.now number k }
         ensures applies { Applies (F.state self.old) changes.now result (F.state self.new) }
         ensures made { F.made self.old changes.now by result self.new }
     {
@@ -287,6 +294,7 @@ impl<F: FileStore> Tree<F> {
             &mut self.table,
             changes,
             by,
+            Some((to.0, to.1, k)),
         )?;
         self.names.enter(from.0, from.1, None);
         self.names.enter(to.0, to.1, Some(number));
@@ -295,7 +303,8 @@ impl<F: FileStore> Tree<F> {
 }
 
 /// Makes changes as a store does, and follows them where they were made: what was known of attributes, of room and of
-/// names is so still.
+/// names is so still. Where `named` is a directory, a name and the index of a block, no other name stands then where it
+/// didn't.
 fn apply_followed<F: FileStore>(
     store: &mut F,
     attributes: &mut AttrCache,
@@ -303,6 +312,7 @@ fn apply_followed<F: FileStore>(
     table: &mut Option<NameTable>,
     changes: &[Change<'_>],
     by: Reserve,
+    named: Option<(u32, &Name, u64)>,
 ) -> Result<(), StoreRefusal>
     requires { CanApply (F.state store.old).shape.numbers changes.now
         (F.state store.old).content }
@@ -313,11 +323,30 @@ fn apply_followed<F: FileStore>(
     ensures full { AreFull hints.old (F.state store.old).content
         → AreFull hints.new (F.state store.new).content }
     ensures placed { ArePlacedIn table.old (F.state store.old).content
+        → IfSome named.entry (λ it. StandsBesides (F.state store.old).content
+        (applied changes.now (F.state store.old).content) it.0 it.1.now it.2)
         → ArePlacedIn table.new (F.state store.new).content }
 {
     store.apply(changes, by)?;
     follow_attributes(attributes, changes);
     follow_hints(hints, changes);
-    follow_names(table, changes);
+    follow_table(table, changes, named);
     Ok(())
+}
+
+/// Follows changes in a table of names, if there is one. Where `named` is a directory, a name and the index of a block, no
+/// other name stands then where it didn't.
+fn follow_table(
+    table: &mut Option<NameTable>,
+    changes: &[Change<'_>],
+    named: Option<(u32, &Name, u64)>,
+)
+    ensures { (c : Content) → ArePlacedIn table.old c
+        → IfSome named.entry (λ it. StandsBesides c (applied changes.now c) it.0 it.1.now it.2)
+        → ArePlacedIn table.new (applied changes.now c) }
+{
+    match named {
+        Some((dir, name, k)) => follow_name(table, changes, dir, name, k),
+        None => follow_names(table, changes),
+    }
 }

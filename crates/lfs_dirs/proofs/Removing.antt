@@ -10,7 +10,8 @@ use Rattle.lfs_dirs.specs.Directory.{IsDirectoryBlock, Spells}
 use Rattle.lfs_dirs.specs.Reading.{StandsBehind, StandsFirst, entries_of}
 use Rattle.lfs_dirs.proofs.Laws.{bytes_of, length-entry_bytes, Spells-bytes, Spells-from_bytes}
 use Rattle.lfs_dirs.proofs.Adding.{bytes_of-added}
-use Rattle.lfs_dirs.proofs.Changes.{has_name-same, number_in-append, number_in-later, number_in-nil}
+use Rattle.std.specs.Prelude.{IsSome}
+use Rattle.lfs_dirs.proofs.Changes.{has_name-same, number_in-append, number_in-here, number_in-later, number_in-nil}
 use Rattle.lfs_dirs.proofs.Changes.{number_in-none, without-absent}
 use Rattle.lfs_dirs.proofs.Changes.{without-here, without-later, AreEntries-without}
 
@@ -103,6 +104,13 @@ module _ (block name rest : List ℕ) (h : IsDirectoryBlock block (entries_of bl
     length-entry_bytes b.entry,
     ap length b.named,
   )
+
+  -- the block lists the name
+  pub listed_there : IsSome (number_in name (entries_of block))
+  listed_there = subst IsSome
+      (sym (ap (number_in name) b.read ∙ number_in-append name b.before (b.entry ∷ entries_of rest) b.absent
+      ∙ number_in-here name b.entry (entries_of rest) (has_name-same name b.entry b.named)))
+      refl
 
   -- the bytes behind it are those of the entries behind it, and zeros
   rest_is : (n : ℕ) × (rest ≡ bytes_of (entries_of rest) ++ replicate n 0)

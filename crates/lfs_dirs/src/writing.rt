@@ -1,6 +1,6 @@
 //! Blocks with an entry more or less, or with another number.
 
-ghost use Rattle.std.specs.Prelude.{◌≡◌, ◌+◌, ◌-◌, ◌<◌, ◌≤◌, ◌++◌, ◌∷◌, ◌↔◌, [], None, drop, length, replicate, IfSome, IsSome};
+ghost use Rattle.std.specs.Prelude.{◌≡◌, ◌+◌, ◌-◌, ◌<◌, ◌≤◌, ◌++◌, ◌∷◌, ◌↔◌, [], None, drop, length, replicate, IfSome, IsSome, MatchOption};
 ghost use Rattle.lfs_dirs.specs.Directory.{IsDirectoryBlock, IsEntry, entry_bytes, number_in, renumbered, used_of, with_number, without};
 ghost use Rattle.lfs_dirs.specs.Reading.{entries_of};
 
@@ -34,18 +34,18 @@ pub fn added(block: &Block, name: &Name, number: u32) -> Option<Block>
     Some(longer)
 }
 
-/// The block without the entry of this name, closed up; the same block where it has none.
-pub fn removed(block: &Block, name: &Name) -> Block
+/// The block without the entry of this name, closed up; None where it has none.
+pub fn removed(block: &Block, name: &Name) -> Option<Block>
     requires { IsDirectoryBlock block.now (entries_of block.now) }
-    ensures block { IsDirectoryBlock result (without name.now (entries_of block.now)) }
-    ensures listed { entries_of result ≡ without name.now (entries_of block.now) }
+    ensures found { MatchOption result (number_in name.now (entries_of block.now) ≡ None)
+        (λ b. IsSome (number_in name.now (entries_of block.now))) }
+    ensures block { IfSome result (λ b. IsDirectoryBlock b (without name.now (entries_of block.now))) }
+    ensures listed { IfSome result (λ b. entries_of b ≡ without name.now (entries_of block.now)) }
 {
     let unwanted = name.as_bytes();
-    let Some(rest) = behind(block, unwanted) else {
-        return *block;
-    };
+    let rest = behind(block, unwanted)?;
     let at = BLOCK_SIZE - rest.len() - HEAD_SIZE - unwanted.len();
-    joined(&block[..at], rest)
+    Some(joined(&block[..at], rest))
 }
 
 /// The block of these bytes, one after the other, and zeros.

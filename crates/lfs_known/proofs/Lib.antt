@@ -1,5 +1,7 @@
+mod EntryLemmas
 pub mod FollowLemmas
 mod ShownLemmas
 pub mod FullLemmas
+pub mod PutLemmas
 pub mod SlotLemmas
 pub mod SpotLemmas

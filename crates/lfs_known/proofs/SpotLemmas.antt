@@ -3,19 +3,18 @@
 -- allow more, so what was allowed stays so; a name that is gone leaves its spot as it was, which is why a table is
 -- dropped when it is full. A directory that is known has blocks, so bytes that are put behind its last one make it
 -- longer by one.
-use Rattle.std.proofs.Common.{◌≡◌, ◌≢◌, ℕ, ◌+◌, ◌-◌, ◌*◌, ◌<◌, ◌≤◌, ◌⊎◌, inl, inr, true, false, List, [], ◌∷◌, length, take, drop, nat_lt}
+use Rattle.std.proofs.Common.{◌≡◌, ◌≢◌, ℕ, ◌+◌, ◌-◌, ◌*◌, ◌<◌, ◌≤◌, ◌⊎◌, inl, inr, true, false, List, [], ◌∷◌, length, take, drop}
 use Rattle.std.proofs.Common.{get_or, Option, None, Some, is_some, refl, sym, ap, subst, ◌∙◌, ⊎_elim, arith}
 use Rattle.std.specs.Prelude.{IsSome, IfSome}
 use Rattle.std.specs.FinMap as map
 use Rattle.std.proofs.Math.ListN.{set}
-use Rattle.std.proofs.lemmas.Bool.{cases_eq, cases_Bool, ltb-true, ltb-false}
+use Rattle.std.proofs.lemmas.Bool.{cases_eq, cases_Bool}
 use Rattle.std.proofs.lemmas.List.{get_or-set_same, get_or-set_other}
 use Rattle.lfs_types.specs.Changes.{changed_at}
 use Rattle.lfs_types.specs.Splicing.{splice}
 use Rattle.lfs_types.specs.Stored.{bytes_of, bytes_of_file}
 use Rattle.lfs_types.specs.Tree.{Content, File, file_of}
 use Rattle.lfs_types.specs.declared.attrs.Attrs.{Attrs}
-use Rattle.lfs_types.proofs.Pieces.{length-put_over, piece-before, piece-behind, piece-here, put_over, splice-put_over}
 use Rattle.lfs_dirs.specs.Directory.{Entry, has_name, number_in}
 use Rattle.lfs_dirs.proofs.Changes.{has_name-true, number_in-later, number_in-nil}
 use Rattle.lfs_dirs.specs.Reading.{entries_of}
@@ -27,6 +26,7 @@ use Rattle.lfs_known.specs.declared.spot.Spot.{Spot}
 use Rattle.lfs_known.specs.declared.spot.Spot.TheVariants.{Anywhere}
 use Rattle.lfs_known.proofs.FollowLemmas.{changed-others, kept_only}
 use Rattle.lfs_known.proofs.FullLemmas.{changed-bytes}
+use Rattle.lfs_known.proofs.PutLemmas.{length_put, stands_put}
 
 -- spots allow what others allow
 abbrev pub Keeps : List Spot → List Spot → Type 0
@@ -124,35 +124,14 @@ pub placed_spliced : (old new : List Spot) (dir : ℕ) (bytes : List ℕ) (block
     → ((name : List ℕ) → IsSome (number_in name (entries_of block)) → MayStand new dir name k)
     → IsPlaced old dir bytes blocks → IsPlaced new dir (splice bytes off block) now
 placed_spliced old new dir bytes blocks now k off block size at_k low count keeps names was = record {
-  long = ap (λ (bs : List ℕ). length bs) put_is ∙ length-put_over bytes (512 * k) block within
-      ∙ omega (arith, size, was.long, count);
+  long = length_put bytes k off block size at_k within ∙ omega (arith, was.long, count);
   stands = λ name j stands. ⊎_elim
-      (λ same. subst (MayStand new dir name) (sym same) (names name
-      (subst (λ b. IsSome (number_in name (entries_of b)))
-      (ap (λ i. take 512 (drop (512 * i) (splice bytes off block))) same ∙ ap (λ bs. take 512 (drop (512 * k) bs)) put_is
-      ∙ here) stands)))
-      (λ apart. keeps dir name j (was.stands name j (subst (λ b. IsSome (number_in name (entries_of b)))
-      (ap (λ bs. take 512 (drop (512 * j) bs)) put_is ∙ other j apart) stands)))
-      (cases_eq j k);
+      (λ before. keeps dir name j (was.stands name j before))
+      (λ put. subst (MayStand new dir name) (sym put.0) (names name put.1))
+      (stands_put bytes k off block size at_k within name j stands);
 } where
   within : 512 * k ≤ length bytes
   within = omega (arith, was.long, low)
-
-  put_is : splice bytes off block ≡ put_over bytes (512 * k) block
-  put_is = ap (λ o. splice bytes o block) at_k
-      ∙ splice-put_over bytes (512 * k) block (omega (arith, size)) within
-
-  here : take 512 (drop (512 * k) (put_over bytes (512 * k) block)) ≡ block
-  here = subst (λ n. take n (drop (512 * k) (put_over bytes (512 * k) block)) ≡ block) size
-      (piece-here bytes (512 * k) block within)
-
-  other : (j : ℕ) → j ≢ k → take 512 (drop (512 * j) (put_over bytes (512 * k) block))
-      ≡ take 512 (drop (512 * j) bytes)
-  other j apart = ⊎_elim
-      (λ h. let before : j < k = ltb-true j k h in piece-before bytes (512 * k) block within 512 (512 * j) (omega arith))
-      (λ h. let behind : k ≤ j = ltb-false j k h in
-      piece-behind bytes (512 * k) block within 512 (512 * j) (omega (arith, size)))
-      (cases_Bool (nat_lt j k))
 
 -- ---- a table
 

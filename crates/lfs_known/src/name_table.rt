@@ -14,7 +14,7 @@ use lfs_types::block::Block;
 use lfs_types::name::Name;
 use std::alloc::{AllocError, Global};
 
-/// How many blocks of directories that it knows are followed until the table is full of names that are gone.
+/// How many blocks and names of directories that it knows are followed until the table is full of names that are gone.
 const MOST_PUTS: u32 = 8_192;
 
 /// In which blocks the names of some directories stand, by their hashes. It takes no memory once it is made.
@@ -79,6 +79,19 @@ impl NameTable {
     {
         for (_, name) in entries(block) {
             self.enter(dir, name, k);
+        }
+    }
+
+    /// A name may stand in a block of a directory besides, if the directory is known.
+    pub(crate) fn enter_name(&mut self, dir: u32, name: &Name, k: u64)
+        ensures entered { IsSome (says self.old.whole dir) → MayStand self.new.spots.items dir name.now k }
+        ensures keeps { (d : ℕ) (n : List ℕ) (j : ℕ) → MayStand self.old.spots.items d n j
+            → MayStand self.new.spots.items d n j }
+        ensures whole { self.new.whole ≡ self.old.whole }
+    {
+        if self.knows(dir) {
+            self.puts = self.puts.saturating_add(1);
+            self.enter(dir, name.as_bytes(), k);
         }
     }
 

@@ -56,18 +56,20 @@ fn two_names_of_251_bytes_fill_a_block(rt: HostRuntime) {
     expect_eq(&rt, add(&rt, alloc, &two, b"c", 11), None);
 }
 
-/// Asserts what a block becomes once the entry of this name, where it has one, is removed.
-fn expect_removed(rt: &impl Abort, alloc: Global, block: &Block, name: &[u8], wanted: &Block) {
+/// The block with the entry of this name removed, if it has one.
+fn remove(rt: &impl Abort, alloc: Global, block: &Block, name: &[u8]) -> Option<Block> {
     assert!(rt; is_directory_block(block));
-    expect_bytes(rt, &removed(block, &name_of(rt, alloc, name)), wanted);
+    removed(block, &name_of(rt, alloc, name))
 }
 
 #[test]
 fn removal_closes_the_list_up(rt: HostRuntime) {
+    let alloc = rt.alloc();
     let block = block_of(b"\x00\x00\x00\x04\x02ab\x00\x00\x0f\xff\x01c\x00\x00\x00\x05\x03xyz");
     let expected = block_of(b"\x00\x00\x0f\xff\x01c\x00\x00\x00\x05\x03xyz");
-    expect_removed(&rt, rt.alloc(), &block, b"ab", &expected);
-    expect_removed(&rt, rt.alloc(), &block, b"unknown", &block);
+    let left = remove(&rt, alloc, &block, b"ab").expect(&rt, "the name is listed");
+    expect_bytes(&rt, &left, &expected);
+    expect_eq(&rt, remove(&rt, alloc, &block, b"unknown"), None);
 }
 
 /// Asserts what a block becomes once the entry of this name has this number.

@@ -1,4 +1,4 @@
-use Rattle.std.proofs.Common.{◌≡◌, ◌≤◌, ℕ, List, [], length, None, Some, Ok, refl, sym, ap, subst, ◌∙◌, arith}
+use Rattle.std.proofs.Common.{◌≡◌, ◌≤◌, ◌/◌, ℕ, List, [], length, None, Some, Ok, refl, sym, ap, subst, ◌∙◌, arith}
 use Rattle.lfs_calls.specs.Volumes.{IsVolume}
 use Rattle.lfs_calls.proofs.StateLemmas.{same_content, same_numbers}
 use Rattle.lfs_types.specs.StoreStates.{StoreState}
@@ -89,8 +89,10 @@ put_new-requires-clause-finds g c after makes =
     let found = c.in-Some-find_room.ensures.room in
     let room = c.in-Some-find_room.room in
     let same = same_content c.find_room.ensures.state ∙ same_content c.judge_make.ensures.state in
-    subst (λ x. FindsNew x after c.in_ok-dir.dir.number c.last_name-name.result.now (Some c.in-Some.number)) (sym same)
-    (subst (λ name. FindsNew (before g k) after c.in_ok-dir.dir.number name (Some c.in-Some.number)) (sym (name_is g k))
+    subst (λ x. FindsNew x after c.in_ok-dir.dir.number c.last_name-name.result.now (Some c.in-Some.number)
+    (room.off / 512)) (sym same)
+    (subst (λ name. FindsNew (before g k) after c.in_ok-dir.dir.number name (Some c.in-Some.number) (room.off / 512))
+    (sym (name_is g k))
     (gives_name t.1.shows (parent g k t.0 t.1) c.args.cred.now t.1.tree
     (g.F.FileStore.state c.args.store.now).shape.numbers c.in-Some.number (least g k) c.args.kind c.args.mode
     (room_is g k room found.0 found.1) (g.F.FileStore.state c.find_room.new.store).content after same _

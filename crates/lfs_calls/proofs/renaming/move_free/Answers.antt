@@ -1,4 +1,4 @@
-use Rattle.std.proofs.Common.{Err, sym, ap, subst, ◌∙◌}
+use Rattle.std.proofs.Common.{◌/◌, Err, sym, ap, subst, ◌∙◌}
 use Rattle.std.proofs.lemmas.Result.{err_from_is_err_and}
 use Rattle.lfs_types.specs.StoreStates.{StoreState}
 use Rattle.lfs_types.specs.Stored.{MayRefuse}
@@ -35,7 +35,8 @@ put_blocks-requires-clause-moves g c after writes =
     let m = c.args.planned.now in
     let same = same_content c.find_places.ensures.state in
     let places = c.in-Some.places in
-    subst (λ x. MovesName x after m.removal.dir.number c.args.old.now m.dir.number c.args.new.now m.removal.file.number)
+    subst (λ x. MovesName x after m.removal.dir.number c.args.old.now m.dir.number c.args.new.now m.removal.file.number
+    (places.room.off / 512))
     (sym same)
     (moves_free t.1.0.shows t.1.0.tree t.1.1.leaves t.1.1.free c.in-Some.ensures.places after
     (subst (λ x. WritesBlocks x after m.removal.dir.number places.taken m.dir.number places.room) same writes))

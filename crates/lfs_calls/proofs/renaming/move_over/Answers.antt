@@ -1,4 +1,4 @@
-use Rattle.std.proofs.Common.{sym, subst}
+use Rattle.std.proofs.Common.{◌/◌, sym, subst}
 use Rattle.std.specs.Prelude.{IsSome}
 use Rattle.std.specs.FinMap.{get}
 use Rattle.lfs_calls.specs.Makes.{IsBlockOf}
@@ -32,7 +32,8 @@ put_swapped-requires-clause-moves g c after writes =
     let m = c.args.planned.now in
     let same = same_content c.find_swap.ensures.state in
     let places = c.find_swap.result in
-    subst (λ x. MovesName x after m.removal.dir.number c.args.old.now m.dir.number c.args.new.now m.removal.file.number)
+    subst (λ x. MovesName x after m.removal.dir.number c.args.old.now m.dir.number c.args.new.now m.removal.file.number
+    (places.room.off / 512))
     (sym same)
     (moves_over t.1.0.shows t.1.0.tree t.1.1.leaves c.args.there t.1.1.taken t.1.1.other c.find_swap.ensures.places
     after

@@ -1,4 +1,4 @@
-use Rattle.std.proofs.Common.{◌≡◌, refl, sym, ap, subst, ◌∙◌}
+use Rattle.std.proofs.Common.{◌≡◌, ◌/◌, refl, sym, ap, subst, ◌∙◌}
 use Rattle.std.proofs.lemmas.Result.{IfOk-weaker}
 use Rattle.std.specs.FinMap as map
 use Rattle.lfs_calls.specs.Renames.{block_put, SwapsBlocks}
@@ -27,6 +27,7 @@ one_moves : (g : _) (c : Then-taken-room g)
     → MovesName (g.F.FileStore.state c.args.store.now).content
     (map.remove (block_put c.args.dir c.args.room.now (g.F.FileStore.state c.args.store.now).content) c.args.gone)
     c.args.old_dir c.args.names.now.old.now c.args.dir c.args.names.now.new.now c.args.names.now.number
+    (c.args.room.now.off / 512)
 one_moves g c = c.requires.moves _ (one_written g c _ refl)
 
 pub apply_moving-requires-clause-moves : goal.apply_moving-requires-clause-moves

@@ -13,5 +13,6 @@ returns-clause-full g c full = subst (AreFull c.follow_hints.new.hints) (sym c.i
     (c.follow_hints.ensures _ full)
 
 pub returns-clause-placed : goal.returns-clause-placed
-returns-clause-placed g c placed = subst (ArePlacedIn c.follow_names.new.table) (sym c.in_ok-apply.ensures.applies.ok)
-    (c.follow_names.ensures _ placed)
+returns-clause-placed g c placed besides =
+    subst (ArePlacedIn c.follow_table.new.table) (sym c.in_ok-apply.ensures.applies.ok)
+    (c.follow_table.ensures _ placed besides)

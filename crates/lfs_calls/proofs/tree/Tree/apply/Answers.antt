@@ -16,5 +16,5 @@ invariant_of-self g c =
           c.self.invariant.listed (true_kept c.self.inside.names s _ c.self.invariant.listed keeps);
       shown = c.apply_followed.ensures.shown c.self.invariant.shown;
       full = c.apply_followed.ensures.full c.self.invariant.full;
-      placed = c.apply_followed.ensures.placed c.self.invariant.placed;
+      placed = c.apply_followed.ensures.placed c.self.invariant.placed tt;
     }

@@ -10,11 +10,11 @@ invariant_of-self-2 g c =
     let s = (g.F.FileStore.state c.self.inside.store).content in
     let from = c.args.from in
     let to = c.args.to in
-    let moves = subst (λ (x : Content). MovesName s x from.0 from.1.now to.0 to.1.now c.args.number)
-    (sym c.in_ok-apply_followed.ensures.applies.ok)
-    (subst (λ x. MovesName (g.F.FileStore.state x).content
-    (applied c.args.changes.now (g.F.FileStore.state x).content) from.0 from.1.now to.0 to.1.now c.args.number)
-    (sym c.self.view_is) c.requires.moves) in
+    let made = subst (λ x. MovesName (g.F.FileStore.state x).content
+    (applied c.args.changes.now (g.F.FileStore.state x).content) from.0 from.1.now to.0 to.1.now c.args.number c.args.k)
+    (sym c.self.view_is) c.requires.moves in
+    let moves = subst (λ (x : Content). MovesName s x from.0 from.1.now to.0 to.1.now c.args.number c.args.k)
+    (sym c.in_ok-apply_followed.ensures.applies.ok) made in
     record {
       listed = true_moved c.self.inside.names c.enter.new.self c.enter-2.new.self s
           (g.F.FileStore.state c.apply_followed.new.store).content from.0 from.1.now to.0 to.1.now c.args.number
@@ -22,5 +22,5 @@ invariant_of-self-2 g c =
           c.self.invariant.listed;
       shown = c.in_ok-apply_followed.ensures.shown c.self.invariant.shown;
       full = c.in_ok-apply_followed.ensures.full c.self.invariant.full;
-      placed = c.in_ok-apply_followed.ensures.placed c.self.invariant.placed;
+      placed = c.in_ok-apply_followed.ensures.placed c.self.invariant.placed made.stands;
     }

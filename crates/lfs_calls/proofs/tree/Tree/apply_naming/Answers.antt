@@ -8,16 +8,16 @@ use Rattle.lfs_calls.proofs.tree.Tree.apply_naming.Goals as goal
 pub invariant_of-self-2 : goal.invariant_of-self-2
 invariant_of-self-2 g c =
     let s = (g.F.FileStore.state c.self.inside.store).content in
-    let finds = subst (λ (x : Content). FindsNew s x c.args.dir c.args.name.now c.args.found)
-    (sym c.in_ok-apply_followed.ensures.applies.ok)
-    (subst (λ x. FindsNew (g.F.FileStore.state x).content
-    (applied c.args.changes.now (g.F.FileStore.state x).content) c.args.dir c.args.name.now c.args.found)
-    (sym c.self.view_is) c.requires.finds) in
+    let made = subst (λ x. FindsNew (g.F.FileStore.state x).content
+    (applied c.args.changes.now (g.F.FileStore.state x).content) c.args.dir c.args.name.now c.args.found c.args.k)
+    (sym c.self.view_is) c.requires.finds in
+    let finds = subst (λ (x : Content). FindsNew s x c.args.dir c.args.name.now c.args.found c.args.k)
+    (sym c.in_ok-apply_followed.ensures.applies.ok) made in
     record {
       listed = true_named c.self.inside.names c.enter.new.self s
           (g.F.FileStore.state c.apply_followed.new.store).content c.args.dir c.args.name.now c.args.found
           c.enter.ensures.entered c.enter.ensures.others finds c.self.invariant.listed;
       shown = c.in_ok-apply_followed.ensures.shown c.self.invariant.shown;
       full = c.in_ok-apply_followed.ensures.full c.self.invariant.full;
-      placed = c.in_ok-apply_followed.ensures.placed c.self.invariant.placed;
+      placed = c.in_ok-apply_followed.ensures.placed c.self.invariant.placed made.stands;
     }
