@@ -33,16 +33,17 @@ use Rattle.lfs_audit.specs.Filing.{Filed, FilesLine, IsBegun, IsHandedOut, IsShu
 use Rattle.lfs_audit.specs.Runs.{AreAsked, CountsLine, IsAsked, Runs, TellsLine, lines_text}
 use Rattle.lfs_audit.proofs.RunLemmas.{asked-more, collected, kept-joined, lines-joined, runs_joined, runs_none}
 use Rattle.lfs_audit.proofs.RunLemmas.{steps-joined, still-begins}
-use Rattle.lfs_audit.proofs.ShiftLemmas.{Agree, legal_joined, none_entered, steps_shifted}
+use Rattle.lfs_audit.proofs.ShiftLemmas.{Agree, none_entered, steps_shifted}
+use Rattle.lfs_sinks.proofs.LegalLemmas.{legal_joined}
 
 -- ---- what a sink took
 
 -- a sink that took nothing
-takes_none : {J : Type 0} (contents : J → Option (List ℕ)) (next : J → ℕ) (j : J) → Takes contents next j j []
+pub takes_none : {J : Type 0} (contents : J → Option (List ℕ)) (next : J → ℕ) (j : J) → Takes contents next j j []
 takes_none contents next j = record { lines = Appends-nil (contents j); numbered = omega arith }
 
 -- a sink that took more
-takes_more : {J : Type 0} (contents : J → Option (List ℕ)) (next : J → ℕ) (old middle new : J)
+pub takes_more : {J : Type 0} (contents : J → Option (List ℕ)) (next : J → ℕ) (old middle new : J)
     (entries more : List Entry) → Takes contents next old middle entries → Takes contents next middle new more
     → Takes contents next old new (entries ++ more)
 takes_more contents next old middle new entries more first then = record {

@@ -12,7 +12,7 @@ use Rattle.lfs_model.specs.declared.steps.Step.{Step as Made}
 use Rattle.lfs_model.specs.declared.steps.StepAnswer.{StepAnswer}
 use Rattle.lfs_model.specs.declared.steps.StepAnswer.TheVariants as told
 use Rattle.lfs_model.specs.Runs.{cleaner_event, journaled, kept_step, kept_steps, step_event, user_event}
-use Rattle.lfs_model.specs.Steps.{IsLegal, after_event, world_after}
+use Rattle.lfs_model.specs.Steps.{world_after}
 use Rattle.lfs_model.proofs.RunLemmas.{world_after-append}
 use Rattle.lfs_calls.specs.Entries.{LeavesEntries, OnServed}
 use Rattle.lfs_calls.specs.Outcomes.{IsOutcome}
@@ -166,12 +166,3 @@ none_entered r limit from journal first last (s ∷ made) (a ∷ answers) full a
     ap length (ap (λ (l : List Entry). journal ++ l) none ∙ append-nil journal) ∙ full in
     ap (λ (l : List Entry). l ++ kept_steps made answers) none
     ∙ none_entered r limit from (journal ++ kept_step s a) are.0 last made answers still are.3
-
--- ---- legal runs
-
-pub legal_joined : (numbers segments : ℕ) (es fs : List Entry) (w : World) → IsLegal numbers segments es w
-    → IsLegal numbers segments fs (world_after numbers es w)
-    → IsLegal numbers segments (es ++ fs) w
-legal_joined numbers segments [] fs w first then = then
-legal_joined numbers segments (e ∷ es) fs w first
-    then = (first.0, legal_joined numbers segments es fs (after_event numbers w e.cred e.event) first.1 then)

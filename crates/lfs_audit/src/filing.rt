@@ -1,8 +1,7 @@
 //! A run whose entries go to a sink.
 
-ghost use Rattle.std.specs.Prelude.{◌≡◌, ◌≤◌, ℕ, [], List, ◌++◌, false, true, IfErr, IfOk, OnErr, OnOk};
+ghost use Rattle.std.specs.Prelude.{◌≡◌, ℕ, [], List, ◌++◌, false, true, IfErr, IfOk, OnErr, OnOk};
 ghost use Rattle.std.specs.Io.KnownBytes.{Appends, append_known};
-ghost use Rattle.std.specs.Vec.{vec_capacity};
 ghost use Rattle.lfs_model.specs.Counts.{counts_of};
 ghost use Rattle.lfs_model.specs.Steps.{IsLegal};
 ghost use Rattle.lfs_model.specs.declared.steps.StepAnswer.{StepAnswer};
@@ -21,6 +20,7 @@ use lfs_io::tell::tell;
 use lfs_model::journal::Entry;
 use lfs_script::plan::Step;
 use lfs_sinks::sink::{JournalSink, SinkFault};
+use lfs_sinks::spare::SpareRoom;
 use lfs_sinks::totals::{Tally, push_report};
 use lfs_types::cleaned::CleanedStore;
 use lfs_types::store::FileStore;
@@ -39,14 +39,13 @@ pub struct FiledVolume<F: FileStore + Drop, J: Drop> {
     tally: Tally,
     /// Whether the sink takes more.
     is_open: bool,
-    /// Room for a journal, without entries.
-    spare: Vec<Entry>,
+    /// Room for a journal.
+    spare: SpareRoom,
     /// The program that tells why the sink takes no more.
     program: &'static str,
 }
 
 impl<F: FileStore + Drop, J: Drop> Model for FiledVolume<F, J> {
-    ghost use Rattle.std.specs.Prelude.{◌≡◌, []};
     ghost use Rattle.lfs_audit.specs.Filing.{Filed};
 
     ghost Value = { Filed F J };
@@ -58,8 +57,6 @@ impl<F: FileStore + Drop, J: Drop> Model for FiledVolume<F, J> {
       refusals = v.tally.refusals;
       is_open = v.is_open;
     } };
-
-    ghost invariant = { λ v. v.spare.items ≡ [] };
 }
 
 impl<F: FileStore + Drop, J: JournalSink + Drop> FiledVolume<F, J> {
@@ -83,7 +80,7 @@ impl<F: FileStore + Drop, J: JournalSink + Drop> FiledVolume<F, J> {
             sink,
             tally: Tally::none(),
             is_open: true,
-            spare: Vec::new(alloc),
+            spare: SpareRoom::none(alloc),
             program,
         }
     }
@@ -122,7 +119,8 @@ impl<F: FileStore + Drop, J: JournalSink + Drop> FiledVolume<F, J> {
 
     /// Gives the sink the entries.
     fn give(&mut self) -> Result<(), SinkFault>
-        ensures taken { OnOk result (Takes J.contents J.next self.old.sink self.new.sink self.old.volume.journal) }
+        ensures taken { OnOk result (Takes J.contents J.next
+            self.old.sink self.new.sink self.old.volume.journal) }
         ensures same { self.new ≡ record self.old { sink = self.new.sink } }
     {
         self.sink.take(self.volume.journal())
@@ -143,8 +141,8 @@ impl<F: FileStore + Drop, J: JournalSink + Drop> FiledVolume<F, J> {
         let Some(totals) = self.tally.totals.with(self.volume.counts()) else {
             return Err(SinkFault::Numbers);
         };
-        let room = room_of(&mut self.spare, self.volume.journal_limit())?;
-        self.spare = emptied(self.volume.drain(room));
+        let room = self.spare.take(self.volume.journal_limit())?;
+        self.spare.keep(self.volume.drain(room));
         self.tally.totals = totals;
         Ok(())
     }
@@ -221,26 +219,4 @@ impl<F: CleanedStore + Drop, J: JournalSink + Drop> FiledVolume<F, J> {
         self.move_on(teller);
         done
     }
-}
-
-/// Entries that are done with: their room.
-fn emptied(mut entries: Vec<Entry>) -> Vec<Entry>
-    ensures { result.items ≡ [] }
-{
-    entries.clear();
-    entries
-}
-
-/// Room for so many entries: the spare room, where it is enough.
-fn room_of(spare: &mut Vec<Entry>, limit: u32) -> Result<Vec<Entry>, AllocError>
-    requires { spare.old.items ≡ [] }
-    ensures room { IfOk result (λ room. (room.items ≡ []) × (limit ≤ vec_capacity room)) }
-    ensures spare { spare.new.items ≡ [] }
-{
-    let alloc = *spare.allocator();
-    let room = std::mem::replace(spare, Vec::new(alloc));
-    if room.capacity() >= limit as usize {
-        return Ok(room);
-    }
-    Vec::with_capacity(alloc, limit as usize)
 }

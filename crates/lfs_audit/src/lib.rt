@@ -1,6 +1,7 @@
 //! Scripts run: from the bytes of a script to the bytes printed, its answers and the report.
 #![tactic(auto)]
 
+pub mod asker;
 pub mod fault;
 pub mod filing;
 pub mod passing;

@@ -4,6 +4,7 @@ ghost use Rattle.std.specs.Prelude.{◌≡◌, IfOk, OnOk};
 ghost use Rattle.lfs_volume.specs.Cleanings.{cleaner_of};
 ghost use Rattle.lfs_audit.specs.Runs.{CountsLine, TellsCleaning};
 
+use crate::asker::Asker;
 use lfs_model::journal::{CleanerAnswer, CleanerKind};
 use lfs_print::print::{append_answer, append_cleaner};
 use lfs_script::plan::{Act, HeldCall, Step};
@@ -11,17 +12,9 @@ use lfs_server::pass::Pass;
 use lfs_sinks::refusals::Refusals;
 use lfs_types::cleaned::CleanedStore;
 use lfs_types::cleaner::CleanerCall;
-use lfs_types::cred::Cred;
 use lfs_types::request::Request;
 use lfs_volume::volume::Volume;
 use std::alloc::AllocError;
-
-/// Who asks.
-#[derive(Clone, Copy)]
-struct Asker {
-    session: u8,
-    cred: Cred,
-}
 
 /// Does what a line of a plan asks for, counts its answers, and appends their lines to a text.
 pub fn run_step<F: CleanedStore + Drop>(

@@ -79,7 +79,8 @@ where
     J: JournalSink,
     W: Write,
     ensures written { IfOk result (λ lost. (text : List ℕ) × (entries : List Entry)
-        × ((known : Option (List ℕ)) → IfSome known (λ script. IsSplit script sessions.0 sessions.1.items)
+        × ((known : Option (List ℕ))
+        → IfSome known (λ script. IsSplit script sessions.0 sessions.1.items)
         → IfSome known (λ script.
         IsFiledThreads script params.segments params.inodes params.journal entries text))
         × Appends (W.contents writer.old) (W.contents writer.new) text

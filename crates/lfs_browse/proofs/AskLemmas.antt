@@ -11,7 +11,7 @@ use Rattle.lfs_volume.specs.Seen.{Seen}
 use Rattle.lfs_audit.specs.Runs.{Runs, call_step}
 use Rattle.lfs_audit.proofs.RunLemmas.{runs_joined, runs_none}
 use Rattle.lfs_browse.specs.Asking.{Asks}
-use Rattle.lfs_browse.specs.declared.asker.Asker.{Asker}
+use Rattle.lfs_audit.specs.declared.asker.Asker.{Asker}
 
 -- none
 pub asks_none : {F : Type 0} (r : Cleaner F) (v : Seen F) (asker : Asker) → Asks r v v asker [] []

@@ -14,7 +14,7 @@ use Rattle.lfs_browse.specs.Content.{IsLast, bytes_of, end_text, followed, is_wh
 use Rattle.lfs_browse.specs.Looks.{TellsLook}
 use Rattle.lfs_browse.specs.Spelled.{spelled}
 use Rattle.lfs_browse.specs.Steps.{HasRead}
-use Rattle.lfs_browse.specs.declared.asker.Asker.{Asker}
+use Rattle.lfs_audit.specs.declared.asker.Asker.{Asker}
 use Rattle.lfs_browse.specs.declared.look.Look.TheVariants.{Content}
 use Rattle.lfs_browse.proofs.AskLemmas.{asks_joined, asks_none}
 

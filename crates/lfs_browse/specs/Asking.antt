@@ -6,7 +6,7 @@ use Rattle.lfs_model.specs.declared.steps.StepAnswer.TheVariants as told
 use Rattle.lfs_volume.specs.Cleanings.{Cleaner}
 use Rattle.lfs_volume.specs.Seen.{Seen}
 use Rattle.lfs_audit.specs.Runs.{Runs, call_step}
-use Rattle.lfs_browse.specs.declared.asker.Asker.{Asker}
+use Rattle.lfs_audit.specs.declared.asker.Asker.{Asker}
 
 -- A volume became this one by these calls of a caller, in a session, each entered and answered so.
 pub record Asks {F : Type 0} (r : Cleaner F) (old new : Seen F) (asker : Asker) (calls : List Request)

@@ -8,7 +8,7 @@ use Rattle.lfs_browse.specs.Asking.{Asks}
 use Rattle.lfs_browse.specs.Content.{IsContent}
 use Rattle.lfs_browse.specs.Listing.{IsListed}
 use Rattle.lfs_browse.specs.Trees.{IsTree}
-use Rattle.lfs_browse.specs.declared.asker.Asker.{Asker}
+use Rattle.lfs_audit.specs.declared.asker.Asker.{Asker}
 use Rattle.lfs_browse.specs.declared.look.Look.{Look}
 use Rattle.lfs_browse.specs.declared.look.Look.TheVariants.{Listing, Content, Tree}
 

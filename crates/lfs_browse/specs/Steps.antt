@@ -8,7 +8,7 @@ use Rattle.lfs_browse.specs.Asking.{Asks}
 use Rattle.lfs_browse.specs.Content.{IsLast, bytes_of, followed, is_whole, pieces}
 use Rattle.lfs_browse.specs.Listing.{has_path, listed_text, looked_at, looked_of, names_text, rows_text}
 use Rattle.lfs_browse.specs.Listing.{stat_of}
-use Rattle.lfs_browse.specs.declared.asker.Asker.{Asker}
+use Rattle.lfs_audit.specs.declared.asker.Asker.{Asker}
 
 -- Stats of names of a directory were made, of each that has a path, and their rows added to a text.
 pub record TellsRows {F : Type 0} (r : Cleaner F) (old new : Seen F) (asker : Asker) (directory names : List (List ℕ))

@@ -5,7 +5,7 @@ use Rattle.lfs_volume.specs.Cleanings.{Cleaner}
 use Rattle.lfs_volume.specs.Seen.{Seen}
 use Rattle.lfs_browse.specs.Asking.{Asks}
 use Rattle.lfs_browse.specs.Trees.{IsWalk, call_of, leads_to, visit_text, visits_text}
-use Rattle.lfs_browse.specs.declared.asker.Asker.{Asker}
+use Rattle.lfs_audit.specs.declared.asker.Asker.{Asker}
 use Rattle.lfs_browse.specs.declared.visit.Visit.{Visit}
 use Rattle.lfs_browse.specs.declared.walk.Walk.{Walk}
 

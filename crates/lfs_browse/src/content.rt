@@ -10,8 +10,9 @@ ghost use Rattle.lfs_browse.specs.Spelled.{spelled};
 ghost use Rattle.lfs_browse.specs.Steps.{HasRead};
 ghost use Rattle.lfs_browse.specs.declared.look.Look.TheVariants.{Content};
 
-use crate::asker::{Asker, ask};
+use crate::asking::ask;
 use crate::spelling::push_spelled;
+use lfs_audit::asker::Asker;
 use lfs_print::print::append_answer;
 use lfs_types::answer::{Answer, Served};
 use lfs_types::cleaned::CleanedStore;

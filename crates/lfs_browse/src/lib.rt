@@ -1,7 +1,7 @@
 //! What directories have and a file holds, for people: calls of one caller, each entered as any, and their answers as text.
 #![tactic(auto)]
 
-pub mod asker;
+pub mod asking;
 pub mod content;
 pub mod entry;
 pub mod listing;

@@ -7,9 +7,10 @@ ghost use Rattle.lfs_browse.specs.Looks.{TellsLook};
 ghost use Rattle.lfs_browse.specs.Steps.{TellsListed, TellsNames, TellsRows};
 ghost use Rattle.lfs_browse.specs.declared.look.Look.TheVariants.{Listing};
 
-use crate::asker::{Asker, ask};
+use crate::asking::ask;
 use crate::entry::entry;
 use crate::rows::{push_more, push_row};
+use lfs_audit::asker::Asker;
 use lfs_print::print::append_answer;
 use lfs_types::answer::{Answer, Served};
 use lfs_types::cleaned::CleanedStore;
@@ -111,7 +112,8 @@ fn tell_rows<F: CleanedStore + Drop>(
 ) -> Result<usize, AllocError>
     ensures told { IfOk result (λ _. TellsRows (cleaner_of F.state F.is_settled F.made F.cleaner)
         volume.old volume.new asker.now directory.now names.now text.old.items text.new.items) }
-    ensures counted { IfOk result (λ rows. rows ≡ length (filter (has_path directory.now) names.now)) }
+    ensures counted { IfOk result (λ rows.
+        rows ≡ length (filter (has_path directory.now) names.now)) }
     ensures few { IfOk result (λ rows. rows ≤ length names.now) }
 {
     let mut rows = 0;

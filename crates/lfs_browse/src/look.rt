@@ -4,10 +4,10 @@ ghost use Rattle.std.specs.Prelude.{[], IfOk, OnOk};
 ghost use Rattle.lfs_volume.specs.Cleanings.{cleaner_of};
 ghost use Rattle.lfs_browse.specs.Looks.{TellsLook};
 
-use crate::asker::Asker;
 use crate::content::tell_content;
 use crate::listing::tell_listing;
 use crate::walk::tell_tree;
+use lfs_audit::asker::Asker;
 use lfs_types::cleaned::CleanedStore;
 use lfs_types::path::Path;
 use lfs_volume::volume::Volume;

@@ -9,11 +9,12 @@ ghost use Rattle.lfs_browse.specs.Walking.{HasEnded, TakesIn, Visits};
 ghost use Rattle.lfs_browse.specs.declared.look.Look.TheVariants.{Tree};
 ghost use Rattle.lfs_browse.specs.declared.visit.Visit.TheVariants as visits;
 
-use crate::asker::{Asker, ask};
+use crate::asking::ask;
 use crate::entry::entry;
 use crate::listing::{first_of, names_served};
 use crate::rows::push_row;
 use crate::visit::{Visit, shows_directory};
+use lfs_audit::asker::Asker;
 use lfs_print::print::push_answer;
 use lfs_types::answer::Answer;
 use lfs_types::cleaned::CleanedStore;
@@ -122,7 +123,8 @@ impl Walk {
 
     /// Takes the answer to a Stat of a name in.
     fn take_entry(&mut self, path: &Path, name: &Name, answer: &Answer) -> Result<(), AllocError>
-        ensures { OnOk result (TakesIn self.old self.new (visits.Entry path.now name.now) answer.now) }
+        ensures { OnOk result (TakesIn self.old self.new
+            (visits.Entry path.now name.now) answer.now) }
     {
         let below = path.names().len().saturating_sub(self.root);
         push_indent(&mut self.text, below.saturating_sub(1))?;
@@ -151,7 +153,8 @@ impl Walk {
         ensures pending { OnOk result (self.new.pending.items ≡ self.old.pending.items
             ++ reverse (map (entry_of path.now) (looked_of path.now (Some names.now)))) }
         ensures told { OnOk result (self.new.text.items ≡ self.old.text.items
-            ++ unlooked_text depth (length names.now - length (looked_of path.now (Some names.now)))) }
+            ++ unlooked_text depth
+            (length names.now - length (looked_of path.now (Some names.now)))) }
     {
         let mut entries = entries_of(*self.text.allocator(), path, first_of(names))?;
         push_unlooked(&mut self.text, depth, names.len() - entries.len())?;

@@ -8,10 +8,11 @@ use Rattle.lfs_types.specs.StoreStates.{Shape, StoreState}
 use Rattle.lfs_types.specs.Tree.{World}
 use Rattle.lfs_types.specs.declared.level.Level.{Level}
 use Rattle.lfs_model.specs.declared.journal.Entry.{Entry}
-use Rattle.lfs_model.specs.Steps.{IsLegal, after_event, world_after}
+use Rattle.lfs_model.specs.Steps.{IsLegal, world_after}
 use Rattle.lfs_model.proofs.RunLemmas.{world_after-append}
 use Rattle.lfs_volume.specs.Journals.{Begins, IsJournal, Since}
 use Rattle.lfs_volume.specs.Seen.{Seen}
+use Rattle.lfs_sinks.proofs.LegalLemmas.{legal_joined}
 use Rattle.lfs_fuse_wire.specs.Header.{header_in}
 use Rattle.lfs_fuse_wire.specs.declared.header.Header.{Header}
 use Rattle.lfs_mount.specs.Runs.{GoesOn, IsRun, LeadTo}
@@ -19,13 +20,6 @@ use Rattle.lfs_mount.specs.Tending.{closed, let_go}
 use Rattle.lfs_fuse_talk.specs.Filing.{MovesOn}
 use Rattle.lfs_fuse_talk.specs.Serving.{Course, HasRested, IsKeptWith, IsLostWith, IsServedOf, Server, serving}
 use Rattle.lfs_fuse_talk.specs.Talking.{AreAnswered}
-
-legal_joined : (numbers segments : ℕ) (es fs : List Entry) (w : World) → IsLegal numbers segments es w
-    → IsLegal numbers segments fs (world_after numbers es w)
-    → IsLegal numbers segments (es ++ fs) w
-legal_joined numbers segments [] fs w first then = then
-legal_joined numbers segments (e ∷ es) fs w first then =
-    (first.0, legal_joined numbers segments es fs (after_event numbers w e.cred e.event) first.1 then)
 
 -- Entries that were handed out are a legal run from where the journal of a volume began to where that of another begins,
 -- which is a legal run from there.

@@ -1,7 +1,6 @@
 //! The journal of a mount, whose entries go to a file, where one is asked for.
 
-ghost use Rattle.std.specs.Prelude.{◌≡◌, ◌≤◌, ◌⊎◌, [], None, false, true, IfErr, IfOk, IfSome, IsSome, OnErr, OnOk, is_some};
-ghost use Rattle.std.specs.Vec.{vec_capacity};
+ghost use Rattle.std.specs.Prelude.{◌≡◌, ◌⊎◌, None, false, true, IfErr, IfOk, IfSome, IsSome, OnErr, OnOk, is_some};
 ghost use Rattle.lfs_mount.specs.Tending.{let_go};
 ghost use Rattle.lfs_fuse_talk.specs.Filing.{IsFirst, IsHandedOut, IsLetGo, IsShut, Stays, Takes, is_open, lost_reply};
 
@@ -9,9 +8,9 @@ use crate::fault::OpenFault;
 use lfs_fuse_calls::told::Told;
 use lfs_fuse_reply::errno::Errno;
 use lfs_io::tell::tell;
-use lfs_model::journal::Entry;
 use lfs_mount::mount::Mount;
 use lfs_sinks::sink::{JournalSink, LineSink, SinkFault};
+use lfs_sinks::spare::SpareRoom;
 use lfs_types::store::FileStore;
 use std::alloc::{AllocError, Global};
 use std::fs::{OpenFile, OpenOptions};
@@ -64,15 +63,14 @@ pub enum Keeping<W: Write + Drop> {
 #[derive(Drop)]
 pub struct Ledger<W: Write + Drop> {
     keeping: Keeping<W>,
-    /// Room for a journal; the entries that were handed out last, if any, are done with.
-    spare: Vec<Entry>,
+    /// Room for a journal.
+    spare: SpareRoom,
 }
 
 /// A file takes the entries of a mount's journal, and they are handed out.
 fn pass_on<F: FileStore + Drop, W: Write + Drop>(
-    alloc: Global,
     sink: &mut LineSink<W>,
-    spare: &mut Vec<Entry>,
+    spare: &mut SpareRoom,
     mount: &mut Mount<F>,
 ) -> Result<(), SinkFault>
     ensures taken { OnOk result (Takes W.contents sink.old sink.new mount.old.tree.volume.journal) }
@@ -82,22 +80,10 @@ fn pass_on<F: FileStore + Drop, W: Write + Drop>(
     ensures beside { mount.new.beside ≡ mount.old.beside }
     ensures sizes { mount.new.sizes ≡ mount.old.sizes }
 {
-    let room = room_of(alloc, spare, mount.journal_limit())?;
+    let room = spare.take(mount.journal_limit())?;
     sink.take(mount.journal())?;
-    *spare = mount.hand_out(room);
+    spare.keep(mount.hand_out(room));
     Ok(())
-}
-
-/// Room for so many entries, without any: what there is, where it is enough.
-fn room_of(alloc: Global, spare: &mut Vec<Entry>, limit: u32) -> Result<Vec<Entry>, AllocError>
-    ensures { IfOk result (λ room. (room.items ≡ []) × (limit ≤ vec_capacity room)) }
-{
-    let mut room = std::mem::replace(spare, Vec::new(alloc));
-    room.clear();
-    if room.capacity() >= limit as usize {
-        return Ok(room);
-    }
-    Vec::with_capacity(alloc, limit as usize)
 }
 
 impl<W: Write + Drop> Ledger<W> {
@@ -113,7 +99,7 @@ impl<W: Write + Drop> Ledger<W> {
         };
         Ledger {
             keeping,
-            spare: Vec::new(alloc),
+            spare: SpareRoom::none(alloc),
         }
     }
 
@@ -128,7 +114,6 @@ impl<W: Write + Drop> Ledger<W> {
     /// doesn't take them, that is told once, and no call is served from then on. Whether none of them is lost.
     pub(crate) fn give<F: FileStore + Drop, D: Write>(
         &mut self,
-        alloc: Global,
         mount: &mut Mount<F>,
         teller: &mut D,
     ) -> bool
@@ -149,7 +134,7 @@ impl<W: Write + Drop> Ledger<W> {
         }
         let passed = match &mut self.keeping {
             Keeping::Nowhere | Keeping::Closed => return true,
-            Keeping::File(sink) => pass_on(alloc, sink, &mut self.spare, mount),
+            Keeping::File(sink) => pass_on(sink, &mut self.spare, mount),
         };
         match passed {
             Ok(()) => true,
@@ -187,7 +172,7 @@ impl<W: Write + Drop> Ledger<W> {
             mount.make_room(alloc)?;
             return Ok(());
         }
-        let _ = self.give(alloc, mount, teller);
+        let _ = self.give(mount, teller);
         Ok(())
     }
 }

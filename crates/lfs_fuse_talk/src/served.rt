@@ -125,7 +125,7 @@ impl<F: CleanedStore + Drop, P: Outside + Drop, W: Write + Drop> Answerer for Se
         };
         self.clean = self.mount.clean_segments();
         let reply = self.reply(alloc, &header, message)?;
-        let is_kept = self.ledger.give(alloc, &mut self.mount, teller);
+        let is_kept = self.ledger.give(&mut self.mount, teller);
         told_or_lost(alloc, is_kept, header.unique, reply)
     }
 

@@ -1,15 +1,13 @@
 -- What was handed out, and what the sink has, line by line.
 use Rattle.std.proofs.Common.{◌≡◌, ℕ, zero, suc, ◌+◌, ◌≤◌, ◌⊎◌, Bool, true, false, OnErr, OnOk, Result, Ok, Err, List, [], ◌∷◌, ◌++◌}
 use Rattle.std.proofs.Common.{length, drop, inl, inr, refl, sym, ap, subst, ◌∙◌, arith, append_assoc}
-use Rattle.std.proofs.Common.{append-nil, length-append}
-use Rattle.std.specs.Io.KnownBytes.{Appends}
-use Rattle.std.proofs.KnownBytes.{Appends-nil, Appends-trans}
+use Rattle.std.proofs.Common.{append-nil}
 use Rattle.lfs_types.specs.Caller.{Caller}
 use Rattle.lfs_types.specs.StoreStates.{StoreState}
 use Rattle.lfs_types.specs.Tree.{World}
 use Rattle.lfs_types.specs.declared.level.Level.{Level}
 use Rattle.lfs_model.specs.Counts.{counts_of}
-use Rattle.lfs_model.specs.Steps.{IsLegal, after_event, world_after}
+use Rattle.lfs_model.specs.Steps.{IsLegal, world_after}
 use Rattle.lfs_model.proofs.RunLemmas.{world_after-append}
 use Rattle.lfs_model.specs.declared.counts.Counts.{Counts}
 use Rattle.lfs_model.specs.declared.journal.Entry.{Entry}
@@ -19,28 +17,24 @@ use Rattle.lfs_sinks.specs.declared.totals.Tally.{Tally}
 use Rattle.lfs_volume.specs.Cleanings.{Cleaner}
 use Rattle.lfs_volume.specs.Journals.{Begins, Since}
 use Rattle.lfs_volume.specs.Seen.{Seen}
-use Rattle.lfs_live.specs.Held.{Course, HasKept, HasRoom, Held, IsHanded, IsHandedOut, IsShut, Moves, MovesOn, Sink}
-use Rattle.lfs_live.specs.Held.{Takes, closed, course_of, drained}
+use Rattle.lfs_live.specs.Held.{Course, HasKept, HasRoom, Held, IsHanded, IsShut, Moves, MovesOn, Sink, Takes, course_of}
 use Rattle.lfs_live.specs.Saving.{Saves}
 use Rattle.lfs_live.specs.Steps.{HasTidied}
+use Rattle.lfs_audit.specs.Filing.{LeadsOn, closed, drained}
 use Rattle.lfs_audit.specs.Runs.{TellsLine}
-use Rattle.lfs_sinks.specs.Numbered.{numbered_text}
 use Rattle.lfs_sinks.specs.Sums.{counts_sum}
 use Rattle.lfs_live.specs.Talkers.{Talker}
 use Rattle.lfs_live.specs.Talking.{Hears, Tidies, is_due}
 use Rattle.lfs_live.specs.declared.hearing.Heard.{Heard}
 use Rattle.lfs_live.specs.declared.hearing.Heard.TheVariants as heard
-use Rattle.lfs_live.specs.declared.telling.Speaker.{Speaker}
+use Rattle.lfs_audit.specs.declared.asker.Asker.{Asker}
 use Rattle.lfs_script.specs.declared.plan.Act.{Act}
 use Rattle.lfs_script.specs.declared.plan.Line.TheVariants as says
-use Rattle.lfs_sinks.proofs.NumberedLemmas.{numbered-joined}
+use Rattle.lfs_audit.proofs.FiledLemmas.{takes_more as takes_behind, takes_none}
+use Rattle.lfs_sinks.proofs.LegalLemmas.{legal_joined}
 use Rattle.lfs_sinks.proofs.SumLemmas.{counts_joined}
 
 -- ---- what a sink took
-
--- a sink that took nothing
-pub takes_none : {J : Type 0} (sink : Sink J) (j : J) → Takes sink j j []
-takes_none sink j = record { lines = Appends-nil (sink.contents j); numbered = omega arith }
 
 drop_none : {A : Type 0} (n : ℕ) (xs : List A) → length xs ≤ 0 → drop n xs ≡ xs
 drop_none zero xs none = refl
@@ -56,30 +50,15 @@ pub takes_empty : {J : Type 0} (sink : Sink J) (j : J) (before : ℕ) (entries :
     → Takes sink j j (drop before entries)
 takes_empty {J} sink j before entries none =
     subst (λ (l : List Entry). Takes sink j j l) (sym (drop_none before entries none ∙ no_entries entries none))
-    (takes_none sink j)
+    (takes_none sink.contents sink.next j)
 
 -- a sink that took more
 pub takes_more : {J : Type 0} (sink : Sink J) (old middle new : J) (entries more all : List Entry) → all ≡ entries
     ++ more → Takes sink old middle entries → Takes sink middle new more
     → Takes sink old new all
-takes_more {J} sink old middle new entries more all whole first then = record {
-  lines = subst (λ (l : List ℕ). Appends (sink.contents old) (sink.contents new) l)
-      (sym (ap (numbered_text (sink.next old)) whole ∙ numbered-joined (sink.next old) entries more))
-      (Appends-trans (sink.contents old) (sink.contents middle) (sink.contents new)
-      (numbered_text (sink.next old) entries) (numbered_text (sink.next old + length entries) more)
-      first.lines (subst (λ (n : ℕ). Appends (sink.contents middle) (sink.contents new) (numbered_text n more))
-      first.numbered then.lines));
-  numbered = omega (arith, first.numbered, then.numbered, ap length whole, length-append entries more);
-}
-
--- ---- legal runs
-
-pub legal_joined : (numbers segments : ℕ) (es fs : List Entry) (w : World) → IsLegal numbers segments es w
-    → IsLegal numbers segments fs (world_after numbers es w)
-    → IsLegal numbers segments (es ++ fs) w
-legal_joined numbers segments [] fs w first then = then
-legal_joined numbers segments (e ∷ es) fs w first
-    then = (first.0, legal_joined numbers segments es fs (after_event numbers w e.cred e.event) first.1 then)
+takes_more {J} sink old middle new entries more all whole first then =
+    subst (λ (l : List Entry). Takes sink old new l) (sym whole)
+    (takes_behind sink.contents sink.next old middle new entries more first then)
 
 -- ---- a line
 
@@ -110,7 +89,7 @@ save_follows r number old new told (inr (answer, syncs, comes)) =
     record { more = _; entered = ran.entered; since = ran.since; since_level = ran.since_level; shape = ran.shape }
 
 pub line_follows : {F : Type 0} (r : Talker F) (number : ℕ) (handed : List Entry) (answers given : List StepAnswer)
-    (old new : Seen F) (speaker then : Speaker) (said : Heard) (told : List ℕ)
+    (old new : Seen F) (speaker then : Asker) (said : Heard) (told : List ℕ)
     → Hears r number handed answers old speaker said told new then given → Follows r.cleaner.state old new
 line_follows r number handed answers given old new speaker then (heard.Line says.Nothing) told h =
     follows_same r.cleaner.state old new h.0
@@ -154,7 +133,7 @@ pub kept_none : {F J : Type 0} (state : F → StoreState) (sink : Sink J) (old :
 kept_none {F} {J} state sink old told empty = record {
   counted = told;
   caught = λ taking. subst (λ (l : List Entry). Takes sink old.sink old.sink l) (sym empty)
-      (takes_none sink old.sink);
+      (takes_none sink.contents sink.next old.sink);
   opened = λ taking. taking;
   legal = λ from begins. (tt, begins);
   shape = refl;
@@ -356,7 +335,7 @@ handed_out old sink = record {
 -- the entries were handed out
 pub moves_out : {F J : Type 0} (state : F → StoreState) (sink : Sink J) (before : ℕ) (old new : Held F J)
     → old.is_open ≡ true → new ≡ handed_out old new.sink
-    → Takes sink old.sink new.sink (drop before old.volume.journal) → IsHandedOut state old.volume new.volume
+    → Takes sink old.sink new.sink (drop before old.volume.journal) → LeadsOn state old.volume new.volume
     → Moves state sink before old new old.volume.journal
 moves_out {F} {J} state sink before old new taking is takes legal =
     let journal = old.volume.journal in
@@ -379,7 +358,7 @@ moves_out {F} {J} state sink before old new taking is takes legal =
 pub moves_if_out : {A E F J : Type 0} (state : F → StoreState) (sink : Sink J) (before : ℕ) (old middle new : Held F J)
     (result : Result A E) → old.is_open ≡ true → middle ≡ record old { sink = middle.sink }
     → Takes sink old.sink middle.sink (drop before old.volume.journal)
-    → OnOk result (new ≡ handed_out middle middle.sink) → OnOk result (IsHandedOut state middle.volume new.volume)
+    → OnOk result (new ≡ handed_out middle middle.sink) → OnOk result (LeadsOn state middle.volume new.volume)
     → OnOk result ((more : List Entry) × Moves state sink before old new more)
 moves_if_out {A} {E} {F} {J} state sink before old middle new (Ok a) taking same takes is legal =
     let sunk : new.sink ≡ middle.sink = ap (λ (h : Held F J). h.sink) is in
@@ -388,7 +367,7 @@ moves_if_out {A} {E} {F} {J} state sink before old middle new (Ok a) taking same
       old.volume.journal,
       moves_out state sink before old new taking whole
           (subst (λ (j : J). Takes sink old.sink j (drop before old.volume.journal)) (sym sunk) takes)
-          (subst (λ (h : Held F J). IsHandedOut state h.volume new.volume) same legal),
+          (subst (λ (h : Held F J). LeadsOn state h.volume new.volume) same legal),
     )
 moves_if_out state sink before old middle new (Err e) taking same takes is legal = tt
 

@@ -46,7 +46,7 @@ use Rattle.lfs_live.specs.declared.hearing.Dot.TheVariants.{Quit}
 use Rattle.lfs_live.specs.declared.hearing.Heard.{Heard}
 use Rattle.lfs_live.specs.declared.hearing.Heard.TheVariants as heard
 use Rattle.lfs_live.specs.declared.framing.Framing.TheVariants.{Plain}
-use Rattle.lfs_live.specs.declared.telling.Speaker.{Speaker}
+use Rattle.lfs_audit.specs.declared.asker.Asker.{Asker}
 
 -- ---- no line of a script begins with a dot
 
@@ -93,7 +93,7 @@ heard-said line said few ok = rw (le-ltb 65536 (length line) few, undotted line 
 -- ---- a line follows a draft
 
 -- a volume became this one by what the lines ask for that a draft grew by, and this is told of them, and these answers
-record Followed {F : Type 0} (r : Cleaner F) (old new : Seen F) (draft after : Drafted) (then : Speaker)
+record Followed {F : Type 0} (r : Cleaner F) (old new : Seen F) (draft after : Drafted) (then : Asker)
     (told : List ℕ) (given : List StepAnswer) : Type 0 where
   steps : List Step
   made : List Made
@@ -125,7 +125,7 @@ asked-joined (s ∷ steps) made answers more others given are then = (
 )
 
 followed-joined : {F : Type 0} (r : Cleaner F) (old middle new : Seen F) (draft after last : Drafted) (speaker
-    then : Speaker) (first rest told : List ℕ) (given others : List StepAnswer)
+    then : Asker) (first rest told : List ℕ) (given others : List StepAnswer)
     → told ≡ first ++ rest → Followed r old middle draft after speaker first given → Followed r middle new after last
     then rest others → Followed r old new draft last then told (given ++ others)
 followed-joined r old middle new draft after last speaker then first rest told given others whole before behind = record {
@@ -147,7 +147,7 @@ followed-joined r old middle new draft after last speaker then first rest told g
 }
 
 -- nothing is asked for
-followed-none : {F : Type 0} (r : Cleaner F) (old new : Seen F) (draft after : Drafted) (then : Speaker) (told : List ℕ)
+followed-none : {F : Type 0} (r : Cleaner F) (old new : Seen F) (draft after : Drafted) (then : Asker) (told : List ℕ)
     (given : List StepAnswer) → new ≡ old → after.steps ≡ draft.steps → after.session ≡ then.session
     → after.cred ≡ then.cred → told ≡ [] → given ≡ [] → Followed r old new draft after then told given
 followed-none {F} r old new draft after then told given same steps session cred nothing none = record {
@@ -164,21 +164,21 @@ followed-none {F} r old new draft after then told given same steps session cred 
 }
 
 followed-line : {F : Type 0} (r : Cleaner F) (old new : Seen F) (draft : Drafted) (speaker
-    then : Speaker) (said : Line) (told : List ℕ) (given : List StepAnswer)
+    then : Asker) (said : Line) (told : List ℕ) (given : List StepAnswer)
     → draft.session ≡ speaker.session → draft.cred ≡ speaker.cred → Does r old speaker said told new
     then given → Followed r old new draft (added draft said) then told given
 followed-line r old new draft speaker then says.Nothing told given session cred does =
     followed-none r old new draft draft then told given does.0 refl
-    (session ∙ ap (λ (s : Speaker). s.session) (sym does.1)) (cred ∙ ap (λ (s : Speaker). s.cred) (sym does.1)) does.2
+    (session ∙ ap (λ (s : Asker). s.session) (sym does.1)) (cred ∙ ap (λ (s : Asker). s.cred) (sym does.1)) does.2
     does.3
 followed-line r old new draft speaker then (says.Session number) told given session cred does =
     followed-none r old new draft (added draft (says.Session number))
-    then told given does.0 refl (ap (λ (s : Speaker). s.session) (sym does.1)) (cred
-    ∙ ap (λ (s : Speaker). s.cred) (sym does.1)) does.2 does.3
+    then told given does.0 refl (ap (λ (s : Asker). s.session) (sym does.1)) (cred
+    ∙ ap (λ (s : Asker). s.cred) (sym does.1)) does.2 does.3
 followed-line r old new draft speaker then (says.Caller caller) told given session cred does =
     followed-none r old new draft (added draft (says.Caller caller))
-    then told given does.0 refl (session ∙ ap (λ (s : Speaker). s.session) (sym does.1))
-    (ap (λ (s : Speaker). s.cred) (sym does.1)) does.2 does.3
+    then told given does.0 refl (session ∙ ap (λ (s : Asker). s.session) (sym does.1))
+    (ap (λ (s : Asker). s.cred) (sym does.1)) does.2 does.3
 followed-line r old new draft speaker then (says.Act act) told given session cred does =
     let tells = does.0 in
     record {
@@ -199,8 +199,8 @@ followed-line r old new draft speaker then (says.Act act) told given session cre
       ran = tells.ran;
       printed = tells.printed;
       grown = refl;
-      session = session ∙ ap (λ (s : Speaker). s.session) (sym does.1);
-      cred = cred ∙ ap (λ (s : Speaker). s.cred) (sym does.1);
+      session = session ∙ ap (λ (s : Asker). s.session) (sym does.1);
+      cred = cred ∙ ap (λ (s : Asker). s.cred) (sym does.1);
     }
 
 -- ---- the lines of a script
@@ -223,7 +223,7 @@ abbrev IsShort : List ℕ → Type 0
 IsShort line = length line ≤ 65536
 
 -- the plan of a script goes on behind the lines that were heard
-record Goes {F : Type 0} (r : Cleaner F) (old new : Seen F) (draft : Drafted) (then : Speaker) (told rest : List ℕ)
+record Goes {F : Type 0} (r : Cleaner F) (old new : Seen F) (draft : Drafted) (then : Asker) (told rest : List ℕ)
     (given : List StepAnswer) (plan : Planned) : Type 0 where
   number : ℕ
   after : Drafted
@@ -248,7 +248,7 @@ unmoved {F} r now after tidied closed idle moves tidies =
     tidies.stays (rw (still, idle) refl) ∙ still
 
 script-heard : {F : Type 0} (t : Talker F) (old new : Course F) (speaker
-    then : Speaker) (lines texts : List (List ℕ)) (rest : List ℕ) (n : ℕ) (draft : Drafted) (plan : Planned)
+    then : Asker) (lines texts : List (List ℕ)) (rest : List ℕ) (n : ℕ) (draft : Drafted) (plan : Planned)
     → HearsAll t n old speaker lines texts new then → old.is_open ≡ false → old.cleans ≡ false
     → draft.session ≡ speaker.session → draft.cred ≡ speaker.cred
     → All IsShort (lines_of (ended lines ++ rest)) → plan_from n draft (lines_of (ended lines ++ rest)) ≡ Ok plan
@@ -261,7 +261,7 @@ script-heard {F} t old new speaker then [] texts rest n draft plan hears closed 
     after = draft;
     followed = followed-none t.cleaner old.volume new.volume draft draft
         then (frames Plain texts) [] (ap (λ (c : Course F). c.volume) hears.0) refl (session
-        ∙ ap (λ (s : Speaker). s.session) (sym hears.1)) (cred ∙ ap (λ (s : Speaker). s.cred) (sym hears.1))
+        ∙ ap (λ (s : Asker). s.session) (sym hears.1)) (cred ∙ ap (λ (s : Asker). s.cred) (sym hears.1))
         (ap (frames Plain) hears.2) refl;
     short = short;
     goes_on = ok;

@@ -18,7 +18,8 @@ use Rattle.lfs_model.proofs.RunLemmas.{world_after-append}
 use Rattle.lfs_volume.specs.Journals.{AtPresent, Begins, IsJournal, Since}
 use Rattle.lfs_volume.specs.Seen.{Seen}
 use Rattle.lfs_calls.specs.Outcomes.{IsOutcome}
-use Rattle.lfs_live.specs.Held.{Held, IsLetGo, MayEnter, drained}
+use Rattle.lfs_audit.specs.Filing.{drained}
+use Rattle.lfs_live.specs.Held.{Held, IsLetGo, MayEnter}
 use Rattle.lfs_live.specs.Settling.{IsSyncRefused, is_done}
 use Rattle.lfs_live.specs.Talking.{first_speaker}
 use Rattle.lfs_live.proofs.KeepingLemmas.{never_both}

@@ -32,12 +32,12 @@ use Rattle.lfs_live.specs.declared.hearing.Dot.TheVariants.{Quit}
 use Rattle.lfs_live.specs.declared.hearing.Heard.{Heard}
 use Rattle.lfs_live.specs.declared.hearing.Heard.TheVariants as heard
 use Rattle.lfs_live.proofs.LineLemmas.{cut_kept, heard_kept}
-use Rattle.lfs_live.specs.declared.telling.Speaker.{Speaker}
+use Rattle.lfs_audit.specs.declared.asker.Asker.{Asker}
 
 -- A volume and who speaks became these by so many lines that were read, one after another, of which one had a fault or
 -- none; and what is told of them is written, and nothing else.
 pub record HasHeard {F J : Type 0} (r : Talker F) (framing : Framing) (sink : Sink J) (old new : Held F J)
-    (then : Speaker) (count : ℕ) (has_fault : Bool) (known left start out : Option (List ℕ)) : Type 0 where
+    (then : Asker) (count : ℕ) (has_fault : Bool) (known left start out : Option (List ℕ)) : Type 0 where
   pub handed : List Entry
   pub answers : List StepAnswer
   pub lines : List (List ℕ)
@@ -50,7 +50,7 @@ pub record HasHeard {F J : Type 0} (r : Talker F) (framing : Framing) (sink : Si
   pub printed : Appends start out (frames framing texts)
 
 -- no line was heard
-pub heard_none : {F J : Type 0} (r : Talker F) (framing : Framing) (sink : Sink J) (v : Held F J) (speaker : Speaker)
+pub heard_none : {F J : Type 0} (r : Talker F) (framing : Framing) (sink : Sink J) (v : Held F J) (speaker : Asker)
     (has_fault : Bool) (known start : Option (List ℕ)) → speaker ≡ first_speaker → has_fault ≡ false
     → v.tally ≡ tally_of [] [] → v.volume.journal ≡ []
     → HasHeard r framing sink v v speaker 0 has_fault known known start start
@@ -70,7 +70,7 @@ heard_none r framing sink v speaker has_fault known start first faultless told e
 -- one more line, whose number is behind those of the others
 hears-more : {F : Type 0} (r : Talker F) (from number : ℕ) (old middle : Course F) (volume : Seen F)
     (given : List StepAnswer) (after new : Course F) (first speaker
-    then : Speaker) (lines texts : List (List ℕ)) (line more : List ℕ) → number ≡ from + length lines
+    then : Asker) (lines texts : List (List ℕ)) (line more : List ℕ) → number ≡ from + length lines
     → HearsAll r from old first lines texts middle speaker → HasNoLineFeed line
     → Hears r number middle.handed middle.answers middle.volume speaker (heard_of line) more volume then given
     → MovesOn (record middle { volume = volume; answers = middle.answers ++ given }) after → Tidies r.cleaner after new
@@ -90,7 +90,7 @@ hears-more {F} r from number old middle volume given after new first speaker
       subst (λ (n : ℕ). Hears r n old.handed old.answers old.volume first (heard_of line) more volume then given) here
           (subst (λ (c : Course F). Hears r number c.handed c.answers c.volume first (heard_of line) more volume
           then given) heard.0
-          (subst (λ (s : Speaker). Hears r number middle.handed middle.answers middle.volume s (heard_of line) more
+          (subst (λ (s : Asker). Hears r number middle.handed middle.answers middle.volume s (heard_of line) more
           volume then given) heard.1 next)),
       subst (λ (c : Course F). MovesOn (record c { volume = volume; answers = c.answers ++ given }) after) heard.0 moves,
       tidies,
@@ -133,7 +133,7 @@ or-assoc false b c = refl
 
 -- whether there is a fault, with one more line
 faulty-more : {F : Type 0} (r : Talker F) (from : ℕ) (old new : Course F) (first
-    then : Speaker) (lines texts : List (List ℕ)) (line told : List ℕ)
+    then : Asker) (lines texts : List (List ℕ)) (line told : List ℕ)
     → HearsAll r from old first lines texts new then
     → have_fault (lines ++ line ∷ []) (texts ++ told ∷ [])
     ≡ (have_fault lines texts || is_faulty (heard_of line) told)
@@ -229,7 +229,7 @@ heard_last {F} {J} r framing sink old middle new was now count known left rest s
 
 -- a read failed
 pub heard_failed : {F J : Type 0} (r : Talker F) (framing : Framing) (sink : Sink J) (old middle new : Held F J)
-    (speaker : Speaker) (count : ℕ) (has_fault : Bool) (known left rest start out more : Option (List ℕ))
+    (speaker : Asker) (count : ℕ) (has_fault : Bool) (known left rest start out more : Option (List ℕ))
     → HasHeard r framing sink old middle speaker count has_fault known left start out → new ≡ middle
     → FailsHere left rest out more → HeardSoFar r framing sink old new known rest start more
 heard_failed {F} {J} r framing sink old middle new speaker count has_fault known left rest start
@@ -253,7 +253,7 @@ heard_failed {F} {J} r framing sink old middle new speaker count has_fault known
 
 -- no more lines are read
 pub heard_enough : {F J : Type 0} (r : Talker F) (framing : Framing) (sink : Sink J) (old new : Held F J)
-    (speaker : Speaker) (count : ℕ) (has_fault : Bool) (known left start out : Option (List ℕ))
+    (speaker : Asker) (count : ℕ) (has_fault : Bool) (known left start out : Option (List ℕ))
     → HasHeard r framing sink old new speaker count has_fault known left start out
     → HeardSoFar r framing sink old new known left start out
 heard_enough r framing sink old new speaker count has_fault known left start out heard = record {

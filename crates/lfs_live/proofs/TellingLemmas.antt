@@ -17,14 +17,14 @@ use Rattle.lfs_live.specs.Steps.{HasAnswered}
 use Rattle.lfs_live.specs.Talkers.{Talker}
 use Rattle.lfs_browse.specs.Looks.{TellsLook}
 use Rattle.lfs_browse.specs.declared.look.Look.{Look}
-use Rattle.lfs_live.specs.Talking.{Does, Hears, IsAnsweredBy, LooksOn, asker_of}
+use Rattle.lfs_live.specs.Talking.{Does, Hears, IsAnsweredBy, LooksOn}
 use Rattle.lfs_live.specs.Telling.{dot_text, fault_line}
 use Rattle.lfs_live.specs.declared.fault.LineFault.{LineFault}
 use Rattle.lfs_live.specs.declared.hearing.Dot.{Dot}
 use Rattle.lfs_live.specs.declared.hearing.Inquiry.{Inquiry}
 use Rattle.lfs_live.specs.declared.hearing.Heard.{Heard}
 use Rattle.lfs_live.specs.declared.hearing.Heard.TheVariants as heard
-use Rattle.lfs_live.specs.declared.telling.Speaker.{Speaker}
+use Rattle.lfs_audit.specs.declared.asker.Asker.{Asker}
 
 -- what holds of a result from each of some worlds, holds from each of them of a result that is Ok
 pub if_ok_at : {A E W : Type 0} (result : Result A E) (P : W → Type 0) (Q : W → A → Type 0)
@@ -52,7 +52,7 @@ counted_more tally after given same adds = λ handed answers is.
 
 -- a line of a script was done
 pub line_answered : {F : Type 0} (r : Talker F) (number : ℕ) (old new : Seen F) (tally after : Tally) (speaker
-    then : Speaker) (line : List ℕ) (said : Line) (told : List ℕ) → heard_of line ≡ heard.Line said
+    then : Asker) (line : List ℕ) (said : Line) (told : List ℕ) → heard_of line ≡ heard.Line said
     → after.totals ≡ tally.totals
     → (given : List StepAnswer) × Does r.cleaner old speaker said told new then given
     × AddsUp tally.refusals after.refusals given
@@ -67,7 +67,7 @@ line_answered {F} r number old new tally after speaker then line said told is sa
 
 -- nothing was done
 pub none_answered : {F : Type 0} (r : Talker F) (number : ℕ) (old new : Seen F) (tally : Tally) (speaker
-    then : Speaker) (said : Heard) (told : List ℕ)
+    then : Asker) (said : Heard) (told : List ℕ)
     → ((handed : List Entry) (answers : List StepAnswer) → tally ≡ tally_of handed answers
     → Hears r number handed answers old speaker said told new then [])
     → HasAnswered r number old new tally tally speaker then said told
@@ -78,7 +78,7 @@ none_answered r number old new tally speaker then said told hears = record {
 }
 
 -- a call was asked about, which is not made
-pub asks_answered : {F : Type 0} (r : Talker F) (number : ℕ) (old new : Seen F) (tally : Tally) (speaker : Speaker) (line : List ℕ)
+pub asks_answered : {F : Type 0} (r : Talker F) (number : ℕ) (old new : Seen F) (tally : Tally) (speaker : Asker) (line : List ℕ)
     (inquiry : Inquiry) (request : Request) (told : List ℕ) → heard_of line ≡ heard.Asks inquiry request
     → LooksOn (r.cleaner.state old.store) (r.cleaner.state new.store) old new
     → AtPresent r.cleaner.state old (λ w. IsAnsweredBy w inquiry speaker.cred request told)
@@ -89,9 +89,9 @@ asks_answered {F} r number old new tally speaker line inquiry request told is lo
     (λ handed answers counted. (looks, refl, text, refl)))
 
 -- a path was looked at, by calls whose refusals are not counted
-pub look_answered : {F : Type 0} (r : Talker F) (number : ℕ) (old new : Seen F) (tally : Tally) (speaker : Speaker) (line : List ℕ)
+pub look_answered : {F : Type 0} (r : Talker F) (number : ℕ) (old new : Seen F) (tally : Tally) (speaker : Asker) (line : List ℕ)
     (look : Look) (path : List (List ℕ)) (told : List ℕ) → heard_of line ≡ heard.Looks look path
-    → TellsLook r.cleaner old new (asker_of speaker) look path [] told
+    → TellsLook r.cleaner old new speaker look path [] told
     → HasAnswered r number old new tally tally speaker speaker (heard_of line) told
 look_answered {F} r number old new tally speaker line look path told is looks =
     subst (λ (h : Heard). HasAnswered r number old new tally tally speaker speaker h told) (sym is)
@@ -99,7 +99,7 @@ look_answered {F} r number old new tally speaker line look path told is looks =
     (λ handed answers counted. (looks, refl, refl)))
 
 -- the volume was checked
-pub check_answered : {F : Type 0} (r : Talker F) (number : ℕ) (old : Seen F) (tally : Tally) (speaker : Speaker)
+pub check_answered : {F : Type 0} (r : Talker F) (number : ℕ) (old : Seen F) (tally : Tally) (speaker : Asker)
     (line told : List ℕ) → heard_of line ≡ heard.Check
     → AtPresent r.cleaner.state old (λ w. r.checked old.store told)
     → HasAnswered r number old old tally tally speaker speaker (heard_of line) told
@@ -109,7 +109,7 @@ check_answered {F} r number old tally speaker line told is tells =
     (λ handed answers counted. (refl, refl, tells, refl)))
 
 -- it was to be saved
-pub save_answered : {F : Type 0} (r : Talker F) (number : ℕ) (old new : Seen F) (tally : Tally) (speaker : Speaker)
+pub save_answered : {F : Type 0} (r : Talker F) (number : ℕ) (old new : Seen F) (tally : Tally) (speaker : Asker)
     (line told : List ℕ) → heard_of line ≡ heard.Save → Saves r number old new told
     → HasAnswered r number old new tally tally speaker speaker (heard_of line) told
 save_answered {F} r number old new tally speaker line told is saves =
@@ -118,7 +118,7 @@ save_answered {F} r number old new tally speaker line told is saves =
     (λ handed answers counted. (saves, refl, refl)))
 
 -- a fault was told
-pub fault_answered : {F : Type 0} (r : Talker F) (number : ℕ) (old : Seen F) (tally : Tally) (speaker : Speaker) (line : List ℕ)
+pub fault_answered : {F : Type 0} (r : Talker F) (number : ℕ) (old : Seen F) (tally : Tally) (speaker : Asker) (line : List ℕ)
     (fault : LineFault) (place told : List ℕ) → heard_of line ≡ heard.Fault fault place
     → told ≡ fault_line number fault place → HasAnswered r number old old tally tally speaker speaker (heard_of line) told
 fault_answered {F} r number old tally speaker line fault place told is text =
@@ -127,7 +127,7 @@ fault_answered {F} r number old tally speaker line fault place told is text =
     (λ handed answers counted. (refl, refl, text, refl)))
 
 -- a word of the server's own was told
-pub dot_answered : {F : Type 0} (r : Talker F) (number : ℕ) (old : Seen F) (tally : Tally) (speaker : Speaker)
+pub dot_answered : {F : Type 0} (r : Talker F) (number : ℕ) (old : Seen F) (tally : Tally) (speaker : Asker)
     (line : List ℕ) (dot : Dot) (text told : List ℕ) → heard_of line ≡ heard.Dot dot
     → ((handed : List Entry) (answers : List StepAnswer) → tally ≡ tally_of handed answers
     → dot_text r.texts dot handed answers old ≡ Some text)

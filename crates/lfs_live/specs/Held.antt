@@ -1,13 +1,12 @@
 -- A volume that is talked to, whose journal is given to a sink, and what was handed out of the journal by then.
 use Rattle.std.specs.Prelude.{◌≡◌, ℕ, ◌+◌, ◌<◌, ◌≤◌, ◌⊎◌, Bool, true, false, List, [], ◌++◌, drop, length, Option}
-use Rattle.std.specs.Io.KnownBytes.{Appends}
 use Rattle.lfs_model.specs.Steps.{IsLegal, world_after}
 use Rattle.lfs_model.specs.declared.journal.Entry.{Entry}
 use Rattle.lfs_model.specs.declared.steps.StepAnswer.{StepAnswer}
 use Rattle.lfs_types.specs.StoreStates.{StoreState}
 use Rattle.lfs_volume.specs.Journals.{AtPresent, Begins, Since}
 use Rattle.lfs_volume.specs.Seen.{Seen}
-use Rattle.lfs_sinks.specs.Numbered.{numbered_text}
+use Rattle.lfs_audit.specs.Filing.{Takes as TakesOf, closed, drained}
 use Rattle.lfs_sinks.specs.Refusals.{tally_of}
 use Rattle.lfs_sinks.specs.declared.totals.Tally.{Tally}
 
@@ -42,14 +41,6 @@ course_of held handed answers = record {
   cleans = held.cleans;
 }
 
--- a volume whose entries were handed out: its journal begins at its present tree
-abbrev pub drained : {F : Type 0} → Seen F → Seen F
-drained v = record v { since = v.store; since_level = v.level; journal = [] }
-
--- a volume whose journal takes no more entries: each call is refused JournalFull
-abbrev pub closed : {F : Type 0} → Seen F → Seen F
-closed v = record v { limit = length v.journal }
-
 -- a journal has room for what a line may ask for, or would not have it without entries
 abbrev pub HasRoom : {F : Type 0} → Seen F → Type 0
 HasRoom v = 107 ≤ v.limit → length v.journal + 107 ≤ v.limit
@@ -79,10 +70,9 @@ pub record Sink (J : Type 0) : Type 1 where
 abbrev pub sink_of : {J : Type 0} → (J → Option (List ℕ)) → (J → ℕ) → Sink J
 sink_of contents next = record { contents = contents; next = next }
 
--- a sink took these entries: their lines stand behind what it held, numbered on
-pub record Takes {J : Type 0} (sink : Sink J) (old new : J) (entries : List Entry) : Type 0 where
-  pub lines : Appends (sink.contents old) (sink.contents new) (numbered_text (sink.next old) entries)
-  pub numbered : sink.next new ≡ sink.next old + length entries
+-- a sink took these entries
+abbrev pub Takes : {J : Type 0} → Sink J → J → J → List Entry → Type 0
+Takes sink old new entries = TakesOf sink.contents sink.next old new entries
 
 -- Since a talk began with an empty journal, these entries were handed out, a legal run from where the journal began then
 -- to where it begins now, and these answers were told; they are counted; and a sink that takes more has the line of each entry, of those that were
@@ -110,14 +100,6 @@ pub record Moves {F J : Type 0} (state : F → StoreState) (sink : Sink J) (befo
       let shape = (state old.volume.store).shape in
       IsLegal shape.numbers shape.segments more from
       × Begins (state new.volume.since) new.volume.since_level (world_after shape.numbers more from))
-
--- the entries of a volume's journal are a legal run from where it began to where the journal of another begins
-abbrev pub IsHandedOut : {F : Type 0} → (F → StoreState) → Seen F → Seen F → Type 0
-IsHandedOut state old new =
-    Since (state old.since) old.since_level (λ from.
-    let shape = (state old.store).shape in
-    IsLegal shape.numbers shape.segments old.journal from
-    × Begins (state new.since) new.since_level (world_after shape.numbers old.journal from))
 
 -- a volume is as it was, or its entries were let go: its journal begins at the tree that it led to
 abbrev pub IsLetGo : {F : Type 0} → (F → StoreState) → Seen F → Seen F → Type 0

@@ -7,7 +7,7 @@ use Rattle.lfs_types.specs.declared.request.Request.TheVariants.{Sync}
 use Rattle.lfs_volume.specs.Cleanings.{Cleaner}
 use Rattle.lfs_volume.specs.Seen.{Seen}
 use Rattle.lfs_browse.specs.Asking.{Asks}
-use Rattle.lfs_browse.specs.declared.asker.Asker.{Asker}
+use Rattle.lfs_audit.specs.declared.asker.Asker.{Asker}
 use Rattle.lfs_live.specs.Talkers.{Talker}
 use Rattle.lfs_live.specs.Telling.{fault_line}
 use Rattle.lfs_live.specs.declared.fault.LineFault.{LineFault}

@@ -20,7 +20,7 @@ use Rattle.lfs_live.specs.Pieces.{ended_line}
 use Rattle.lfs_live.specs.declared.hearing.Heard.{Heard}
 use Rattle.lfs_live.specs.declared.framing.Framing.{Framing}
 use Rattle.lfs_live.specs.declared.talk.Standing.{Standing}
-use Rattle.lfs_live.specs.declared.telling.Speaker.{Speaker}
+use Rattle.lfs_audit.specs.declared.asker.Asker.{Asker}
 
 -- The cleaner made a pass where one was due, and what it entered moved on.
 pub record HasTidied {F J : Type 0} (r : Cleaner F) (sink : Sink J) (old new : Held F J)
@@ -32,7 +32,7 @@ pub record HasTidied {F J : Type 0} (r : Cleaner F) (sink : Sink J) (old new : H
 
 -- What the line of this number says was done, its answers were counted, and this text is told of it.
 pub record HasAnswered {F : Type 0} (r : Talker F) (number : ℕ) (old new : Seen F) (tally after : Tally) (speaker
-    then : Speaker) (said : Heard) (told : List ℕ) : Type 0 where
+    then : Asker) (said : Heard) (told : List ℕ) : Type 0 where
   pub given : List StepAnswer
   pub heard : (handed : List Entry) (answers : List StepAnswer) → tally ≡ tally_of handed answers
       → Hears r number handed answers old speaker said told new then given

@@ -20,7 +20,7 @@ use Rattle.lfs_volume.specs.Journals.{AtPresent, Since}
 use Rattle.lfs_volume.specs.Seen.{Seen}
 use Rattle.lfs_audit.specs.Runs.{TellsLine}
 use Rattle.lfs_browse.specs.Looks.{TellsLook}
-use Rattle.lfs_browse.specs.declared.asker.Asker.{Asker}
+use Rattle.lfs_audit.specs.declared.asker.Asker.{Asker}
 use Rattle.lfs_who.specs.WhoText.{IsWhoTold}
 use Rattle.lfs_why.specs.WhyText.{why_text}
 use Rattle.lfs_live.specs.Faulty.{have_fault, is_told}
@@ -37,18 +37,13 @@ use Rattle.lfs_live.specs.declared.hearing.Heard.{Heard}
 use Rattle.lfs_live.specs.declared.hearing.Heard.TheVariants as heard
 use Rattle.lfs_live.specs.declared.hearing.Inquiry.{Inquiry}
 use Rattle.lfs_live.specs.declared.hearing.Inquiry.TheVariants.{Why, Who}
-use Rattle.lfs_live.specs.declared.telling.Speaker.{Speaker}
 
 -- the first line is of session 0, and of the superuser with group 0, who is not init
-abbrev pub first_speaker : Speaker
+abbrev pub first_speaker : Asker
 first_speaker = record { session = 0; cred = record { uid = 0; groups = 0 ∷ []; init = false } }
 
--- who speaks, as one who makes the calls of a look
-abbrev pub asker_of : Speaker → Asker
-asker_of speaker = record { session = speaker.session; cred = speaker.cred }
-
 -- what a line of a script did on a volume, who speaks then, what is told of it, and how its calls were answered
-abbrev pub Does : {F : Type 0} → Cleaner F → Seen F → Speaker → Line → List ℕ → Seen F → Speaker → List StepAnswer
+abbrev pub Does : {F : Type 0} → Cleaner F → Seen F → Asker → Line → List ℕ → Seen F → Asker → List StepAnswer
     → Type 0
 Does r old speaker Nothing told new then given = (new ≡ old) × (then ≡ speaker) × (told ≡ []) × (given ≡ [])
 Does r old speaker (Session session) told new then given =
@@ -75,15 +70,15 @@ IsAnsweredBy w Who caller request told = IsWhoTold w request told
 -- The same of each line, by its number, with the entries that were handed out and the answers that were told by then: a
 -- call that is asked about is not made, a look makes its calls, whose refusals are not counted, a save makes its Sync,
 -- which is not counted either, and a check, another word of the server's own and a fault change nothing.
-abbrev pub Hears : {F : Type 0} → Talker F → ℕ → List Entry → List StepAnswer → Seen F → Speaker → Heard → List ℕ
-    → Seen F → Speaker → List StepAnswer → Type 0
+abbrev pub Hears : {F : Type 0} → Talker F → ℕ → List Entry → List StepAnswer → Seen F → Asker → Heard → List ℕ
+    → Seen F → Asker → List StepAnswer → Type 0
 Hears r number handed answers old speaker (heard.Line line) told new then given =
     Does r.cleaner old speaker line told new then given
 Hears r number handed answers old speaker (heard.Asks inquiry request) told new then given =
     LooksOn (r.cleaner.state old.store) (r.cleaner.state new.store) old new × (then ≡ speaker)
     × AtPresent r.cleaner.state old (λ w. IsAnsweredBy w inquiry speaker.cred request told) × (given ≡ [])
 Hears r number handed answers old speaker (heard.Looks look path) told new then given =
-    TellsLook r.cleaner old new (asker_of speaker) look path [] told × (then ≡ speaker) × (given ≡ [])
+    TellsLook r.cleaner old new speaker look path [] told × (then ≡ speaker) × (given ≡ [])
 Hears r number handed answers old speaker (heard.Dot dot) told new then given =
     (new ≡ old) × (then ≡ speaker) × (dot_text r.texts dot handed answers old ≡ Some told) × (given ≡ [])
 Hears r number handed answers old speaker heard.Check told new then given =
@@ -111,12 +106,12 @@ pub record Tidies {F : Type 0} (r : Cleaner F) (now after : Course F) : Type 0 w
 
 -- The same of lines, one after another, of which the first has this number, with the text that is told of each: behind
 -- each of them entries may be handed out, or the journal closed, and a pass made.
-abbrev pub HearsAll : {F : Type 0} → Talker F → ℕ → Course F → Speaker → List (List ℕ) → List (List ℕ) → Course F
-    → Speaker → Type 0
+abbrev pub HearsAll : {F : Type 0} → Talker F → ℕ → Course F → Asker → List (List ℕ) → List (List ℕ) → Course F
+    → Asker → Type 0
 HearsAll r number old speaker [] texts new then = (new ≡ old) × (then ≡ speaker) × (texts ≡ [])
 HearsAll {F} r number old speaker (line ∷ lines) texts new then =
     (told : List ℕ) × (rest : List (List ℕ)) × (middle : Seen F) × (after : Course F) × (tidied : Course F)
-    × (next : Speaker) × (given : List StepAnswer) × (texts ≡ told ∷ rest) × HasNoLineFeed line
+    × (next : Asker) × (given : List StepAnswer) × (texts ≡ told ∷ rest) × HasNoLineFeed line
     × Hears r number old.handed old.answers old.volume speaker (heard_of line) told middle next given
     × MovesOn (record old { volume = middle; answers = old.answers ++ given }) after × Tidies r.cleaner after tidied
     × HearsAll r (number + 1) tidied next lines rest new then
@@ -128,7 +123,7 @@ ended lines = flat_map ended_line lines
 -- Lines were read, and what is told of them is written; and a part of a line was read, of which nothing is told.
 pub record HasHeardSoFar {F : Type 0} (r : Talker F) (framing : Framing) (old new : Course F)
     (known left start out : Option (List ℕ)) : Type 0 where
-  pub then : Speaker
+  pub then : Asker
   pub lines : List (List ℕ)
   pub part : List ℕ
   pub texts : List (List ℕ)
@@ -149,7 +144,7 @@ IsLast number last texts left =
 -- nothing else.
 pub record HasHeardAll {F : Type 0} (r : Talker F) (framing : Framing) (old new : Course F)
     (known left start out : Option (List ℕ)) : Type 0 where
-  pub then : Speaker
+  pub then : Asker
   pub lines : List (List ℕ)
   pub last : List ℕ
   pub texts : List (List ℕ)

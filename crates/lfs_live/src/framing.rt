@@ -28,7 +28,8 @@ impl Framing {
         writer: &mut W,
         text: &[u8],
     ) -> Result<(), RunFault>
-        ensures written { OnOk result (Appends (W.contents writer.old) (W.contents writer.new) (framed self text.now)) }
+        ensures written { OnOk result (Appends (W.contents writer.old) (W.contents writer.new)
+            (framed self text.now)) }
         ensures fault { IfErr result IsLateFault }
     {
         let head = self.head(alloc, text)?;

@@ -60,7 +60,8 @@ pub fn push_help(out: &mut Vec<u8>) -> Result<(), AllocError>
 
 /// Appends texts, each with a line feed.
 fn push_lines(out: &mut Vec<u8>, lines: &[&str]) -> Result<(), AllocError>
-    ensures { OnOk result (out.new.items ≡ out.old.items ++ flat_map (λ line. ended_line line.now) lines.now) }
+    ensures { OnOk result (out.new.items
+        ≡ out.old.items ++ flat_map (λ line. ended_line line.now) lines.now) }
 {
     for line in lines {
         push_line(out, line)?;

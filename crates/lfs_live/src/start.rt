@@ -52,16 +52,21 @@ pub fn run_kept<J: JournalSink + Drop, V: Watch<LogStore> + Drop, R: Read, W: Wr
 ) -> Result<Witnesses<J, V>, RunFault>
     ensures written { let p = setup.params in let before = setup.witnesses in IfOk result (λ after.
         IsKeptLogTalk V.kept p.segments p.inodes p.frames p.journal
-        (record { is_open = before.is_open; cleans = setup.cleans; framing = setup.framing }) after.is_open (J.next before.sink)
-        (J.contents before.sink) (J.contents after.sink)
+        (record { is_open = before.is_open; cleans = setup.cleans; framing = setup.framing })
+        after.is_open (J.next before.sink) (J.contents before.sink) (J.contents after.sink)
         (R.remaining reader.old) (R.remaining reader.new)
         (W.contents writer.old) (W.contents writer.new)) }
     ensures so_far { let p = setup.params in IfErr result (λ fault. fault ≡ Failed → HasHeardOfLog
         V.kept p.segments p.inodes p.frames p.journal
-        (record { is_open = setup.witnesses.is_open; cleans = setup.cleans; framing = setup.framing })
+        (record {
+          is_open = setup.witnesses.is_open;
+          cleans = setup.cleans;
+          framing = setup.framing;
+        })
         (R.remaining reader.old) (R.remaining reader.new)
         (W.contents writer.old) (W.contents writer.new)) }
-    ensures silent { IfOk result (λ after. after.is_open ≡ setup.witnesses.is_open → teller.new ≡ teller.old) }
+    ensures silent { IfOk result (λ after. after.is_open ≡ setup.witnesses.is_open
+        → teller.new ≡ teller.old) }
     ensures ranges { let p = setup.params in OnOk result (IsInRange p.segments p.inodes p.frames) }
     ensures fault { let p = setup.params in IfErr result (IsLogFault p.segments p.inodes p.frames) }
 {
@@ -88,14 +93,17 @@ pub fn run_over<J: JournalSink + Drop, V: Watch<LogStore> + Drop, R: Read, W: Wr
     teller: &mut D,
     tended: &mut Tended<LogStore, J, V>,
 ) -> Result<bool, RunFault>
-    ensures written { IfOk result (λ has_fault. HasBegun tended.old → IsKeptTalk (log_talker V.kept) setting.framing
-        (sink_of J.contents J.next) tended.old tended.new has_fault (R.remaining reader.old) (R.remaining reader.new)
+    ensures written { IfOk result (λ has_fault. HasBegun tended.old → IsKeptTalk
+        (log_talker V.kept) setting.framing (sink_of J.contents J.next)
+        tended.old tended.new has_fault (R.remaining reader.old) (R.remaining reader.new)
         (W.contents writer.old) (W.contents writer.new)) }
-    ensures so_far { IfErr result (λ fault. fault ≡ Failed → HasBegun tended.old → HasKeptSoFar (log_talker V.kept)
-        setting.framing (sink_of J.contents J.next) tended.old tended.new (R.remaining reader.old) (R.remaining reader.new)
+    ensures so_far { IfErr result (λ fault. fault ≡ Failed → HasBegun tended.old → HasKeptSoFar
+        (log_talker V.kept) setting.framing (sink_of J.contents J.next)
+        tended.old tended.new (R.remaining reader.old) (R.remaining reader.new)
         (W.contents writer.old) (W.contents writer.new)) }
     ensures opened { OnOk result (tended.new.is_open ≡ true → tended.old.is_open ≡ true) }
-    ensures silent { OnOk result (tended.new.is_open ≡ tended.old.is_open → teller.new ≡ teller.old) }
+    ensures silent { OnOk result (tended.new.is_open ≡ tended.old.is_open
+        → teller.new ≡ teller.old) }
     ensures fault { IfErr result IsTalkFault }
 {
     match tended.show(setting.alloc, &[], &[]) {

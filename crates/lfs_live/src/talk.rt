@@ -22,9 +22,10 @@ ghost use Rattle.lfs_live.specs.declared.hearing.Heard.TheVariants as heard;
 
 use crate::framing::Framing;
 use crate::line::read_line;
-use crate::telling::{NumberedLine, Speaker, answer, tell_cut, tell_report};
+use crate::telling::{NumberedLine, answer, first_speaker, tell_cut, tell_report};
 use crate::tended::Tended;
 use crate::watch::Watch;
+use lfs_audit::asker::Asker;
 use lfs_audit::fault::RunFault;
 use lfs_checking::standing::ChecksLog;
 use lfs_model::journal::Entry;
@@ -50,7 +51,7 @@ pub(crate) struct Standing {
     /// How it is held.
     setting: Setting,
     /// Who speaks.
-    speaker: Speaker,
+    speaker: Asker,
     /// The number of the line that is read next, from 1 on.
     number: u64,
     /// Whether a line had a fault.
@@ -82,16 +83,19 @@ pub fn talk<
 ) -> Result<bool, RunFault>
     ensures written { IfOk result (λ has_fault. HasBegun tended.old → IsKeptTalk
         (talker_of (cleaner_of F.state F.is_settled F.made F.cleaner)
-        F.map_text F.segment_text F.space_text F.checked V.kept) setting.framing (sink_of J.contents J.next)
+        F.map_text F.segment_text F.space_text F.checked V.kept)
+        setting.framing (sink_of J.contents J.next)
         tended.old tended.new has_fault (R.remaining reader.old) (R.remaining reader.new)
         (W.contents writer.old) (W.contents writer.new)) }
     ensures so_far { IfErr result (λ fault. fault ≡ Read → HasBegun tended.old → HasKeptSoFar
         (talker_of (cleaner_of F.state F.is_settled F.made F.cleaner)
-        F.map_text F.segment_text F.space_text F.checked V.kept) setting.framing (sink_of J.contents J.next)
+        F.map_text F.segment_text F.space_text F.checked V.kept)
+        setting.framing (sink_of J.contents J.next)
         tended.old tended.new (R.remaining reader.old) (R.remaining reader.new)
         (W.contents writer.old) (W.contents writer.new)) }
     ensures opened { OnOk result (tended.new.is_open ≡ true → tended.old.is_open ≡ true) }
-    ensures silent { OnOk result (tended.new.is_open ≡ tended.old.is_open → teller.new ≡ teller.old) }
+    ensures silent { OnOk result (tended.new.is_open ≡ tended.old.is_open
+        → teller.new ≡ teller.old) }
     ensures fault { IfErr result IsTalkFault }
 {
     let has_fault = hear_all(setting, reader, writer, teller, tended)?;
@@ -136,16 +140,19 @@ fn hear_all<
 ) -> Result<bool, RunFault>
     ensures heard { IfOk result (λ has_fault. HasBegun tended.old → HeardAll
         (talker_of (cleaner_of F.state F.is_settled F.made F.cleaner)
-        F.map_text F.segment_text F.space_text F.checked V.kept) setting.framing (sink_of J.contents J.next)
+        F.map_text F.segment_text F.space_text F.checked V.kept)
+        setting.framing (sink_of J.contents J.next)
         tended.old tended.new has_fault (R.remaining reader.old) (R.remaining reader.new)
         (W.contents writer.old) (W.contents writer.new)) }
     ensures so_far { IfErr result (λ fault. fault ≡ Read → HasBegun tended.old → HeardSoFar
         (talker_of (cleaner_of F.state F.is_settled F.made F.cleaner)
-        F.map_text F.segment_text F.space_text F.checked V.kept) setting.framing (sink_of J.contents J.next)
+        F.map_text F.segment_text F.space_text F.checked V.kept)
+        setting.framing (sink_of J.contents J.next)
         tended.old tended.new (R.remaining reader.old) (R.remaining reader.new)
         (W.contents writer.old) (W.contents writer.new)) }
     ensures opened { OnOk result (tended.new.is_open ≡ true → tended.old.is_open ≡ true) }
-    ensures silent { OnOk result (tended.new.is_open ≡ tended.old.is_open → teller.new ≡ teller.old) }
+    ensures silent { OnOk result (tended.new.is_open ≡ tended.old.is_open
+        → teller.new ≡ teller.old) }
     ensures fault { IfErr result IsTalkFault }
 {
     let mut standing = Standing::first(setting);
@@ -170,7 +177,7 @@ impl Standing {
     {
         Standing {
             setting,
-            speaker: Speaker::first(),
+            speaker: first_speaker(),
             number: 1,
             has_fault: false,
         }
@@ -201,16 +208,18 @@ impl Standing {
         ensures next { IfOk result (λ goes_on. goes_on ≡ true → HearsNext
             (talker_of (cleaner_of F.state F.is_settled F.made F.cleaner)
             F.map_text F.segment_text F.space_text F.checked V.kept) (sink_of J.contents J.next)
-            tended.old tended.new self.old self.new (R.remaining reader.old) (R.remaining reader.new)
+            tended.old tended.new self.old self.new
+            (R.remaining reader.old) (R.remaining reader.new)
             (W.contents writer.old) (W.contents writer.new)) }
-        ensures last { IfOk result (λ goes_on. goes_on ≡ false → (tended.new ≡ tended.old) × HearsLast
-            self.old self.new (R.remaining reader.old) (R.remaining reader.new)
+        ensures last { IfOk result (λ goes_on. goes_on ≡ false → (tended.new ≡ tended.old)
+            × HearsLast self.old self.new (R.remaining reader.old) (R.remaining reader.new)
             (W.contents writer.old) (W.contents writer.new)) }
         ensures failed { IfErr result (λ fault. fault ≡ Read → (tended.new ≡ tended.old) × FailsHere
             (R.remaining reader.old) (R.remaining reader.new)
             (W.contents writer.old) (W.contents writer.new)) }
         ensures same { self.new.setting ≡ self.old.setting }
-        ensures silent { OnOk result (tended.new.is_open ≡ tended.old.is_open → teller.new ≡ teller.old) }
+        ensures silent { OnOk result (tended.new.is_open ≡ tended.old.is_open
+            → teller.new ≡ teller.old) }
         ensures fault { IfErr result IsTalkFault }
     {
         let piece = read_line(self.setting.alloc, reader)?;
@@ -263,9 +272,11 @@ impl Standing {
             (W.contents writer.old) (W.contents writer.new)) }
         ensures quits { IfOk result (λ goes_on. goes_on ≡ false → (tended.new ≡ tended.old)
             × (self.new.has_fault ≡ self.old.has_fault)
-            × (heard_of bytes.now ≡ heard.Dot Quit) × Keeps (W.contents writer.old) (W.contents writer.new)) }
+            × (heard_of bytes.now ≡ heard.Dot Quit)
+            × Keeps (W.contents writer.old) (W.contents writer.new)) }
         ensures same { self.new.setting ≡ self.old.setting }
-        ensures silent { OnOk result (tended.new.is_open ≡ tended.old.is_open → teller.new ≡ teller.old) }
+        ensures silent { OnOk result (tended.new.is_open ≡ tended.old.is_open
+            → teller.new ≡ teller.old) }
         ensures fault { IfErr result IsLateFault }
     {
         let Setting { alloc, framing } = self.setting;

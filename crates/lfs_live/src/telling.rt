@@ -5,7 +5,6 @@ ghost use Rattle.lfs_model.specs.Counts.{counts_of};
 ghost use Rattle.lfs_volume.specs.Cleanings.{cleaner_of};
 ghost use Rattle.lfs_volume.specs.Journals.{AtPresent};
 ghost use Rattle.lfs_audit.specs.Runs.{CountsLine};
-ghost use Rattle.lfs_browse.specs.Looks.{TellsLook};
 ghost use Rattle.lfs_model.specs.declared.steps.StepAnswer.{StepAnswer};
 ghost use Rattle.lfs_sinks.specs.Refusals.{AddsUp, run_report, tally_of};
 ghost use Rattle.lfs_who.specs.WhoText.{IsWhoTold};
@@ -14,7 +13,7 @@ ghost use Rattle.lfs_live.specs.Faulty.{is_faulty};
 ghost use Rattle.lfs_live.specs.Hearing.{heard_of};
 ghost use Rattle.lfs_live.specs.Talkers.{talker_of, texts_of};
 ghost use Rattle.lfs_live.specs.Steps.{HasAnswered};
-ghost use Rattle.lfs_live.specs.Talking.{Does, IsAnsweredBy, LooksOn, asker_of, first_speaker};
+ghost use Rattle.lfs_live.specs.Talking.{Does, IsAnsweredBy, LooksOn, first_speaker};
 ghost use Rattle.lfs_live.specs.HelpText.{help_text};
 ghost use Rattle.lfs_live.specs.Telling.{cut_line, dot_text, entries_told, fault_line};
 ghost use Rattle.lfs_live.specs.declared.hearing.Dot.TheVariants.{Quit};
@@ -26,9 +25,9 @@ use crate::help::push_help;
 use crate::journal::tell_journal;
 use crate::upkeep::{check, save};
 use crate::watch::Watch;
+use lfs_audit::asker::Asker;
 use lfs_audit::passing::run_step;
-use lfs_browse::asker::Asker;
-use lfs_browse::look::{Look, tell_look};
+use lfs_browse::look::tell_look;
 use lfs_checking::standing::ChecksLog;
 use lfs_model::counts::Counts;
 use lfs_model::journal::Entry;
@@ -37,7 +36,6 @@ use lfs_sinks::refusals::Refusals;
 use lfs_sinks::totals::{Tally, Totals, push_report};
 use lfs_types::cleaned::CleanedStore;
 use lfs_types::cred::Cred;
-use lfs_types::path::Path;
 use lfs_types::request::Request;
 use lfs_types::store::FileStore;
 use lfs_view::shows::ShowsLog;
@@ -49,24 +47,13 @@ use lfs_words::caller::first_caller;
 use lfs_words::fault::FaultKind;
 use std::alloc::{AllocError, Global};
 
-/// Who speaks: the session and the credential of the lines that follow.
-#[derive(Clone, Copy, Debug)]
-pub struct Speaker {
-    /// The session, from 0 to 8.
-    pub session: u8,
-    /// Who asks.
-    pub cred: Cred,
-}
-
-impl Speaker {
-    /// Who speaks first: session 0, and the superuser with group 0, who is not init.
-    pub fn first() -> Speaker
-        ensures { result ≡ first_speaker }
-    {
-        Speaker {
-            session: 0,
-            cred: first_caller(),
-        }
+/// Who speaks first: session 0, and the superuser with group 0, who is not init.
+pub(crate) fn first_speaker() -> Asker
+    ensures { result ≡ first_speaker }
+{
+    Asker {
+        session: 0,
+        cred: first_caller(),
     }
 }
 
@@ -130,12 +117,13 @@ pub fn answer<F: CleanedStore + ShowsLog + ChecksLog + Drop, V: Watch<F>>(
     alloc: Global,
     volume: &mut Volume<F>,
     tally: &mut Tally,
-    speaker: &mut Speaker,
+    speaker: &mut Asker,
     watch: &V,
     line: NumberedLine<'_>,
 ) -> Result<Option<Told>, AllocError>
     ensures told { IfOk result (λ given. MatchOption given
-        ((heard_of line.entry.bytes.now ≡ heard.Dot Quit) × (volume.new ≡ volume.old) × (tally.new ≡ tally.old))
+        ((heard_of line.entry.bytes.now ≡ heard.Dot Quit)
+        × (volume.new ≡ volume.old) × (tally.new ≡ tally.old))
         (λ told. HasAnswered
         (talker_of (cleaner_of F.state F.is_settled F.made F.cleaner)
         F.map_text F.segment_text F.space_text F.checked V.kept) line.entry.number
@@ -155,7 +143,7 @@ pub fn answer<F: CleanedStore + ShowsLog + ChecksLog + Drop, V: Watch<F>>(
             Ok(Some(Told::faultless(text?)))
         }
         Heard::Looks(look, path) => {
-            let text = look_at(alloc, volume, speaker, look, &path);
+            let text = tell_look(alloc, volume, speaker, look, &path);
             drop(path);
             Ok(Some(Told::faultless(text?)))
         }
@@ -187,7 +175,7 @@ fn obey<F: CleanedStore + Drop>(
     alloc: Global,
     volume: &mut Volume<F>,
     refusals: &mut Refusals,
-    speaker: &mut Speaker,
+    speaker: &mut Asker,
     line: Line,
 ) -> Result<Vec<u8>, AllocError>
     ensures { IfOk result (λ text. (given : List StepAnswer) × Does
@@ -215,7 +203,7 @@ fn make<F: CleanedStore + Drop>(
     alloc: Global,
     volume: &mut Volume<F>,
     refusals: &mut Refusals,
-    speaker: &Speaker,
+    speaker: &Asker,
     act: Act,
 ) -> Result<Vec<u8>, AllocError>
     ensures { IfOk result (λ text. CountsLine
@@ -223,27 +211,10 @@ fn make<F: CleanedStore + Drop>(
         volume.old volume.new refusals.old refusals.new
         speaker.now.session speaker.now.cred act [] text.items) }
 {
-    let Speaker { session, cred } = *speaker;
+    let Asker { session, cred } = *speaker;
     let mut text = Vec::new(alloc);
     run_step(volume, refusals, Step { session, cred, act }, &mut text)?;
     Ok(text)
-}
-
-/// Looks at a path by calls of who speaks, and gives what is told of their answers.
-fn look_at<F: CleanedStore + Drop>(
-    alloc: Global,
-    volume: &mut Volume<F>,
-    speaker: &Speaker,
-    look: Look,
-    path: &Path,
-) -> Result<Vec<u8>, AllocError>
-    ensures { IfOk result (λ text. TellsLook
-        (cleaner_of F.state F.is_settled F.made F.cleaner)
-        volume.old volume.new (asker_of speaker.now) look path.now [] text.items) }
-{
-    let Speaker { session, cred } = *speaker;
-    let asker = Asker { session, cred };
-    tell_look(alloc, volume, &asker, look, path)
 }
 
 /// The lines of what is asked about a call, which is not made.
@@ -306,7 +277,8 @@ fn tell_dot<F: CleanedStore + ShowsLog + Drop>(
 ) -> Result<Option<Vec<u8>>, AllocError>
     ensures { IfOk result (λ given. MatchOption given
         (dot ≡ Quit)
-        (λ text. (handed : List Entry) (answers : List StepAnswer) → tally.now ≡ tally_of handed answers
+        (λ text. (handed : List Entry) (answers : List StepAnswer)
+        → tally.now ≡ tally_of handed answers
         → dot_text (texts_of F.map_text F.segment_text F.space_text)
         dot handed answers volume.now ≡ Some text.items)) }
 {

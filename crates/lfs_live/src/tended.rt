@@ -1,14 +1,14 @@
 //! A volume that is talked to, whose journal is given to a sink.
 
 ghost use Rattle.std.specs.Prelude.{◌≡◌, ◌<◌, ◌≤◌, ℕ, [], List, drop, length, false, true, IfOk, OnErr, OnOk};
-ghost use Rattle.std.specs.Vec.{vec_capacity};
 ghost use Rattle.lfs_model.specs.Counts.{counts_of};
+ghost use Rattle.lfs_audit.specs.Filing.{LeadsOn, closed, drained};
 ghost use Rattle.lfs_audit.specs.Runs.{TellsLine};
 ghost use Rattle.lfs_script.specs.declared.plan.Act.TheVariants.{Pass};
 ghost use Rattle.lfs_volume.specs.Cleanings.{cleaner_of};
 ghost use Rattle.lfs_volume.specs.Journals.{AtPresent, Begins};
 ghost use Rattle.lfs_volume.specs.Seen.{Seen};
-ghost use Rattle.lfs_live.specs.Held.{HasRoom, IsHandedOut, IsLetGo, MayEnter, Moves, Takes, closed, course_of, drained, sink_of};
+ghost use Rattle.lfs_live.specs.Held.{HasRoom, IsLetGo, MayEnter, Moves, Takes, course_of, sink_of};
 ghost use Rattle.lfs_live.specs.Settling.{IsSyncRefused, is_done};
 ghost use Rattle.lfs_live.specs.Steps.{HasTidied};
 ghost use Rattle.lfs_live.specs.Talking.{first_speaker, is_due};
@@ -24,6 +24,7 @@ use lfs_script::plan::{Act, Step};
 use lfs_settle::entries::CLEANER;
 use lfs_sinks::refusals::Refusals;
 use lfs_sinks::sink::{JournalSink, SinkFault};
+use lfs_sinks::spare::SpareRoom;
 use lfs_sinks::totals::Tally;
 use lfs_types::answer::{Answer, Served};
 use lfs_types::cleaned::CleanedStore;
@@ -56,14 +57,13 @@ pub struct Tended<F: FileStore + Drop, J: Drop, V: Drop> {
     is_open: bool,
     /// Whether the cleaner makes a pass unasked where few segments are clean.
     cleans: bool,
-    /// Room for a journal, without entries.
-    spare: Vec<Entry>,
+    /// Room for a journal.
+    spare: SpareRoom,
     /// The program that tells why the sink takes no more.
     program: Teller,
 }
 
 impl<F: FileStore + Drop, J: Drop, V: Drop> Model for Tended<F, J, V> {
-    ghost use Rattle.std.specs.Prelude.{◌≡◌, []};
     ghost use Rattle.lfs_live.specs.Held.{Held};
 
     ghost Value = { Held F J };
@@ -75,8 +75,6 @@ impl<F: FileStore + Drop, J: Drop, V: Drop> Model for Tended<F, J, V> {
       is_open = v.is_open;
       cleans = v.cleans;
     } };
-
-    ghost invariant = { λ v. v.spare.items ≡ [] };
 }
 
 impl<F: FileStore + Drop, J: JournalSink + Drop, V: Drop> Tended<F, J, V> {
@@ -109,7 +107,7 @@ impl<F: FileStore + Drop, J: JournalSink + Drop, V: Drop> Tended<F, J, V> {
             tally: Tally::none(),
             is_open,
             cleans,
-            spare: Vec::new(alloc),
+            spare: SpareRoom::none(alloc),
             program,
         }
     }
@@ -202,14 +200,14 @@ impl<F: FileStore + Drop, J: JournalSink + Drop, V: Drop> Tended<F, J, V> {
           is_open = self.old.is_open;
           cleans = self.old.cleans;
         }) }
-        ensures legal { OnOk result (IsHandedOut F.state self.old.volume self.new.volume) }
+        ensures legal { OnOk result (LeadsOn F.state self.old.volume self.new.volume) }
         ensures failed { OnErr result (self.new ≡ self.old) }
     {
         let Some(totals) = self.tally.totals.with(self.volume.counts()) else {
             return Err(SinkFault::Numbers);
         };
-        let room = room_of(&mut self.spare, self.volume.journal_limit())?;
-        self.spare = emptied(self.volume.drain(room));
+        let room = self.spare.take(self.volume.journal_limit())?;
+        self.spare.keep(self.volume.drain(room));
         self.tally.totals = totals;
         Ok(())
     }
@@ -223,8 +221,10 @@ impl<F: CleanedStore + Drop, J: JournalSink + Drop, V: Drop> Tended<F, J, V> {
     /// Memory ran out; some of its calls may have been made.
     pub(crate) fn tidy<D: Write>(&mut self, alloc: Global, teller: &mut D) -> Result<(), AllocError>
         ensures tidied { OnOk result ((more : List Entry) × HasTidied
-            (cleaner_of F.state F.is_settled F.made F.cleaner) (sink_of J.contents J.next) self.old self.new more) }
-        ensures silent { OnOk result (self.new.is_open ≡ self.old.is_open → teller.new ≡ teller.old) }
+            (cleaner_of F.state F.is_settled F.made F.cleaner) (sink_of J.contents J.next)
+            self.old self.new more) }
+        ensures silent { OnOk result (self.new.is_open ≡ self.old.is_open
+            → teller.new ≡ teller.old) }
     {
         if self.is_due() {
             self.pass(alloc, teller)
@@ -242,12 +242,13 @@ impl<F: CleanedStore + Drop, J: JournalSink + Drop, V: Drop> Tended<F, J, V> {
 
     /// Makes a pass of the cleaner, whose answers are not told and not counted, and moves on.
     fn pass<D: Write>(&mut self, alloc: Global, teller: &mut D) -> Result<(), AllocError>
-        ensures passed { OnOk result ((more : List Entry) × (passed : Seen F) × (untold : List ℕ) × TellsLine
-            (cleaner_of F.state F.is_settled F.made F.cleaner)
+        ensures passed { OnOk result ((more : List Entry) × (passed : Seen F) × (untold : List ℕ)
+            × TellsLine (cleaner_of F.state F.is_settled F.made F.cleaner)
             self.old.volume passed 255 first_speaker.cred Pass [] untold
             × Moves F.state (sink_of J.contents J.next) (length self.old.volume.journal)
             (record self.old { volume = passed }) self.new more) }
-        ensures silent { OnOk result (self.new.is_open ≡ self.old.is_open → teller.new ≡ teller.old) }
+        ensures silent { OnOk result (self.new.is_open ≡ self.old.is_open
+            → teller.new ≡ teller.old) }
     {
         let before = self.volume.journal().len();
         let step = Step {
@@ -306,13 +307,14 @@ impl<F: FileStore + Drop, J: JournalSink + Drop, V: Drop> Tended<F, J, V> {
 
     /// Lets the entries of the journal go, whose room is the spare one. The volume goes on from the present tree.
     fn let_go(&mut self) -> Result<(), AllocError>
-        ensures gone { OnOk result (self.new ≡ record self.old { volume = drained self.old.volume }) }
+        ensures gone { OnOk result (self.new
+            ≡ record self.old { volume = drained self.old.volume }) }
         ensures begins { OnOk result (AtPresent F.state self.old.volume
             (Begins (F.state self.new.volume.since) self.new.volume.since_level)) }
         ensures failed { OnErr result (self.new ≡ self.old) }
     {
-        let room = room_of(&mut self.spare, self.volume.journal_limit())?;
-        self.spare = emptied(self.volume.drain(room));
+        let room = self.spare.take(self.volume.journal_limit())?;
+        self.spare.keep(self.volume.drain(room));
         Ok(())
     }
 
@@ -367,26 +369,4 @@ fn behind(entries: &[Entry], before: usize) -> &[Entry]
     ensures { result.now ≡ drop before entries.now }
 {
     &entries[before.min(entries.len())..]
-}
-
-/// Entries that are done with: their room.
-fn emptied(mut entries: Vec<Entry>) -> Vec<Entry>
-    ensures { result.items ≡ [] }
-{
-    entries.clear();
-    entries
-}
-
-/// Room for so many entries: the spare room, where it is enough.
-fn room_of(spare: &mut Vec<Entry>, limit: u32) -> Result<Vec<Entry>, AllocError>
-    requires { spare.old.items ≡ [] }
-    ensures room { IfOk result (λ room. (room.items ≡ []) × (limit ≤ vec_capacity room)) }
-    ensures spare { spare.new.items ≡ [] }
-{
-    let alloc = *spare.allocator();
-    let room = std::mem::replace(spare, Vec::new(alloc));
-    if room.capacity() >= limit as usize {
-        return Ok(room);
-    }
-    Vec::with_capacity(alloc, limit as usize)
 }

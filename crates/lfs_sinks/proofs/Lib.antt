@@ -1,3 +1,4 @@
+pub mod LegalLemmas
 pub mod NumberedLemmas
 pub mod RefusalLemmas
 mod SinkLemmas

@@ -3,4 +3,5 @@
 
 pub mod refusals;
 pub mod sink;
+pub mod spare;
 pub mod totals;

@@ -28,9 +28,9 @@ returns-in_ok-text-in-Looks-clause-told g c =
     let line = c.args.line in
     let speaker = c.args.speaker.now in
     let tally = c.args.tally.now in
-    subst (λ (told : List ℕ). HasAnswered r line.number c.args.volume.now c.look_at-text.new.volume tally tally
+    subst (λ (told : List ℕ). HasAnswered r line.number c.args.volume.now c.tell_look-text.new.volume tally tally
     speaker speaker (heard_of line.bytes.now) told) (sym (ap (λ t. t.text.items) c.faultless-in-Looks.ensures))
-    (look_answered r line.number c.args.volume.now c.look_at-text.new.volume tally speaker line.bytes.now
+    (look_answered r line.number c.args.volume.now c.tell_look-text.new.volume tally speaker line.bytes.now
     c.in-Looks.look c.in-Looks.path _ (search rules) c.in_ok-text-in-Looks.ensures)
 
 pub returns-in-Some-clause-told : goal.returns-in-Some-clause-told

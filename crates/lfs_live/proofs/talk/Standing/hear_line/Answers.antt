@@ -10,7 +10,7 @@ use Rattle.lfs_live.specs.Hearing.{heard_of}
 use Rattle.lfs_live.specs.Held.{Held, Moves, sink_of}
 use Rattle.lfs_live.specs.Steps.{HasAnswered, HasTidied}
 use Rattle.lfs_live.specs.Talkers.{talker_of}
-use Rattle.lfs_live.specs.declared.telling.Speaker.{Speaker}
+use Rattle.lfs_audit.specs.declared.asker.Asker.{Asker}
 use Rattle.lfs_live.specs.declared.telling.Told.{Told}
 use Rattle.lfs_live.proofs.talk.Standing.hear_line.Goals as goal
 
@@ -35,7 +35,7 @@ returns-in_ok-tidy-in-Some-clause-told g c = λ _.
       middle = c.answer.new.volume;
       tally = c.answer.new.tally;
       told = text;
-      answered = subst (λ (p : Speaker). HasAnswered r was.number c.args.tended.now.volume c.answer.new.volume
+      answered = subst (λ (p : Asker). HasAnswered r was.number c.args.tended.now.volume c.answer.new.volume
           c.args.tended.now.tally c.answer.new.tally was.speaker p says text) (sym (ap (λ s. s.speaker) noted))
           (subst (λ (h : Held g.row.F.Denot g.row.J.Denot). HasAnswered r was.number h.volume c.answer.new.volume
           h.tally c.answer.new.tally was.speaker c.answer.new.speaker says text) first said);

@@ -3,7 +3,7 @@ use Rattle.lfs_volume.specs.Cleanings.{cleaner_of}
 use Rattle.lfs_volume.proofs.CallLemmas.{call_made}
 use Rattle.lfs_audit.specs.Runs.{call_step}
 use Rattle.lfs_audit.proofs.RunLemmas.{runs_one}
-use Rattle.lfs_browse.proofs.asker.ask.Goals as goal
+use Rattle.lfs_browse.proofs.asking.ask.Goals as goal
 
 pub returns : goal.returns
 returns g c =
