@@ -1,11 +1,16 @@
 -- Why a run is not handed out.
-use Rattle.std.specs.Prelude.{◌≡◌, ℕ, ◌<◌, ◌≤◌, ◌⊎◌}
+use Rattle.std.specs.Prelude.{◌≡◌, ℕ, ◌<◌, ◌≤◌, ◌⊎◌, false, [], ◌∷◌}
+use Rattle.lfs_types.specs.Caller.{Caller}
 use Rattle.lfs_types.specs.declared.fault.FormatFault.{FormatFault}
 use Rattle.lfs_types.specs.declared.fault.FormatFault.TheVariants.{TooFew, TooMany}
 use Rattle.lfs_types.specs.declared.fault.FormatFault.TheVariants as formats
 use Rattle.lfs_staging.specs.Opening.{IsTooFew, IsTooMany}
 use Rattle.lfs_server.specs.declared.serving.ServeFault.{ServeFault}
 use Rattle.lfs_server.specs.declared.serving.ServeFault.TheVariants.{Sessions, Format, Memory, Unsettled}
+
+-- as whom the cleaner calls: user 0 with group 0 alone, and not init
+abbrev pub superuser : Caller
+superuser = record { uid = 0; groups = 0 ∷ []; init = false }
 
 -- the fault of a run that was begun
 abbrev pub IsRunFault : ServeFault → Type 0

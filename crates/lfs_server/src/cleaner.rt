@@ -5,10 +5,8 @@ use crate::gate::{Gate, Turns};
 use crate::kept::{Kept, Sizes};
 use crate::run::Run;
 use lfs_cleaner::pass::Pass;
-use lfs_cleaner::wanting::superuser;
 use lfs_settle::entries::CLEANER;
 use lfs_types::cleaned::CleanedStore;
-use lfs_types::cred::Cred;
 use std::sync::{Mutex, Wait};
 
 /// Makes a pass for each ring, until all buttons of the doorbell are gone and the rings left are served.
@@ -17,13 +15,12 @@ pub fn run_cleaner<S: Sizes, R: Wait, F: CleanedStore + Drop, G: Gate>(
     volume: &Mutex<Kept<S, F>>,
     rings: &Rings,
 ) {
-    let cred = superuser();
     let mut turns = Turns::new(CLEANER);
     for _ in run.rt.forever() {
         if !rings.wait(run.rt) {
             break;
         }
-        run_pass(run, volume, &cred, &mut turns);
+        run_pass(run, volume, &mut turns);
     }
 }
 
@@ -31,13 +28,12 @@ pub fn run_cleaner<S: Sizes, R: Wait, F: CleanedStore + Drop, G: Gate>(
 fn run_pass<S: Sizes, R: Wait, F: CleanedStore + Drop, G: Gate>(
     run: &Run<'_, R, G>,
     volume: &Mutex<Kept<S, F>>,
-    cred: &Cred,
     turns: &mut Turns,
 ) {
     let mut pass = Pass::new();
     let mut last = None;
     while let Some(call) = pass.next(last.as_ref()) {
-        let answer = turns.pass(run.gate, || volume.lock(run.rt).clean(cred, call));
+        let answer = turns.pass(run.gate, || volume.lock(run.rt).clean(call));
         last = Some(answer);
     }
 }

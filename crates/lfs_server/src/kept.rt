@@ -5,10 +5,11 @@ ghost use Rattle.lfs_model.specs.Runs.{kept_cleaning, kept_entry};
 ghost use Rattle.lfs_calls.specs.Outcomes.{IsOutcome};
 ghost use Rattle.lfs_volume.specs.Cleanings.{IsCleanerAnswer, cleaner_of};
 ghost use Rattle.lfs_volume.specs.Journals.{AtPresent};
+ghost use Rattle.lfs_server.specs.Serving.{superuser};
 ghost use Rattle.lfs_server.specs.Telling.{HasRoom, IsTold};
 
 use crate::telling::keep;
-use lfs_cleaner::wanting::is_wanted;
+use lfs_cleaner::wanting::{is_wanted, superuser};
 use lfs_model::journal::CleanerAnswer;
 use lfs_settle::entries::CLEANER;
 use lfs_settle::transcripts::Transcript;
@@ -137,16 +138,16 @@ impl<S: Sizes, F: FileStore + Drop> Kept<S, F> {
 }
 
 impl<S: Sizes, F: CleanedStore + Drop> Kept<S, F> {
-    /// Makes a call of the cleaner, in its session.
-    pub fn clean(&mut self, cred: &Cred, call: CleanerCall) -> CleanerAnswer
+    /// Makes a call of the cleaner, in its session and as user 0 with group 0 alone.
+    pub fn clean(&mut self, call: CleanerCall) -> CleanerAnswer
         ensures full { (result ≡ CleanerAnswer.Refused Resource.JournalFull)
             ↔ (length self.old.journal ≡ self.old.limit) }
         ensures answered { length self.old.journal < self.old.limit → IsCleanerAnswer
             (cleaner_of F.state F.is_settled F.made F.cleaner)
-            self.old.store cred.now call result self.new.store }
+            self.old.store superuser call result self.new.store }
         ensures entered { self.new.journal ≡ self.old.journal
-            ++ kept_cleaning 255 cred.now call result }
+            ++ kept_cleaning 255 superuser call result }
     {
-        self.volume.clean(CLEANER, cred, call)
+        self.volume.clean(CLEANER, &superuser(), call)
     }
 }
