@@ -64,7 +64,8 @@ impl Frames {
 
     /// As many frames as `count` says, all in EMPTY, the frame 0 oldest.
     pub fn new(alloc: Global, count: u32) -> Result<Frames, AllocError>
-        ensures lists { IfOk result (λ s. (s.locked ≡ []) × (s.lru ≡ []) × (s.age ≡ []) × (s.empty ≡ descending count)) }
+        ensures lists { IfOk result (λ s. (s.locked ≡ []) × (s.lru ≡ []) × (s.age ≡ [])
+            × (s.empty ≡ descending count)) }
         ensures count { IfOk result (λ s. frame_count s ≡ count) }
         ensures whole { IfOk result IsWhole }
     {

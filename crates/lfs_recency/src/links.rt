@@ -47,9 +47,12 @@ pub(crate) fn lone_frames(alloc: Global, count: u32) -> Result<Vec<Frame>, Alloc
 /// Takes a frame out of its ring: its two neighbours are linked to one another.
 pub(crate) fn unlink(frames: &mut Vec<Frame>, number: usize)
     requires in_range { number < vec_len frames.old }
-    requires next { IsItemPlace frame_size (vec_ptr frames.old) (vec_len frames.old) (next_at frames.old.items number) }
-    requires prev { IsItemPlace frame_size (vec_ptr frames.old) (vec_len frames.old) (prev_at frames.old.items number) }
-    ensures items { frames.new.items ≡ unlinked frame_size (vec_ptr frames.old) number frames.old.items }
+    requires next { IsItemPlace frame_size (vec_ptr frames.old) (vec_len frames.old)
+        (next_at frames.old.items number) }
+    requires prev { IsItemPlace frame_size (vec_ptr frames.old) (vec_len frames.old)
+        (prev_at frames.old.items number) }
+    ensures items { frames.new.items
+        ≡ unlinked frame_size (vec_ptr frames.old) number frames.old.items }
     ensures place { vec_ptr frames.new ≡ vec_ptr frames.old }
     ensures len { vec_len frames.new ≡ vec_len frames.old }
 {
@@ -65,8 +68,10 @@ pub(crate) fn link_front(frames: &mut Vec<Frame>, head: usize, number: usize, qu
     requires fits { vec_len frames.old * frame_size < 2 ^ 63 }
     requires head { head < vec_len frames.old }
     requires in_range { number < vec_len frames.old }
-    requires next { IsItemPlace frame_size (vec_ptr frames.old) (vec_len frames.old) (next_at frames.old.items head) }
-    ensures items { frames.new.items ≡ linked_after frame_size (vec_ptr frames.old) head number queue frames.old.items }
+    requires next { IsItemPlace frame_size (vec_ptr frames.old) (vec_len frames.old)
+        (next_at frames.old.items head) }
+    ensures items { frames.new.items
+        ≡ linked_after frame_size (vec_ptr frames.old) head number queue frames.old.items }
     ensures place { vec_ptr frames.new ≡ vec_ptr frames.old }
     ensures len { vec_len frames.new ≡ vec_len frames.old }
 {
@@ -85,7 +90,8 @@ pub(crate) fn link_front(frames: &mut Vec<Frame>, head: usize, number: usize, qu
 /// The frame before another one in its ring.
 pub(crate) fn frame_before<'a>(frames: &'a Vec<Frame>, frame: &'a Frame) -> &'a Frame
     requires { IsItemPlace frame_size (vec_ptr frames.now) (vec_len frames.now) frame.now.prev }
-    ensures { result.now ≡ frame_at frames.now.items (item_number frame_size (vec_ptr frames.now) frame.now.prev) }
+    ensures { result.now ≡ frame_at frames.now.items
+        (item_number frame_size (vec_ptr frames.now) frame.now.prev) }
 {
     unsafe { &*frame.prev }
 }
@@ -93,8 +99,10 @@ pub(crate) fn frame_before<'a>(frames: &'a Vec<Frame>, frame: &'a Frame) -> &'a 
 /// The item at `place`, to be written.
 pub(crate) fn item_at_mut<T, A: Allocator>(items: &mut Vec<T, A>, place: *mut T) -> &mut T
     requires { IsItemPlace (type_size T.row) (vec_ptr items.old) (vec_len items.old) place }
-    ensures* writes_back { sem 𝓛 (vec_follows_item T.row A.row A.Allocator items.entry (item_number (type_size T.row) (vec_ptr items.old) place) result) }
-    ensures value { result.now ≡ slice_index_or items.old.items (item_number (type_size T.row) (vec_ptr items.old) place) result.now }
+    ensures* writes_back { sem 𝓛 (vec_follows_item T.row A.row A.Allocator items.entry
+        (item_number (type_size T.row) (vec_ptr items.old) place) result) }
+    ensures value { result.now ≡ slice_index_or items.old.items
+        (item_number (type_size T.row) (vec_ptr items.old) place) result.now }
     ensures in_block { InBlock (vec_ptr items.old) }
 {
     unsafe { &mut *place }

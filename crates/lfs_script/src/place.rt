@@ -111,7 +111,8 @@ fn push_words_place(
     column: u64,
     words: &[&str],
 ) -> Result<(), AllocError>
-    ensures { OnOk result (out.new.items ≡ out.old.items ++ words_place column (map (λ x. x.now) words.now)) }
+    ensures { OnOk result (out.new.items
+        ≡ out.old.items ++ words_place column (map (λ x. x.now) words.now)) }
 {
     if has_bare_word(words) {
         push_bare_place(out, column, words)
@@ -122,7 +123,8 @@ fn push_words_place(
 
 /// Appends where the first word stands that has no bytes.
 fn push_bare_place(out: &mut Vec<u8>, column: u64, words: &[&str]) -> Result<(), AllocError>
-    ensures { OnOk result (out.new.items ≡ out.old.items ++ bare_place column (map (λ x. x.now) words.now)) }
+    ensures { OnOk result (out.new.items
+        ≡ out.old.items ++ bare_place column (map (λ x. x.now) words.now)) }
 {
     let mut at = column;
     for word in words {
@@ -146,7 +148,8 @@ fn push_verb_place(
     column: u64,
     words: &[&str],
 ) -> Result<(), AllocError>
-    ensures { OnOk result (out.new.items ≡ out.old.items ++ verb_place column (map (λ x. x.now) words.now)) }
+    ensures { OnOk result (out.new.items
+        ≡ out.old.items ++ verb_place column (map (λ x. x.now) words.now)) }
 {
     let [first, rest @ ..] = words else {
         return Ok(());
@@ -203,7 +206,8 @@ fn push_caller_place(
     column: u64,
     words: &[&str],
 ) -> Result<(), AllocError>
-    ensures { OnOk result (out.new.items ≡ out.old.items ++ caller_place column (map (λ x. x.now) words.now)) }
+    ensures { OnOk result (out.new.items
+        ≡ out.old.items ++ caller_place column (map (λ x. x.now) words.now)) }
 {
     if caller(words).is_ok() {
         return Ok(());
@@ -242,7 +246,8 @@ fn push_word_text(
     word: &str,
     expected: &str,
 ) -> Result<(), AllocError>
-    ensures { OnOk result (out.new.items ≡ out.old.items ++ word_text column word.now expected.now) }
+    ensures { OnOk result (out.new.items
+        ≡ out.old.items ++ word_text column word.now expected.now) }
 {
     out.extend_from_slice(b" '")?;
     push_shown(out, word.as_bytes())?;

@@ -84,7 +84,8 @@ pub(crate) fn write_words<'a>(
     words: &[&'a str],
 ) -> Result<(&'a str, Option<&'a str>, &'a str), FaultKind>
     ensures { MatchResult result
-        (λ three. write_words (map (λ x. x.now) words.now) ≡ Ok (three.0.now, option_copied three.1, three.2.now))
+        (λ three. write_words (map (λ x. x.now) words.now)
+        ≡ Ok (three.0.now, option_copied three.1, three.2.now))
         (λ kind. write_words (map (λ x. x.now) words.now) ≡ Err kind) }
 {
     match words {

@@ -42,7 +42,8 @@ fn take_line<'a>(alloc: Global, text: &'a [u8], draft: &mut Draft) -> Result<&'a
     requires { 0 < length text.now }
     ensures shorter { IfOk result (λ rest. length rest.now < length text.now) }
     ensures taken { MatchResult result
-        (λ rest. (line : ℕ) → plan_from line draft.old (lines_of text.now) ≡ plan_from (line + 1) draft.new (lines_of rest.now))
+        (λ rest. (line : ℕ) → plan_from line draft.old (lines_of text.now)
+        ≡ plan_from (line + 1) draft.new (lines_of rest.now))
         (λ kind. kind ≢ Memory → (line : ℕ) →
         plan_from line draft.old (lines_of text.now) ≡ Err (record { line = line; kind = kind })) }
     ensures lines { MatchResult result

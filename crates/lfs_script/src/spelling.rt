@@ -84,7 +84,8 @@ fn push_operands(out: &mut Vec<u8>, request: &Request) -> Result<(), AllocError>
 
 /// Appends the path, the offset and the length of a Read.
 fn push_read(out: &mut Vec<u8>, path: &Path, off: u64, len: u32) -> Result<(), AllocError>
-    ensures spelled { OnOk result (out.new.items ≡ out.old.items ++ spaced (operands (asks.Read path.now off len))) }
+    ensures spelled { OnOk result (out.new.items
+        ≡ out.old.items ++ spaced (operands (asks.Read path.now off len))) }
     ensures back { OnOk result (can_say (asks.Read path.now off len) ≡ true
         → IsSaid (asks.Read path.now off len)) }
 {
@@ -100,7 +101,8 @@ fn push_write(
     place: Place,
     bytes: &Payload,
 ) -> Result<(), AllocError>
-    ensures spelled { OnOk result (out.new.items ≡ out.old.items ++ spaced (operands (asks.Write path.now place bytes.now))) }
+    ensures spelled { OnOk result (out.new.items
+        ≡ out.old.items ++ spaced (operands (asks.Write path.now place bytes.now))) }
     ensures back { OnOk result (can_say (asks.Write path.now place bytes.now) ≡ true
         → IsSaid (asks.Write path.now place bytes.now)) }
 {
@@ -120,7 +122,8 @@ fn push_write(
 
 /// Appends the path and the length of a SetLength.
 fn push_set_length(out: &mut Vec<u8>, path: &Path, len: u64) -> Result<(), AllocError>
-    ensures spelled { OnOk result (out.new.items ≡ out.old.items ++ spaced (operands (asks.SetLength path.now len))) }
+    ensures spelled { OnOk result (out.new.items
+        ≡ out.old.items ++ spaced (operands (asks.SetLength path.now len))) }
     ensures back { OnOk result (can_say (asks.SetLength path.now len) ≡ true
         → IsSaid (asks.SetLength path.now len)) }
 {
@@ -142,7 +145,8 @@ fn push_path_and_mode(out: &mut Vec<u8>, path: &Path, mode: Mode) -> Result<(), 
 
 /// Appends both paths of a Rename.
 fn push_rename(out: &mut Vec<u8>, from: &Path, to: &Path) -> Result<(), AllocError>
-    ensures spelled { OnOk result (out.new.items ≡ out.old.items ++ spaced (operands (asks.Rename from.now to.now))) }
+    ensures spelled { OnOk result (out.new.items
+        ≡ out.old.items ++ spaced (operands (asks.Rename from.now to.now))) }
     ensures back { OnOk result (can_say (asks.Rename from.now to.now) ≡ true
         → IsSaid (asks.Rename from.now to.now)) }
 {
@@ -152,7 +156,8 @@ fn push_rename(out: &mut Vec<u8>, from: &Path, to: &Path) -> Result<(), AllocErr
 
 /// Appends the path, the user and the group of a Chown.
 fn push_chown(out: &mut Vec<u8>, path: &Path, uid: u32, gid: u32) -> Result<(), AllocError>
-    ensures spelled { OnOk result (out.new.items ≡ out.old.items ++ spaced (operands (asks.Chown path.now uid gid))) }
+    ensures spelled { OnOk result (out.new.items
+        ≡ out.old.items ++ spaced (operands (asks.Chown path.now uid gid))) }
     ensures back { OnOk result (can_say (asks.Chown path.now uid gid) ≡ true
         → IsSaid (asks.Chown path.now uid gid)) }
 {
@@ -163,7 +168,8 @@ fn push_chown(out: &mut Vec<u8>, path: &Path, uid: u32, gid: u32) -> Result<(), 
 
 /// Appends the path and the flags of a Chflags.
 fn push_chflags(out: &mut Vec<u8>, path: &Path, flags: FileFlags) -> Result<(), AllocError>
-    ensures spelled { OnOk result (out.new.items ≡ out.old.items ++ spaced (operands (asks.Chflags path.now flags))) }
+    ensures spelled { OnOk result (out.new.items
+        ≡ out.old.items ++ spaced (operands (asks.Chflags path.now flags))) }
     ensures back { OnOk result (can_say (asks.Chflags path.now flags) ≡ true
         → IsSaid (asks.Chflags path.now flags)) }
 {
