@@ -1,6 +1,7 @@
 pub mod Ends
 pub mod Filing
 pub mod Fronts
+pub mod Inboxes
 pub mod Images
 pub mod Ranges
 pub mod Serving

@@ -198,10 +198,10 @@ pub fn talk<M: Answerer, R: Read, W: Write, D: Write>(
         };
         match reading {
             Reading::Bytes => {
-                let pending = inbox.pending.as_slice();
+                let pending = inbox.unanswered();
                 let answered = answer_all(alloc, answerer, pending, writer, teller)?;
-                inbox.pending = answered.behind;
                 is_whole = is_whole & answered.is_whole;
+                inbox.keep(answered.behind);
             }
             Reading::End => {
                 return Ok(Talked {

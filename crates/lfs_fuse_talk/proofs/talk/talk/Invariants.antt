@@ -1,4 +1,5 @@
-use Rattle.std.proofs.Common.{◌≡◌, true, length}
+use Rattle.std.proofs.Common.{◌≡◌, true}
+use Rattle.lfs_fuse_talk.specs.Inboxes.{IsInbox}
 use Rattle.lfs_fuse_talk.specs.Talking.{answering_of}
 use Rattle.lfs_fuse_talk.proofs.TalkLemmas.{TalkedSoFar}
 use Rattle.lfs_fuse_talk.proofs.talk.talk.Given as goal
@@ -10,5 +11,6 @@ invariant-loop g l = record {
       (g.W.Write.contents l.fn.writer) (g.W.Write.contents l.writer);
   silent : g.M.Answerer.is_well l.answerer ≡ true
       → (g.M.Answerer.is_well l.fn.answerer ≡ true) × (l.teller ≡ l.fn.teller);
-  room : length l.inbox.buffer.items ≡ 139264;
+  formed : IsInbox l.inbox;
+  old : l.inbox.fresh ≡ 0;
 }
