@@ -9,7 +9,7 @@ LAYERS = {
     "calls, volume and sessions": "calls known flatfiles volume trace settle cleaner server rounds",
     "the log": "segments ifile inodes bmap log recency cache staging segwrite logstore fsck image recovery trees view",
     "a mount": "fuse_wire fuse_reply nodes fuse_calls stamps mount fuse_talk",
-    "texts and programs": "words print script journal_lines io sinks audit browse live terminal film programs command auditing checking",
+    "texts and programs": "words print script journal_lines io sinks audit browse live terminal film programs command auditing checking shell lfsd",
 }
 
 
@@ -32,7 +32,7 @@ def main():
     print(f"wrong bodies: {sum(edits.values())}")
     named = set()
     for layer, names in LAYERS.items():
-        own = [f"lfs_{name}" for name in names.split() if f"lfs_{name}" in edits]
+        own = [crate for name in names.split() for crate in (name, f"lfs_{name}") if crate in edits]
         named.update(own)
         print(f"  {layer}: {sum(edits[crate] for crate in own)}")
     rest = sum(number for crate, number in edits.items() if crate not in named)

@@ -1,9 +1,11 @@
 //! What no clause says of a live server: that its sessions come and go, that they run beside each other and are answered as
-//! they must be, and that the cleaner is called.
+//! they must be, that the cleaner is called, and that the cache has the frames that were asked for.
 
 mod bell;
+mod frames;
 mod live;
 mod meeting;
+mod rings;
 mod rounds;
 mod watch;
 

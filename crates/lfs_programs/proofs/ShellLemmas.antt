@@ -1,15 +1,16 @@
 -- How `lfs_shell` ends, by how its talk did.
 use Rattle.std.proofs.Common.{◌≡◌, ℕ, Bool, true, false, List, Option, Result, Ok, Err, IfErr, IfOk, IsSome, inl}
-use Rattle.std.proofs.Common.{is_some, refl, sym}
+use Rattle.std.proofs.Common.{IfSome, None, Some, is_some, refl, sym}
 use Rattle.std.proofs.Common.{ap, subst, ◌∙◌, arith}
 use Rattle.std.specs.Prelude.{MatchResult}
 use Rattle.lfs_audit.specs.declared.fault.RunFault.{RunFault}
 use Rattle.lfs_audit.specs.declared.fault.RunFault.TheVariants.{Read}
 use Rattle.lfs_audit.specs.declared.fault.RunFault.TheVariants as run
+use Rattle.lfs_film.specs.Films.{Reel}
 use Rattle.lfs_live.specs.Faults.{IsTalkFault}
 use Rattle.lfs_live.specs.Scripts.{IsLogFault}
 use Rattle.lfs_programs.specs.Talks.{EndsShell, EndsTalk, Finishes, HasBrokenOff, HasTalked, HasTalkedSoFar}
-use Rattle.lfs_programs.specs.Talks.{IsShellFault, whole_with}
+use Rattle.lfs_programs.specs.Talks.{IsFilmOf, IsFilmed, IsShellFault, whole_with}
 use Rattle.lfs_programs.specs.declared.fault.ShellFault.{ShellFault}
 use Rattle.lfs_programs.specs.declared.fault.ShellFault.TheVariants.{Film, Image, Journal, Line, Talk}
 use Rattle.lfs_programs.specs.declared.fault.ShellFault.TheVariants.{Unsaved}
@@ -105,6 +106,17 @@ whole contents options known start out ending has_fault kept saved faulty talked
     ∙ ap (λ (b : Bool). whole_with b) faulty in
     subst (λ (e : Ending). HasTalked contents options e known start out) is talked
 
+-- the film that watched a talk is some film
+some_film : {F : Type 0} (contents : F → Option (List ℕ)) (film : Option Reel) → IsFilmOf contents film
+    → IsFilmed contents
+some_film contents None page = absurd page
+some_film contents (Some reel) page = (reel, page)
+
+asked_film : {A F : Type 0} (contents : F → Option (List ℕ)) (path : Option A) (film : Option Reel)
+    → IfSome path (λ _. IsFilmOf contents film) → IfSome path (λ _. IsFilmed contents)
+asked_film contents None film page = tt
+asked_film contents (Some path) film page = some_film contents film page
+
 -- a talk, what it has besides, and the status that is told of it
 pub ends_talk : {R W D F : Type 0} (contents : F → Option (List ℕ)) (options : ShellOptions)
     (known start out : Option (List ℕ)) (status : ℕ) (in_before in_after : R) (out_before out_after : W)
@@ -134,7 +146,7 @@ ends_talk contents options known start out status in_before in_after out_before 
         finishes.3,
         untold ∙ silent finishes.0 finishes.1,
       );
-      filmed = λ _. finishes.2;
+      filmed = λ _. asked_film contents options.film heard.film finishes.2;
       failed = λ one. absurd (omega (arith, is, one));
       unmade = λ two. absurd (omega (arith, is, two));
     }

@@ -1,6 +1,6 @@
 -- How `lfs_shell` ends.
 use Rattle.std.specs.Prelude.{◌≡◌, ◌≤◌, ℕ, Bool, false, true, List, Option, Result, Ok, Err, IfErr, IfOk, IfSome}
-use Rattle.std.specs.Prelude.{IsSome, None, is_some, ◌⊎◌}
+use Rattle.std.specs.Prelude.{IsSome, None, Some, is_some, ◌⊎◌}
 use Rattle.std.specs.Io.KnownBytes.{Appends}
 use Rattle.clap.specs.Values.{kind_of}
 use Rattle.clap.specs.declared.error.Error.{Error}
@@ -89,6 +89,11 @@ pub record HasPage {F : Type 0} (contents : F → Option (List ℕ)) (reel : Ree
 abbrev pub IsFilmed : {F : Type 0} → (F → Option (List ℕ)) → Type 0
 IsFilmed contents = (reel : Reel) × HasPage contents reel
 
+-- a file got the page of the film that watched a talk
+abbrev pub IsFilmOf : {F : Type 0} → (F → Option (List ℕ)) → Option Reel → Type 0
+IsFilmOf contents None = ⊥
+IsFilmOf contents (Some reel) = HasPage contents reel
+
 -- a talk may end in this fault: that of the talk or of its beginning; one of a film, a journal or an image only where
 -- such a file is asked for; and one of a line only where that is asked for
 abbrev pub IsShellFault : ShellOptions → ShellFault → Type 0
@@ -99,14 +104,14 @@ IsShellFault options (Image fault) = IsSome options.image
 IsShellFault options Unsaved = IsSome options.image
 IsShellFault options Line = options.strict ≡ true
 
--- A talk's outcome, with what it has besides: the talk's fault; or its film's, which is written where it is done; or
+-- A talk's outcome, with what it has besides: the talk's fault; or its film's, whose page is written where it is done; or
 -- that the file of its journal has not each entry, or the volume is not kept; or that a line had a fault, where that is
 -- asked for.
 abbrev pub Finishes : {F : Type 0} → (F → Option (List ℕ)) → ShellOptions → Result Heard RunFault
     → Result (Unit {0}) ShellFault → Type 0
 Finishes contents options (Err fault) outcome = outcome ≡ Err (Talk fault)
 Finishes contents options (Ok heard) (Ok done) =
-    (heard.ending.is_kept ≡ true) × (heard.ending.is_saved ≡ true) × IfSome options.film (λ _. IsFilmed contents)
+    (heard.ending.is_kept ≡ true) × (heard.ending.is_saved ≡ true) × IfSome options.film (λ _. IsFilmOf contents heard.film)
     × (options.strict ≡ true → heard.ending.has_fault ≡ false)
 Finishes contents options (Ok heard) (Err (Talk fault)) = ⊥
 Finishes contents options (Ok heard) (Err (Image fault)) = ⊥

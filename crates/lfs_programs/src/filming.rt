@@ -5,7 +5,7 @@ ghost use Rattle.lfs_audit.specs.declared.fault.RunFault.TheVariants.{Read as Fa
 ghost use Rattle.lfs_live.specs.Faults.{IsTalkFault};
 ghost use Rattle.lfs_live.specs.Held.{HasBegun, sink_of};
 ghost use Rattle.lfs_live.specs.Talking.{HasKeptSoFar};
-ghost use Rattle.lfs_programs.specs.Talks.{Finishes, HasHeard, HasPage, HasTalked, HasTalkedSoFar, IsFilmed};
+ghost use Rattle.lfs_programs.specs.Talks.{Finishes, HasHeard, HasPage, HasTalked, HasTalkedSoFar, IsFilmOf};
 ghost use Rattle.lfs_programs.specs.Volumes.{IsBegun, shell_talker};
 
 use crate::fault::{FilmFault, ShellFault};
@@ -290,7 +290,7 @@ fn write_film<F: Files>(
     path: &str,
     film: Option<Film>,
 ) -> Result<(), FilmFault>
-    ensures { OnOk result (IsFilmed F.File.contents) }
+    ensures { OnOk result (IsFilmOf F.File.contents film) }
 {
     let Some(film) = film else {
         return Err(FilmFault::Unwritten);

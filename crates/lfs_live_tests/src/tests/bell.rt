@@ -13,7 +13,7 @@ use std::sync::Wait;
 use std::thread::Threads;
 
 /// The session of the cleaner.
-const CLEANER: u8 = 255;
+pub(super) const CLEANER: u8 = 255;
 
 /// How often a file of 4,096 bytes is written over before three of six segments are clean, as counted by hand.
 const ROUNDS: usize = 13;
@@ -45,12 +45,12 @@ impl<'a, R: Wait + Sync> Gate for Bell<'a, R> {
 }
 
 /// Appends a text.
-fn push(rt: &impl Abort, to: &mut String, text: &str) {
+pub(super) fn push(rt: &impl Abort, to: &mut String, text: &str) {
     to.push_str(text).expect(rt, "memory");
 }
 
 /// Appends a write of the whole file, and a sync.
-fn push_round(rt: &impl Abort, alloc: Global, to: &mut String) {
+pub(super) fn push_round(rt: &impl Abort, alloc: Global, to: &mut String) {
     let bytes = "5a".repeat(alloc, 4096).expect(rt, "memory");
     push(rt, to, "write /a at 0 ");
     push(rt, to, bytes.as_str());

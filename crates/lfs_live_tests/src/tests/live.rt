@@ -1,4 +1,4 @@
-//! Sessions of one client that come and go, and one that is not ended.
+//! Sessions of one client that come and go, a long one, and one that is not ended.
 
 use super::{SMALL, User, alone, answers, begin, calls, expect_lines, make_calls, serve_fresh};
 use lfs_logstore::LogStore;
@@ -117,4 +117,23 @@ fn assert_unsettled<R: Abort + Threads + Wait + Sync>(rt: &R, alloc: Global) {
 #[test]
 fn session_that_is_not_ended_is_unsettled(rt: HostRuntime) {
     assert_unsettled(&rt, rt.alloc());
+}
+
+/// How many calls a long session makes: the journal has room for each, and for the cleaner's.
+const MANY: usize = 4_000;
+
+/// Asserts that each of so many calls of a session is made and answered.
+fn serve_many<R: Abort + Threads + Wait + Sync>(rt: &R, alloc: Global) {
+    let script = "sync\n".repeat(alloc, MANY).expect(rt, "memory");
+    let wanted = "1 ok\n".repeat(alloc, MANY).expect(rt, "memory");
+    let calls = calls(rt, alloc, script.as_str());
+    let clients = alone(rt, alloc, User { calls });
+    let stopped = serve_fresh(rt, alloc, clients, &()).expect(rt, "a stop");
+    let found = answers(rt, alloc, stopped.transcripts.as_slice());
+    expect_lines(rt, found.as_slice(), wanted.as_str());
+}
+
+#[test]
+fn live_session_of_four_thousand_calls(rt: HostRuntime) {
+    serve_many(&rt, rt.alloc());
 }

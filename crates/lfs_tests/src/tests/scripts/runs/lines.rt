@@ -7,13 +7,13 @@ use lfs_audit::run::run_over;
 use lfs_volume::flat_files::FlatFiles;
 use lfs_volume::volume::Volume;
 
-/// The superuser's lines, and those of user 5.
+/// The superuser's lines, among them the least and the greatest info, and those of user 5.
 const SCRIPT: &[u8] = b"\
 session 3
 create /a 0644
 segclean 1
 infos 2
-bmapv 4:1:0:70
+bmapv 4:0:0:0 4294967295:4294967295:4294967295:4294967295
 markv 4:1:0:70
 ifile
 session 2
@@ -29,7 +29,7 @@ const PRINTED: &[u8] = b"\
 3 ok
 3 cleaner segclean fault NotDirty
 3 cleaner infos fault NotDirty
-3 cleaner bmapv ok 1
+3 cleaner bmapv ok 2
 3 cleaner markv ok 0
 3 cleaner ifile refused NoMemory
 2 cleaner ifile refused NoMemory

@@ -26,7 +26,7 @@ fn told(rt: &impl Abort, alloc: Global, mut lines: &[u8], params: Params) -> Vec
 }
 
 /// Lines, and the fault of each.
-const FAULTS: [(&str, FaultKind); 16] = [
+const FAULTS: [(&str, FaultKind); 25] = [
     ("list \u{1f}", FaultKind::Bytes),
     ("nonsense", FaultKind::Words),
     ("stat", FaultKind::Words),
@@ -36,11 +36,19 @@ const FAULTS: [(&str, FaultKind); 16] = [
     ),
     ("read /a x 1", FaultKind::Number),
     ("chmod /a 8", FaultKind::Number),
+    ("chflags /a g", FaultKind::Number),
+    ("level -", FaultKind::Number),
+    ("session x", FaultKind::Number),
+    ("as 5 5,,6", FaultKind::Number),
     ("bmapv 4:0:1", FaultKind::Number),
     ("infos 4294967296", FaultKind::Range),
     ("bmapv 4:0:4294967296:1", FaultKind::Range),
     ("level 3", FaultKind::Range),
     ("session 9", FaultKind::Range),
+    ("chmod /a 10000", FaultKind::Range),
+    ("chflags /a 8", FaultKind::Range),
+    ("as 4294967296 5", FaultKind::Range),
+    ("as 5 4294967296", FaultKind::Range),
     ("stat a", FaultKind::Path(BadPath::NotAbsolute)),
     ("stat //", FaultKind::Path(BadPath::Name(1, BadName::Empty))),
     (
@@ -49,6 +57,10 @@ const FAULTS: [(&str, FaultKind); 16] = [
     ),
     ("write /a end 6g", FaultKind::Hex),
     ("as 5 5 init", FaultKind::Cred(BadCred::InitNotRoot)),
+    (
+        "as 5 0,1,2,3,4,5,6,7,8,9,10,11,12,13,14,15,16",
+        FaultKind::Cred(BadCred::TooManyGroups),
+    ),
 ];
 
 /// Asserts that a line has this fault, in a script, in one whose sessions run on threads, and in a talk, which goes on.
@@ -81,13 +93,25 @@ fn faults_of_lines_are_those_of_scripts(rt: HostRuntime) {
     }
 }
 
-/// A name of 256 bytes.
+/// A verb, a text so many times behind it, and the fault: a name of 256 bytes, a path of 1,026, and 4,097 bytes to be written.
+const LONG_WORDS: [(&str, &str, usize, FaultKind); 3] = [
+    (
+        "stat /",
+        "n",
+        256,
+        FaultKind::Path(BadPath::Name(1, BadName::Long)),
+    ),
+    ("stat ", "/n", 513, FaultKind::Path(BadPath::Long)),
+    ("write /a end ", "6e", 4097, FaultKind::Range),
+];
+
 #[test]
-fn name_that_is_too_long_is_a_fault(rt: HostRuntime) {
-    let line = repeated(&rt, rt.alloc(), "n", 256);
-    let line = format!(in rt.alloc(); "stat /{line}").expect(&rt, "memory");
-    let kind = FaultKind::Path(BadPath::Name(1, BadName::Long));
-    expect_fault(&rt, rt.alloc(), line.as_str(), kind);
+fn word_that_is_too_long_is_a_fault(rt: HostRuntime) {
+    for (verb, text, times, kind) in LONG_WORDS {
+        let word = repeated(&rt, rt.alloc(), text, times);
+        let line = format!(in rt.alloc(); "{verb}{word}").expect(&rt, "memory");
+        expect_fault(&rt, rt.alloc(), line.as_str(), kind);
+    }
 }
 
 /// A comment of so many bytes, and a call behind it.
@@ -192,12 +216,12 @@ impl Write for Flushed<'_> {
     }
 }
 
-/// Lines of which each is told something, and what.
-const LINES: &[u8] = b"create /a 0644\nnonsense\n.journal\nsync\n";
+/// Lines of which each is told something, and what. The least info of a block is read as any other.
+const LINES: &[u8] = b"create /a 0644\nnonsense\n.journal\nbmapv 0:0:0:0\n";
 
 const TOLD: &[u8] =
-    b"0 ok\nfault Words line 2 'nonsense' at 1: no line begins so\n0 as 0 0 | create /a 0644 | ok\n0 ok\n\
-    entries 2\nserved 2\ndenied 0\nrefused 0\ncleaner 0\n";
+    b"0 ok\nfault Words line 2 'nonsense' at 1: no line begins so\n0 as 0 0 | create /a 0644 | ok\n\
+    0 cleaner bmapv ok 1\nentries 2\nserved 1\ndenied 0\nrefused 0\ncleaner 1\n";
 
 #[test]
 fn answer_is_flushed_before_the_next_line_is_read(rt: HostRuntime) {
