@@ -51,8 +51,7 @@ impl<F: CleanedStore + Drop> Mount<F> {
         if !is_dead(bytes, segment) {
             return false;
         }
-        let call = CleanerCall::Segclean(segment);
-        drop(self.tree.volume.clean(CLEANER, &superuser(), call));
+        let _ = self.tree.volume.reclaim(CLEANER, &superuser(), segment);
         true
     }
 
