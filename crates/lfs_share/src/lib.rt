@@ -6,6 +6,8 @@ mod restoring;
 mod store;
 mod taking;
 mod telling;
+#[cfg(test)]
+mod tests;
 
 pub use restoring::{ENOUGH, PastShare, restore};
 pub use store::SharedStore;
