@@ -20,9 +20,14 @@ use lfs_segments::segments::Segments;
 use lfs_types::level::Level;
 use std::alloc::Global;
 
-/// The store of the volume whose blocks a memory has, at any moment of a flush too, with a cache of so many frames, 32 to
-/// 1,024, all empty; else why there is none, or `Memory`. Nothing waits in the store, and it writes no serials. The securelevel is no part of the
-/// blocks: whoever recovers has to know it. Each block is read some few times, and an image is made of all of them.
+/// The store of the volume whose blocks a memory has, at any moment of a flush too, with a cache of so many frames, 32
+/// to 1,024, all empty. Nothing waits in the store, and it writes no serials. The securelevel is no part of the blocks:
+/// whoever recovers has to know it. Each block is read some few times, and an image is made of all of them.
+///
+/// # Errors
+///
+/// No log has a partial segment; what the blocks tell is no volume, or another one was made of them; or there is no
+/// memory.
 pub fn recover(
     alloc: Global,
     memory: &Segments,

@@ -25,7 +25,8 @@ fn units_of(store: &LogStore, ino: u32) -> u64
 
 /// What all files take at most, in units.
 pub(crate) fn taken(store: &LogStore) -> u64
-    ensures taken { result ≡ taken (state_of store.now).shape.numbers (state_of store.now).content }
+    ensures taken { result
+        ≡ taken (state_of store.now).shape.numbers (state_of store.now).content }
 {
     let numbers = store.parts().log.inodes();
     let mut units = 0;

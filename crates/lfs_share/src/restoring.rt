@@ -32,7 +32,8 @@ pub(crate) fn settle(store: &mut LogStore)
 pub fn restore(store: &mut LogStore) -> Result<(), PastShare>
     ensures restored { OnOk result (ENOUGH ≤ store.new.log.clean) }
     ensures past { OnErr result (LacksShare store.new) }
-    ensures always { IsWithinShare (state_of store.old) → KeepsOne store.old → OnErr result ⊥ }
+    ensures always { IsWithinShare (state_of store.old) → KeepsOne store.old
+        → OnErr result ⊥ }
     ensures settled { IsSettled store.new }
     ensures content { (state_of store.new).content ≡ (state_of store.old).content }
     ensures shape { (state_of store.new).shape ≡ (state_of store.old).shape }

@@ -46,10 +46,13 @@ impl Model for SharedStore {
 /// Whether the files may take so much more. Where that isn't sure, what they take is counted anew.
 fn may_grow(store: &LogStore, most: &mut u64, growth: u64) -> bool
     requires few { growth ≤ 280000 }
-    requires least { taken (state_of store.now).shape.numbers (state_of store.now).content ≤ most.old }
+    requires least { taken (state_of store.now).shape.numbers (state_of store.now).content
+        ≤ most.old }
     requires within { most.old ≤ share_of (state_of store.now).shape.segments }
-    ensures least { taken (state_of store.now).shape.numbers (state_of store.now).content ≤ most.new }
-    ensures may { IsTrue result → most.new + growth ≤ share_of (state_of store.now).shape.segments }
+    ensures least { taken (state_of store.now).shape.numbers (state_of store.now).content
+        ≤ most.new }
+    ensures may { IsTrue result
+        → most.new + growth ≤ share_of (state_of store.now).shape.segments }
     ensures within { most.new ≤ share_of (state_of store.now).shape.segments }
     ensures fits { IsTrue result → most.new + growth < 2 ^ 64 }
     ensures not { IsFalse result → share_of (state_of store.now).shape.segments
@@ -82,9 +85,11 @@ fn make_way(store: &mut LogStore)
 
 /// Makes changes, where three segments are clean.
 fn apply_behind(store: &mut LogStore, changes: &[Change<'_>], by: Reserve)
-    requires can { CanApply (state_of store.old).shape.numbers changes.now (state_of store.old).content }
+    requires can { CanApply (state_of store.old).shape.numbers changes.now
+        (state_of store.old).content }
     requires clean { ENOUGH ≤ store.old.log.clean }
-    ensures applied { (state_of store.new).content ≡ applied changes.now (state_of store.old).content }
+    ensures applied { (state_of store.new).content
+        ≡ applied changes.now (state_of store.old).content }
     ensures shape { (state_of store.new).shape ≡ (state_of store.old).shape }
     ensures kept { KeepsOne store.new }
 {
@@ -116,7 +121,8 @@ impl SharedStore {
     /// What files take is counted anew, over all numbers, where that isn't sure; and where fewer than three segments are
     /// clean, some are cleaned first.
     pub fn apply(&mut self, changes: &[Change<'_>], by: Reserve) -> Result<(), StoreRefusal>
-        requires { CanApply (state_of self.old).shape.numbers changes.now (state_of self.old).content }
+        requires { CanApply (state_of self.old).shape.numbers changes.now
+            (state_of self.old).content }
         ensures applied { OnOk result ((state_of self.new).content
             ≡ applied changes.now (state_of self.old).content) }
         // Never where they give back, or add nothing.
@@ -167,7 +173,8 @@ impl SharedStore {
     /// Reads a file's bytes from `off` on, as many as there are and the buffer takes, and says how many.
     pub fn read(&mut self, ino: u32, off: u64, into: &mut [u8]) -> usize
         requires { IsSome (get (state_of self.old).content ino) }
-        ensures reads { Reads (slice_of (bytes_of (state_of self.old).content ino) off (length into.old))
+        ensures reads { Reads
+            (slice_of (bytes_of (state_of self.old).content ino) off (length into.old))
             result into.old into.new }
         ensures still { SameButClean self.old self.new }
     {

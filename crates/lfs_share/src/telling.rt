@@ -24,11 +24,13 @@ pub enum Outcome {
 /// Makes changes that give back, or that are the superuser's and take flags away; where the store refuses them, it gains
 /// room. So a refusal is told only of a full store, and is the last word only where no segment is worth cleaning.
 pub fn apply_or_gain(store: &mut LogStore, changes: &[Change<'_>], by: Reserve) -> Outcome
-    requires can { CanApply (state_of store.old).shape.numbers changes.now (state_of store.old).content }
+    requires can { CanApply (state_of store.old).shape.numbers changes.now
+        (state_of store.old).content }
     requires may { may_use_reserve by (state_of store.old).content changes.now ≡ true }
     ensures made { result ≡ Outcome.Made → MakesChanges by changes.now store.old store.new }
     ensures refused { result ≢ Outcome.Made → IsFullFor by changes.now store.old }
-    ensures content { result ≢ Outcome.Made → (state_of store.new).content ≡ (state_of store.old).content }
+    ensures content { result ≢ Outcome.Made
+        → (state_of store.new).content ≡ (state_of store.old).content }
     ensures gained { result ≡ Outcome.Gained → GainsSpace store.old store.new }
     ensures full { result ≡ Outcome.Full → AllTakeTooMuch store.new }
 {
