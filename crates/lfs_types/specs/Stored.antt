@@ -1,11 +1,9 @@
 -- What a store shows of its content.
-use Rattle.std.specs.Prelude.{◌≡◌, ℕ, ◌<◌, ◌≤◌, Bool, true, List, [], ◌++◌, length, take, drop, Option, None, Some}
+use Rattle.std.specs.Prelude.{◌≡◌, ℕ, ◌<◌, ◌≤◌, List, [], ◌++◌, length, take, drop, Option, None, Some}
 use Rattle.std.specs.Prelude.{IsSome, option_map}
 use Rattle.std.specs.FinMap as map
 use Rattle.lfs_types.specs.Tree.{File, Content, attrs_of}
 use Rattle.lfs_types.specs.declared.attrs.Attrs.{Attrs}
-use Rattle.lfs_types.specs.declared.store.StoreRefusal.{StoreRefusal}
-use Rattle.lfs_types.specs.declared.store.StoreRefusal.TheVariants.{NoSpace, NoMemory}
 
 -- the attributes of a number, if it is in use
 abbrev pub shown_attrs : Content → ℕ → Option Attrs
@@ -36,8 +34,3 @@ IsUsedBelow c high = (ino : ℕ) → 4 ≤ ino → ino < high → IsSome (map.ge
 abbrev pub IsLeastFree : ℕ → Content → Option ℕ → Type 0
 IsLeastFree numbers c None = IsUsedBelow c numbers
 IsLeastFree numbers c (Some ino) = (4 ≤ ino) × (ino < numbers) × (map.get c ino ≡ None) × IsUsedBelow c ino
-
--- why a store may refuse: with at most two clean segments, or where it is one that can lack memory
-abbrev pub MayRefuse : ℕ → Bool → StoreRefusal → Type 0
-MayRefuse clean can_lack_memory NoSpace = clean ≤ 2
-MayRefuse clean can_lack_memory NoMemory = can_lack_memory ≡ true

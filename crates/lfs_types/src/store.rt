@@ -76,7 +76,7 @@ impl Reserve {
 /// Why a store did not make changes.
 #[derive(Clone, Copy, PartialEq, Eq, Debug, Error)]
 pub enum StoreRefusal {
-    /// There is no room. It comes only with at most two clean segments.
+    /// There is no room. It comes only with at most two clean segments, or past the share of a store that has one.
     #[error("no space")]
     NoSpace,
     /// A growth was refused.
