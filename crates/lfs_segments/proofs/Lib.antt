@@ -6,6 +6,7 @@ pub mod MemoryLemmas
 pub mod NamesLemmas
 pub mod PaddedLemmas
 pub mod ReadingLemmas
+pub mod RisingLemmas
 pub mod SerialLemmas
 pub mod SummaryLemmas
 pub mod TestLemmas

@@ -5,68 +5,72 @@
 -- summary, so they end the log (`expected-zeros`). Nothing here would hold of an `expected` that looks ahead, or that
 -- goes on behind a block that is no summary.
 use Rattle.std.proofs.Common.{◌≡◌, ℕ, zero, suc, ◌+◌, ◌-◌, ◌*◌, ◌/◌, ◌<◌, ◌≤◌, List, [], ◌∷◌, ◌++◌, Option, Some, None}
-use Rattle.std.proofs.Common.{option_and_then, length, drop, refl, sym, ap, ◌∙◌, arith, append_assoc, append-nil}
+use Rattle.std.proofs.Common.{Bool, option_and_then, length, drop, refl, sym, ap, ◌∙◌, arith}
+use Rattle.std.proofs.Common.{append_assoc, append-nil}
 use Rattle.std.specs.List.{slice_get}
 use Rattle.lfs_types.specs.Blocks.{zero_block}
 use Rattle.lfs_segments.specs.declared.entry.SummaryEntry.{SummaryEntry}
 use Rattle.lfs_segments.specs.Log.{Expects, after_block, entry_at, expected, expected_at, first_of, log_block}
 use Rattle.lfs_segments.specs.Log.{named_one, names_from}
-use Rattle.lfs_segments.specs.Memory.{IsLaidOut, SegmentMemory, block_at, next_address}
-use Rattle.lfs_segments.specs.Reading.{summary_entries}
+use Rattle.lfs_segments.specs.Memory.{IsLaidOut, SegmentMemory, block_at, has_serials, next_address}
+use Rattle.lfs_segments.specs.Serial.{entries_in}
 use Rattle.lfs_segments.proofs.MemoryLemmas.{log_start-le}
-use Rattle.lfs_segments.proofs.ReadingLemmas.{summary_entries-zero_block}
+use Rattle.lfs_segments.proofs.SerialLemmas.{entries_in-zero_block}
 
 -- the entry of the next block, if some are expected
 abbrev pub next_entry : Option (List SummaryEntry) → Option SummaryEntry
 next_entry expectation = option_and_then (λ entries. slice_get entries 0) expectation
 
 -- logs that agree on their first blocks expect the same behind them
-pub expected-same : (f g : ℕ → List ℕ) (n : ℕ) → ((k : ℕ) → k < n → f k ≡ g k) → expected f n ≡ expected g n
+pub expected-same : (s : Bool) (f g : ℕ → List ℕ) (n : ℕ) → ((k : ℕ) → k < n → f k ≡ g k) → expected s f n
+    ≡ expected s g n
 unfolding expected
-expected-same f g zero same = refl
-expected-same f g (suc n) same =
-    rw (expected-same f g n (λ k below. same k (omega arith)), same n (omega arith)) refl
+expected-same s f g zero same = refl
+expected-same s f g (suc n) same =
+    rw (expected-same s f g n (λ k below. same k (omega arith)), same n (omega arith)) refl
 
 -- one block more
-pub expected-more : (f : ℕ → List ℕ) (n : ℕ) (entries : List SummaryEntry) → expected f n ≡ Some entries
-    → expected f (n + 1) ≡ after_block entries (f n)
+pub expected-more : (s : Bool) (f : ℕ → List ℕ) (n : ℕ) (entries : List SummaryEntry) → expected s f n ≡ Some entries
+    → expected s f (n + 1) ≡ after_block s entries (f n)
 unfolding expected
-expected-more f n entries e = let one : n + 1 ≡ suc n = omega arith in rw (one, e) refl
+expected-more s f n entries e = let one : n + 1 ≡ suc n = omega arith in rw (one, e) refl
 
 -- a log that has ended stays so
-pub expected-ended : (f : ℕ → List ℕ) (n j : ℕ) → expected f n ≡ None → expected f (n + j) ≡ None
+pub expected-ended : (s : Bool) (f : ℕ → List ℕ) (n j : ℕ) → expected s f n ≡ None → expected s f (n + j) ≡ None
 unfolding expected
-expected-ended f n zero e = let none : n + 0 ≡ n = omega arith in rw (none, e) refl
-expected-ended f n (suc j) e = let one : n + suc j ≡ suc (n + j) = omega arith in rw (one, expected-ended f n j e) refl
+expected-ended s f n zero e = let none : n + 0 ≡ n = omega arith in rw (none, e) refl
+expected-ended s f n (suc j) e =
+    let one : n + suc j ≡ suc (n + j) = omega arith in rw (one, expected-ended s f n j e) refl
 
 -- the blocks of the entries are expected in turn, whatever they are
-pub expected-entries : (f : ℕ → List ℕ) (n j : ℕ) (entries : List SummaryEntry) → expected f n ≡ Some entries
-    → j ≤ length entries → expected f (n + j) ≡ Some (drop j entries)
-expected-entries f n zero entries e within = let none : n + 0 ≡ n = omega arith in rw none e
-expected-entries f n (suc j) [] e within = absurd (omega arith)
-expected-entries f n (suc j) (entry ∷ entries) e within =
+pub expected-entries : (s : Bool) (f : ℕ → List ℕ) (n j : ℕ) (entries : List SummaryEntry) → expected s f n
+    ≡ Some entries → j ≤ length entries → expected s f (n + j) ≡ Some (drop j entries)
+expected-entries s f n zero entries e within = let none : n + 0 ≡ n = omega arith in rw none e
+expected-entries s f n (suc j) [] e within = absurd (omega arith)
+expected-entries s f n (suc j) (entry ∷ entries) e within =
     let one : n + suc j ≡ n + 1 + j = omega arith in
-    ap (expected f) one ∙ expected-entries f (n + 1) j entries (expected-more f n (entry ∷ entries) e) (omega arith)
+    ap (expected s f) one
+    ∙ expected-entries s f (n + 1) j entries (expected-more s f n (entry ∷ entries) e) (omega arith)
 
 -- behind whole partial segments zeros are no log
-pub expected-zeros : (f : ℕ → List ℕ) (n j : ℕ) → expected f n ≡ Some [] → f n ≡ zero_block → expected f (n + suc j)
-    ≡ None
-expected-zeros f n j e at =
+pub expected-zeros : (s : Bool) (f : ℕ → List ℕ) (n j : ℕ) → expected s f n ≡ Some [] → f n ≡ zero_block
+    → expected s f (n + suc j) ≡ None
+expected-zeros s f n j e at =
     let one : n + suc j ≡ n + 1 + j = omega arith in
-    ap (expected f) one ∙ expected-ended f (n + 1) j (expected-more f n [] e ∙ ap summary_entries at
-    ∙ summary_entries-zero_block)
+    ap (expected s f) one ∙ expected-ended s f (n + 1) j (expected-more s f n [] e ∙ ap (entries_in s) at
+    ∙ entries_in-zero_block s)
 
 -- and name nothing
-next_entry-zeros : (f : ℕ → List ℕ) (n j : ℕ) → expected f n ≡ Some [] → (0 < j → f n ≡ zero_block)
-    → next_entry (expected f (n + j)) ≡ None
-next_entry-zeros f n zero e at = let none : n + 0 ≡ n = omega arith in rw (none, e) refl
-next_entry-zeros f n (suc j) e at = rw (expected-zeros f n j e (at (omega arith))) refl
+next_entry-zeros : (s : Bool) (f : ℕ → List ℕ) (n j : ℕ) → expected s f n ≡ Some [] → (0 < j → f n ≡ zero_block)
+    → next_entry (expected s f (n + j)) ≡ None
+next_entry-zeros s f n zero e at = let none : n + 0 ≡ n = omega arith in rw (none, e) refl
+next_entry-zeros s f n (suc j) e at = rw (expected-zeros s f n j e (at (omega arith))) refl
 
-pub next_entry-zeros_from : (f : ℕ → List ℕ) (n k : ℕ) → n ≤ k → expected f n ≡ Some [] → (n < k → f n ≡ zero_block)
-    → next_entry (expected f k) ≡ None
-next_entry-zeros_from f n k from e at =
+pub next_entry-zeros_from : (s : Bool) (f : ℕ → List ℕ) (n k : ℕ) → n ≤ k → expected s f n ≡ Some []
+    → (n < k → f n ≡ zero_block) → next_entry (expected s f k) ≡ None
+next_entry-zeros_from s f n k from e at =
     let sum : k ≡ n + (k - n) = omega arith in
-    ap (λ (i : ℕ). next_entry (expected f i)) sum ∙ next_entry-zeros f n (k - n) e (λ some. at (omega arith))
+    ap (λ (i : ℕ). next_entry (expected s f i)) sum ∙ next_entry-zeros s f n (k - n) e (λ some. at (omega arith))
 
 -- an address whose segment is known
 pub entry_at-in : (m : SegmentMemory) (segment address : ℕ) → address / 64 ≡ segment → entry_at m address
@@ -77,13 +81,13 @@ entry_at-in m segment address here = ap (λ (s : ℕ). next_entry (expected_at m
 -- one address more, of a segment's log
 pub expected_at-more : (m : SegmentMemory) (segment address : ℕ) (entries : List SummaryEntry)
     → first_of segment ≤ address → expected_at m segment address ≡ Some entries
-    → expected_at m segment (address + 1) ≡ after_block entries (block_at m address)
+    → expected_at m segment (address + 1) ≡ after_block (has_serials m) entries (block_at m address)
 expected_at-more m segment address entries from e =
     let one : address + 1 - first_of segment ≡ address - first_of segment + 1 = omega arith in
     let at : first_of segment + (address - first_of segment) ≡ address = omega arith in
-    ap (expected (log_block m segment)) one
-    ∙ expected-more (log_block m segment) (address - first_of segment) entries e
-    ∙ ap (λ (a : ℕ). after_block entries (block_at m a)) at
+    ap (expected (has_serials m) (log_block m segment)) one
+    ∙ expected-more (has_serials m) (log_block m segment) (address - first_of segment) entries e
+    ∙ ap (λ (a : ℕ). after_block (has_serials m) entries (block_at m a)) at
 
 -- a segment's log begins with a summary
 pub expected_at-first : (m : SegmentMemory) (segment : ℕ) → expected_at m segment (first_of segment) ≡ Some []
@@ -96,17 +100,18 @@ pub entry_at-ended : (m : SegmentMemory) (segment end address : ℕ) → expecte
 entry_at-ended m segment end address e past inside from =
     let sum : address - first_of segment ≡ end - first_of segment + (address - end) = omega arith in
     entry_at-in m segment address inside
-    ∙ ap (λ (n : ℕ). next_entry (expected (log_block m segment) n)) sum
-    ∙ ap next_entry (expected-ended (log_block m segment) (end - first_of segment) (address - end) e)
+    ∙ ap (λ (n : ℕ). next_entry (expected (has_serials m) (log_block m segment) n)) sum
+    ∙ ap next_entry (expected-ended (has_serials m) (log_block m segment) (end - first_of segment) (address - end) e)
 
--- the entry of an address rests on the earlier blocks of its segment
-pub entry_at-same : (m n : SegmentMemory) (address : ℕ)
+-- the entry of an address rests on the earlier blocks of its segment, and on whether summaries have serials
+pub entry_at-same : (m n : SegmentMemory) (address : ℕ) → has_serials n ≡ has_serials m
     → ((a : ℕ) → address / 64 * 64 ≤ a → a < address → block_at n a ≡ block_at m a) → entry_at n address
     ≡ entry_at m address
 unfolding entry_at
-entry_at-same m n address same =
+entry_at-same m n address kind same =
     let segment : ℕ = address / 64 in
-    ap next_entry (expected-same (log_block n segment) (log_block m segment) (address - first_of segment)
+    ap (λ (s : Bool). next_entry (expected s (log_block n segment) (address - first_of segment))) kind
+    ∙ ap next_entry (expected-same (has_serials m) (log_block n segment) (log_block m segment) (address - first_of segment)
     (λ k below. same (first_of segment + k) (omega arith) (omega arith)))
 
 -- one address more
@@ -148,8 +153,9 @@ entry_at-pending m entries k laid e inside =
     let first : ℕ = first_of m.active in
     let sum : next_address m + k - first ≡ next_address m - first + k = omega arith in
     entry_at-in m m.active (next_address m + k) (omega arith)
-    ∙ ap (λ (n : ℕ). next_entry (expected (log_block m m.active) n)) sum
-    ∙ ap next_entry (expected-entries (log_block m m.active) (next_address m - first) k entries e.pending (omega arith))
+    ∙ ap (λ (n : ℕ). next_entry (expected (has_serials m) (log_block m m.active) n)) sum
+    ∙ ap next_entry (expected-entries (has_serials m) (log_block m m.active) (next_address m - first) k entries e.pending
+    (omega arith))
     ∙ first-drop entries k
   where
     first-drop : (entries : List SummaryEntry) (k : ℕ) → slice_get (drop k entries) 0 ≡ slice_get entries k

@@ -3,13 +3,13 @@
 -- out, each of 512 bytes, so the length and all places outside of the run stay. Other files know `written` by
 -- `get_or-written_before`, `get_or-written_inside` and `get_or-written_after` alone: a change of it is mended here.
 use Rattle.std.proofs.Common.{◌≡◌, ℕ, zero, suc, ◌+◌, ◌-◌, ◌*◌, ◌/◌, ◌<◌, ◌≤◌, List, [], ◌∷◌, ◌++◌, All, length, get_or}
-use Rattle.std.proofs.Common.{take, drop, set, replicate, refl, sym, ap, ◌∙◌, arith}
+use Rattle.std.proofs.Common.{Option, take, drop, set, replicate, refl, sym, ap, ◌∙◌, arith}
 use Rattle.std.proofs.lemmas.List.{append_assoc, drop_more, get_or-append_right, get_or-drop, get_or-take}
 use Rattle.std.proofs.lemmas.List.{get_or_append_left, length-append, length-drop, length-replicate, length-take}
 use Rattle.std.proofs.lemmas.List.{length-take-le, replicate_more, set-append_right}
 use Rattle.std.proofs.lemmas.List.Elements.{All-append, All-cons, All-drop, All-from_get_or, All-replicate, All-take}
 use Rattle.lfs_types.specs.Blocks.{zero_block}
-use Rattle.lfs_segments.specs.Memory.{IsLaidOut, label, log_start, seen, written}
+use Rattle.lfs_segments.specs.Memory.{IsLaidOut, IsNextSerial, label, log_start, seen_with, written}
 
 pub length-written : (blocks : List (List ℕ)) (place : ℕ) (others : List (List ℕ)) → place
     + length others ≤ length blocks → length (written blocks place others) ≡ length blocks
@@ -64,9 +64,9 @@ log_start-le zero = omega arith
 log_start-le (suc segment) = omega arith
 
 -- a new volume
-pub fresh_laid_out : (segments inodes : ℕ) → 6 ≤ segments → segments ≤ 1024
-    → IsLaidOut (seen (label segments inodes ∷ replicate (segments * 64 - 1) zero_block) 0 1)
-fresh_laid_out segments inodes least most =
+pub fresh_laid_out : (serial : Option ℕ) (segments inodes : ℕ) → IsNextSerial serial → 6 ≤ segments → segments ≤ 1024
+    → IsLaidOut (seen_with serial (label segments inodes ∷ replicate (segments * 64 - 1) zero_block) 0 1)
+fresh_laid_out serial segments inodes told least most =
     let count = length-replicate (segments * 64 - 1) zero_block in
     let long : length (label segments inodes ∷ replicate (segments * 64 - 1) zero_block)
     ≡ segments * 64 = omega (arith, count) in
@@ -79,14 +79,15 @@ fresh_laid_out segments inodes least most =
       active = omega arith;
       begun = omega arith;
       within = omega arith;
+      told = told;
     }
 
 -- after blocks are put behind the log
-pub appended_laid_out : (blocks : List (List ℕ)) (active fill : ℕ) (others : List (List ℕ))
-    → IsLaidOut (seen blocks active fill) → length others ≤ 64 - fill
+pub appended_laid_out : (serial : Option ℕ) (blocks : List (List ℕ)) (active fill : ℕ) (others : List (List ℕ))
+    → IsLaidOut (seen_with serial blocks active fill) → length others ≤ 64 - fill
     → ((i : ℕ) → i < length others → length (get_or others i []) ≡ 512)
-    → IsLaidOut (seen (written blocks (active * 64 + fill) others) active (fill + length others))
-appended_laid_out blocks active fill others p fits each =
+    → IsLaidOut (seen_with serial (written blocks (active * 64 + fill) others) active (fill + length others))
+appended_laid_out serial blocks active fill others p fits each =
     let whole = p.whole in
     let below = p.active in
     let within = p.within in
@@ -103,14 +104,15 @@ appended_laid_out blocks active fill others p fits each =
       active = omega arith;
       begun = omega arith;
       within = omega arith;
+      told = p.told;
     }
 
 -- after a segment is filled with zeros
-pub opened_laid_out : (blocks : List (List ℕ)) (active fill segment : ℕ) → IsLaidOut (seen blocks active fill)
-    → segment < length blocks / 64
-    → IsLaidOut (seen (written blocks (segment * 64 + log_start segment)
+pub opened_laid_out : (serial : Option ℕ) (blocks : List (List ℕ)) (active fill segment : ℕ)
+    → IsLaidOut (seen_with serial blocks active fill) → segment < length blocks / 64
+    → IsLaidOut (seen_with serial (written blocks (segment * 64 + log_start segment)
     (replicate (64 - log_start segment) zero_block)) segment (log_start segment))
-opened_laid_out blocks active fill segment p inside =
+opened_laid_out serial blocks active fill segment p inside =
     let whole = p.whole in
     let at_least = p.at_least in
     let at_most = p.at_most in
@@ -127,6 +129,7 @@ opened_laid_out blocks active fill segment p inside =
       active = omega arith;
       begun = omega arith;
       within = omega arith;
+      told = p.told;
     }
 
 -- one block more, of the same bytes

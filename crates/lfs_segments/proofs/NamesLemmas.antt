@@ -14,11 +14,12 @@ use Rattle.lfs_segments.specs.Bytes.{half_at}
 use Rattle.lfs_segments.specs.Entry.{IsEntry, unused}
 use Rattle.lfs_segments.specs.Log.{after_block, entry_at, expected, expected_at, first_of, log_block, named_one}
 use Rattle.lfs_segments.specs.Log.{names_from}
-use Rattle.lfs_segments.specs.Memory.{SegmentMemory, log_start}
+use Rattle.lfs_segments.specs.Memory.{SegmentMemory, has_serials, log_start}
 use Rattle.lfs_segments.specs.Reading.{entries_from, is_summary, summary_entries}
 use Rattle.lfs_segments.proofs.LogLemmas.{entry_at-in, next_entry}
 use Rattle.lfs_segments.proofs.MemoryLemmas.{log_start-le}
 use Rattle.lfs_segments.proofs.ReadingLemmas.{count_of_summary, entries_of_summary}
+use Rattle.lfs_segments.proofs.SerialLemmas.{entries_in-plain}
 use Rattle.lfs_segments.proofs.TestLemmas.{get_or-entries_from, length-entries_from}
 
 -- entries of a summary, of which some may have been used
@@ -53,27 +54,29 @@ summary_entries-named bytes entries h = λ k below.
     subst IsEntry (sym (get_or-entries_from bytes 16 (half_at bytes 10) k unused inside)
     ∙ ap (λ (xs : List SummaryEntry). get_or xs k unused) tested.1) (entries_of_summary bytes tested.0 k inside)
 
-named_behind : (before after : List SummaryEntry) (block : List ℕ) → AreNamed before → after_block before block
-    ≡ Some after → AreNamed after
-named_behind [] after block each h = summary_entries-named block after h
-named_behind (entry ∷ before) after block each h =
+named_behind : (s : Bool) (before after : List SummaryEntry) (block : List ℕ) → AreNamed before
+    → after_block s before block ≡ Some after → AreNamed after
+named_behind s [] after block each h =
+    let found = entries_in-plain s block after h in summary_entries-named found.0 after found.1
+named_behind s (entry ∷ before) after block each h =
     subst AreNamed (same_Some before after h) (λ k below. each (suc k) (omega arith))
 
-named_step : (o : Option (List SummaryEntry)) (f : ℕ → List ℕ) (n : ℕ) (after : List SummaryEntry) → expected f n ≡ o
-    → ((before : List SummaryEntry) → o ≡ Some before → AreNamed before) → expected f (suc n) ≡ Some after
+named_step : (s : Bool) (o : Option (List SummaryEntry)) (f : ℕ → List ℕ) (n : ℕ) (after : List SummaryEntry)
+    → expected s f n ≡ o
+    → ((before : List SummaryEntry) → o ≡ Some before → AreNamed before) → expected s f (suc n) ≡ Some after
     → AreNamed after
 unfolding expected
-named_step None f n after e each h = absurd (none-some after (rw e at h))
-named_step (Some before) f n after e each h = named_behind before after (f n) (each before refl) (rw e at h)
+named_step s None f n after e each h = absurd (none-some after (rw e at h))
+named_step s (Some before) f n after e each h = named_behind s before after (f n) (each before refl) (rw e at h)
 
 -- what a log expects are entries
-pub expected-named : (f : ℕ → List ℕ) (n : ℕ) (entries : List SummaryEntry) → expected f n ≡ Some entries → (k : ℕ)
-    → k < length entries → IsEntry (get_or entries k unused)
+pub expected-named : (s : Bool) (f : ℕ → List ℕ) (n : ℕ) (entries : List SummaryEntry) → expected s f n ≡ Some entries
+    → (k : ℕ) → k < length entries → IsEntry (get_or entries k unused)
 unfolding expected
-expected-named f zero entries e = let none = same_Some [] entries e in
+expected-named s f zero entries e = let none = same_Some [] entries e in
     subst AreNamed none (λ k below. absurd (omega arith))
-expected-named f (suc n) entries e = named_step (expected f n) f n entries refl
-    (λ before e. expected-named f n before e) e
+expected-named s f (suc n) entries e = named_step s (expected s f n) f n entries refl
+    (λ before e. expected-named s f n before e) e
 
 next_named : (o : Option (List SummaryEntry)) (entry : SummaryEntry)
     → ((entries : List SummaryEntry) → o ≡ Some entries → AreNamed entries) → next_entry o ≡ Some entry → IsEntry entry
@@ -87,7 +90,8 @@ pub IsEntry-named : (m : SegmentMemory) (address : ℕ) (entry : SummaryEntry) �
     → IsEntry entry
 unfolding entry_at
 IsEntry-named m address entry h = next_named (expected_at m (address / 64) address) entry
-    (λ entries e. expected-named (log_block m (address / 64)) (address - first_of (address / 64)) entries e) h
+    (λ entries e. expected-named (has_serials m) (log_block m (address / 64)) (address - first_of (address / 64)) entries e)
+    h
 
 -- Of the first n blocks of a log some are summaries. Those that are named, and those still expected, are at most 40 for
 -- each.
@@ -95,25 +99,25 @@ record IsCounted (m : SegmentMemory) (segment n : ℕ) : Type 0 where
   summaries : ℕ
   within : length (names_from m (first_of segment) n) + summaries ≤ n
   named : length (names_from m (first_of segment) n) ≤ 40 * summaries
-  pending : (entries : List SummaryEntry) → expected (log_block m segment) n ≡ Some entries
+  pending : (entries : List SummaryEntry) → expected (has_serials m) (log_block m segment) n ≡ Some entries
       → length (names_from m (first_of segment) n) + length entries ≤ 40 * summaries
 
 module _ (m : SegmentMemory) (segment n : ℕ) (inside : n < 64 - log_start segment) where
-  here : entry_at m (first_of segment + n) ≡ next_entry (expected (log_block m segment) n)
+  here : entry_at m (first_of segment + n) ≡ next_entry (expected (has_serials m) (log_block m segment) n)
   here =
       let low = log_start-le segment in
       let same : first_of segment + n - first_of segment ≡ n = omega arith in
       entry_at-in m segment (first_of segment + n) (omega arith)
-      ∙ ap (λ (i : ℕ). next_entry (expected (log_block m segment) i)) same
+      ∙ ap (λ (i : ℕ). next_entry (expected (has_serials m) (log_block m segment) i)) same
 
-  more : (o : Option (List SummaryEntry)) → expected (log_block m segment) n ≡ o
+  more : (o : Option (List SummaryEntry)) → expected (has_serials m) (log_block m segment) n ≡ o
       → length (names_from m (first_of segment) (suc n)) ≡ length (names_from m (first_of segment) n)
       + length (named_one (first_of segment + n) (next_entry o))
   unfolding names_from
   more o e = rw (here, e) (length-append (names_from m (first_of segment) n)
       (named_one (first_of segment + n) (next_entry o)))
 
-  counted_more : (o : Option (List SummaryEntry)) → expected (log_block m segment) n ≡ o → IsCounted m segment n
+  counted_more : (o : Option (List SummaryEntry)) → expected (has_serials m) (log_block m segment) n ≡ o → IsCounted m segment n
       → IsCounted m segment (suc n)
   unfolding expected
   counted_more None e c =
@@ -130,8 +134,8 @@ module _ (m : SegmentMemory) (segment n : ℕ) (inside : n < 64 - log_start segm
         summaries = c.summaries + 1;
         within = omega arith;
         named = omega arith;
-        pending = λ entries h. let few = summary_entries-at_most (log_block m segment n) entries (rw e at h) in
-            omega arith;
+        pending = λ entries h. let found = entries_in-plain (has_serials m) (log_block m segment n) entries (rw e at h) in
+            let few = summary_entries-at_most found.0 entries found.1 in omega arith;
       }
   counted_more (Some (entry ∷ before)) e c =
       let count = more (Some (entry ∷ before)) e in let within = c.within in let named = c.named in
@@ -151,7 +155,7 @@ counted m segment zero inside = record {
   named = omega arith;
   pending = λ entries h. let none = ap length (same_Some [] entries h) in omega arith;
 }
-counted m segment (suc n) inside = counted_more m segment n (omega arith) (expected (log_block m segment) n) refl
+counted m segment (suc n) inside = counted_more m segment n (omega arith) (expected (has_serials m) (log_block m segment) n) refl
     (counted m segment n (omega arith))
 
 -- a segment names at most 62 blocks

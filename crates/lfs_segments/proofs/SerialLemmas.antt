@@ -3,7 +3,7 @@
 -- grammar's just where the block without its serial is (`plain_spelled`, `serial_spelled`). By that `told_in` reads
 -- what `IsSerialBlock` says (`told_in-spelled`), and no block is a summary both with and without a serial
 -- (`summary_entries-serial`).
-use Rattle.std.proofs.Common.{◌≡◌, ℕ, ◌+◌, ◌-◌, ◌*◌, ◌<◌, ◌≤◌, false, ◌==◌, List, ◌++◌, Option, Some, None}
+use Rattle.std.proofs.Common.{◌≡◌, ℕ, ◌+◌, ◌-◌, ◌*◌, ◌<◌, ◌≤◌, Bool, true, false, ◌==◌, List, ◌++◌, Option, Some, None}
 use Rattle.std.proofs.Common.{option_map, length, slice_index, take, drop, replicate, refl, sym, ap, subst, ◌∙◌}
 use Rattle.std.proofs.Common.{⊎_elim, arith}
 use Rattle.std.proofs.Props.{props}
@@ -15,12 +15,13 @@ use Rattle.std.proofs.lemmas.List.{length-append, length-drop, length-take}
 use Rattle.lfs_segments.specs.declared.entry.SummaryEntry.{SummaryEntry}
 use Rattle.lfs_segments.specs.declared.serial.SerialSummary.{SerialSummary}
 use Rattle.lfs_segments.specs.declared.summary.Summary.{Summary}
+use Rattle.lfs_types.specs.Blocks.{zero_block}
 use Rattle.lfs_segments.specs.Bytes.{IsBlock, half_at, word_at}
 use Rattle.lfs_segments.specs.Reading.{named_by, summary_entries}
-use Rattle.lfs_segments.specs.Serial.{IsSerialBlock, Told, told_by, told_in, without_serial}
+use Rattle.lfs_segments.specs.Serial.{IsSerialBlock, IsSummaryWith, Told, entries_in, told_by, told_in, without_serial}
 use Rattle.lfs_segments.specs.Summary.{IsSummaryBlock}
 use Rattle.lfs_segments.proofs.BytesLemmas.{get_or-replicate_same, half_kept, word_kept}
-use Rattle.lfs_segments.proofs.ReadingLemmas.{summary_entries-none, summary_entries-spelled}
+use Rattle.lfs_segments.proofs.ReadingLemmas.{summary_entries-none, summary_entries-spelled, summary_entries-zero_block}
 use Rattle.lfs_segments.proofs.SummaryLemmas.{SpellsRest, rest_of, same_block}
 
 -- a summary with a serial is what its fields are
@@ -238,3 +239,38 @@ pub told_in-none : (bytes plain : List ℕ) → length bytes ≡ 512 → plain �
 told_in-none bytes plain long is some none =
     told_in-more bytes some
     ∙ ap (λ (o : Option (List SummaryEntry)). option_map (told_of bytes) o) (sym (none ∙ ap summary_entries is))
+
+-- a block without data is no summary
+pub entries_in-zero_block : (s : Bool) → entries_in s zero_block ≡ None
+unfolding told_in zero_block
+entries_in-zero_block false = summary_entries-zero_block
+entries_in-zero_block true = refl
+
+-- what is read as a summary with a serial has the entries of the block without it
+serial_entries : (bytes : List ℕ) (told : Bool) (o : Option (List SummaryEntry)) (entries : List SummaryEntry)
+    → (word_at bytes 12 == 0) ≡ told → summary_entries (without_serial bytes) ≡ o
+    → entries_in true bytes ≡ Some entries → o ≡ Some entries
+unfolding told_in
+serial_entries bytes true o entries e is h = absurd (none-some entries (rw e at h))
+serial_entries bytes false None entries e is h = absurd (none-some entries (rw (e, is) at h))
+serial_entries bytes false (Some found) entries e is h = rw (e, is) at h
+
+-- what a log reads as a summary are the entries of a summary without a serial: of that block, or of another
+pub entries_in-plain : (s : Bool) (bytes : List ℕ) (entries : List SummaryEntry) → entries_in s bytes ≡ Some entries
+    → (plain : List ℕ) × (summary_entries plain ≡ Some entries)
+entries_in-plain false bytes entries h = (bytes, h)
+entries_in-plain true bytes entries h = (
+  without_serial bytes,
+  serial_entries bytes (word_at bytes 12 == 0) (summary_entries (without_serial bytes)) entries refl refl h,
+)
+
+-- a block that spells a summary with this serial, or one without
+pub spelled_with : (serial : Option ℕ) (block : List ℕ) (s : SerialSummary) → serial ≡ Some s.serial
+    → IsSerialBlock block s
+    → IsSummaryWith serial block s.summary.segment s.summary.offset (named_by s.summary)
+spelled_with serial block s is spelled = rw is (record { summary = s; spelled = spelled; told = refl })
+
+pub spelled_without : (serial : Option ℕ) (block : List ℕ) (s : Summary) → serial ≡ None → IsSummaryBlock block s
+    → IsSummaryWith serial block s.segment s.offset (named_by s)
+spelled_without serial block s is spelled =
+    rw is (record { summary = s; spelled = spelled; segment = refl; offset = refl; named = refl })

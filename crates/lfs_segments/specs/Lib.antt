@@ -4,5 +4,6 @@ pub mod Entry
 pub mod Log
 pub mod Memory
 pub mod Reading
+pub mod Rising
 pub mod Serial
 pub mod Summary

@@ -1,24 +1,24 @@
 -- The log of a segment, read forward block by block: which blocks it names, and what it expects of the next one.
 use Rattle.std.specs.Prelude.{◌≡◌, ℕ, zero, suc, ◌+◌, ◌-◌, ◌*◌, ◌/◌, ◌<◌, ◌≤◌, ◌⊎◌, List, [], ◌∷◌, ◌++◌, Option, Some}
-use Rattle.std.specs.Prelude.{None, length, option_and_then}
+use Rattle.std.specs.Prelude.{None, length, option_and_then, Bool}
 use Rattle.std.specs.List.{slice_get}
 use Rattle.lfs_segments.specs.declared.entry.SummaryEntry.{SummaryEntry}
-use Rattle.lfs_segments.specs.declared.summary.Summary.{Summary}
 use Rattle.lfs_types.specs.declared.limits.TheConstants.{SEGMENT_BLOCKS}
 use Rattle.lfs_types.specs.Blocks.{zero_block}
-use Rattle.lfs_segments.specs.Memory.{SegmentMemory, block_at, log_start, next_address, room_of}
-use Rattle.lfs_segments.specs.Reading.{named_by, summary_entries}
-use Rattle.lfs_segments.specs.Summary.{IsSummaryBlock}
+use Rattle.lfs_segments.specs.Memory.{SegmentMemory, block_at, has_serials, log_start, next_address, room_of}
+use Rattle.lfs_segments.specs.Serial.{entries_in}
 
--- What the log expects behind a block, if it goes on: the blocks of these entries, and then a summary.
-abbrev pub after_block : List SummaryEntry → List ℕ → Option (List SummaryEntry)
-after_block [] block = summary_entries block
-after_block (_ ∷ expected) block = Some expected
+-- What the log expects behind a block, if it goes on: the blocks of these entries, and then a summary, with a serial or
+-- without one.
+abbrev pub after_block : Bool → List SummaryEntry → List ℕ → Option (List SummaryEntry)
+after_block serials [] block = entries_in serials block
+after_block serials (_ ∷ expected) block = Some expected
 
 -- What it expects behind its first n blocks: at first a summary.
-unfoldable pub expected : (ℕ → List ℕ) → ℕ → Option (List SummaryEntry)
-expected blocks zero = Some []
-expected blocks (suc n) = option_and_then (λ entries. after_block entries (blocks n)) (expected blocks n)
+unfoldable pub expected : Bool → (ℕ → List ℕ) → ℕ → Option (List SummaryEntry)
+expected serials blocks zero = Some []
+expected serials blocks (suc n) =
+    option_and_then (λ entries. after_block serials entries (blocks n)) (expected serials blocks n)
 
 -- the address at which the log of a segment begins
 abbrev pub first_of : ℕ → ℕ
@@ -30,7 +30,7 @@ log_block m segment k = block_at m (first_of segment + k)
 
 -- what the log of a segment expects at an address of it
 abbrev pub expected_at : SegmentMemory → ℕ → ℕ → Option (List SummaryEntry)
-expected_at m segment address = expected (log_block m segment) (address - first_of segment)
+expected_at m segment address = expected (has_serials m) (log_block m segment) (address - first_of segment)
 
 -- what the log of its segment names at an address: none at a summary, behind the log's end, and at the label
 unfoldable pub entry_at : SegmentMemory → ℕ → Option SummaryEntry
@@ -62,13 +62,6 @@ pub record Extends (old new : SegmentMemory) : Type 0 where
   pub segments : new.segments ≡ old.segments
   pub active : new.active ≡ old.active
   pub fill : old.fill ≤ new.fill
+  pub serials : has_serials new ≡ has_serials old
   pub blocks : (a : ℕ) → IsOlder old a → block_at new a ≡ block_at old a
   pub entries : (a : ℕ) → IsOlder old a → entry_at new a ≡ entry_at old a
-
--- a block is the summary, at this place of a segment, of blocks that have these entries
-pub record IsSummaryOf (block : List ℕ) (in_segment at_offset : ℕ) (entries : List SummaryEntry) : Type 0 where
-  pub summary : Summary
-  pub spelled : IsSummaryBlock block summary
-  pub segment : summary.segment ≡ in_segment
-  pub offset : summary.offset ≡ at_offset
-  pub named : named_by summary ≡ entries

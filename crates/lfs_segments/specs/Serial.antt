@@ -1,11 +1,13 @@
 -- A summary with a serial: the grammar of its block, and any block read as one.
-use Rattle.std.specs.Prelude.{◌≡◌, ℕ, ◌+◌, ◌*◌, ◌<◌, ◌≤◌, if◌then◌else◌, ◌==◌, List, ◌++◌, Option, None, option_map}
-use Rattle.std.specs.Prelude.{take, drop, replicate, slice_index, slice_index_or}
+use Rattle.std.specs.Prelude.{◌≡◌, ℕ, ◌+◌, ◌*◌, ◌<◌, ◌≤◌, Bool, true, false, if◌then◌else◌, ◌==◌, List, ◌++◌, Option}
+use Rattle.std.specs.Prelude.{None, Some, option_map, take, drop, replicate, slice_index, slice_index_or}
 use Rattle.lfs_segments.specs.declared.entry.SummaryEntry.{SummaryEntry}
 use Rattle.lfs_segments.specs.declared.serial.SerialSummary.{SerialSummary}
+use Rattle.lfs_segments.specs.declared.summary.Summary.{Summary}
 use Rattle.lfs_segments.specs.Bytes.{word_at, half_at}
 use Rattle.lfs_segments.specs.Entry.{IsEntryAt, unused}
 use Rattle.lfs_segments.specs.Reading.{named_by, summary_entries}
+use Rattle.lfs_segments.specs.Summary.{IsSummaryBlock}
 
 -- The bytes of a summary with a serial, by their places: a summary's, but that bytes 12 to 15 hold the serial.
 pub record IsSerialBlock (bytes : List ℕ) (s : SerialSummary) : Type 0 where
@@ -49,3 +51,32 @@ told_in bytes =
       entries = entries;
     })
     (summary_entries (without_serial bytes))
+
+-- The entries that a block names in a log: where summaries have serials, as one with a serial, else as one without.
+abbrev pub entries_in : Bool → List ℕ → Option (List SummaryEntry)
+entries_in false bytes = summary_entries bytes
+entries_in true bytes = option_map (λ t. t.entries) (told_in bytes)
+
+-- a block is the summary, at this place of a segment, of blocks that have these entries
+pub record IsSummaryOf (block : List ℕ) (in_segment at_offset : ℕ) (entries : List SummaryEntry) : Type 0 where
+  pub summary : Summary
+  pub spelled : IsSummaryBlock block summary
+  pub segment : summary.segment ≡ in_segment
+  pub offset : summary.offset ≡ at_offset
+  pub named : named_by summary ≡ entries
+
+-- and has this serial
+pub record IsSerialOf (block : List ℕ) (serial in_segment at_offset : ℕ) (entries : List SummaryEntry) : Type 0 where
+  pub summary : SerialSummary
+  pub spelled : IsSerialBlock block summary
+  pub told : told_by summary ≡ record {
+    serial = serial;
+    segment = in_segment;
+    offset = at_offset;
+    entries = entries;
+  }
+
+-- such a summary with this serial, or without one where there is none
+abbrev pub IsSummaryWith : Option ℕ → List ℕ → ℕ → ℕ → List SummaryEntry → Type 0
+IsSummaryWith None block segment offset entries = IsSummaryOf block segment offset entries
+IsSummaryWith (Some serial) block segment offset entries = IsSerialOf block serial segment offset entries

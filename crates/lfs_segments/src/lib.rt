@@ -7,6 +7,7 @@ mod blocks;
 mod bytes;
 pub mod entry;
 pub mod log;
+pub mod log_summary;
 pub mod segments;
 pub mod serial;
 pub mod sizes;

@@ -1,13 +1,15 @@
 //! The memory of the volume: segments of blocks, one of them active.
 
-ghost use Rattle.std.specs.Prelude.{◌≡◌, ◌+◌, ◌-◌, ◌*◌, ◌<◌, ◌≤◌, ◌↔◌, IfNone, IfOk, IfSome, IsErrOf, IsTrue, [], All, length};
+ghost use Rattle.std.specs.Prelude.{◌≡◌, ◌+◌, ◌-◌, ◌*◌, ◌<◌, ◌≤◌, ◌↔◌, IfNone, IfOk, IfSome, IsErrOf, IsTrue, Some, [], All, length};
 ghost use Rattle.lfs_types.specs.declared.block.TheConstants.{BLOCK_SIZE};
 ghost use Rattle.lfs_types.specs.declared.limits.TheConstants.{SEGMENT_BLOCKS};
 ghost use Rattle.lfs_types.specs.Ranges.{least_segments, most_segments};
 ghost use Rattle.lfs_segments.specs.Log.{Expects};
-ghost use Rattle.lfs_segments.specs.Memory.{IsLaidOut, IsVolume, appended, block_at, fresh, label, log_start, next_address, opened, room_of, seen};
+ghost use Rattle.lfs_segments.specs.Memory.{IsLaidOut, IsNextSerial, IsVolume, appended, block_at, fresh, fresh_with, has_serials, label, log_start, next_address, opened, raised, room_of, seen, seen_with};
+ghost use Rattle.lfs_segments.specs.Rising.{IsRising};
 
 use crate::blocks::Blocks;
+use crate::log_summary::next_serial;
 use byteorder::{BigEndian, ByteOrder};
 use lfs_types::block::{Block, ZERO_BLOCK};
 use lfs_types::fault::FormatFault;
@@ -25,21 +27,22 @@ pub struct Segments {
     blocks: Blocks,
     active: u32,
     fill: u32,
+    serial: Option<u32>,
 }
 
 impl Model for Segments {
-    ghost use Rattle.lfs_segments.specs.Memory.{IsLaidOut, SegmentMemory, seen};
+    ghost use Rattle.lfs_segments.specs.Memory.{IsLaidOut, SegmentMemory, seen_with};
 
     ghost Value = { SegmentMemory };
 
-    ghost view = { λ s. seen s.blocks s.active s.fill };
+    ghost view = { λ s. seen_with s.serial s.blocks s.active s.fill };
 
-    ghost invariant = { λ s. IsLaidOut (seen s.blocks s.active s.fill) };
+    ghost invariant = { λ s. IsLaidOut (seen_with s.serial s.blocks s.active s.fill) };
 }
 
 impl Segments {
     /// Lays out a volume of 6 to 1,024 segments, all zeros but the label in block 0, which names the
-    /// number of inode numbers too. Segment 0 is active.
+    /// number of inode numbers too. Segment 0 is active. Summaries have no serials.
     pub fn format(alloc: Global, segments: u32, inodes: u32) -> Result<Segments, FormatFault>
         ensures too_few { IsErrOf result FormatFault.TooFew ↔ (segments < least_segments) }
         ensures too_many { IsErrOf result FormatFault.TooMany ↔ (most_segments < segments) }
@@ -47,6 +50,41 @@ impl Segments {
         ensures laid_out { IfOk result (λ made. IsLaidOut made) }
         // The log of segment 0 expects a summary.
         ensures ready { IfOk result (λ made. Expects made []) }
+        ensures rising { IfOk result (λ made. IsRising made) }
+    {
+        Segments::format_as(alloc, segments, inodes, None)
+    }
+
+    /// Lays out such a volume whose summaries have serials, the first 1.
+    pub fn format_with_serials(
+        alloc: Global,
+        segments: u32,
+        inodes: u32,
+    ) -> Result<Segments, FormatFault>
+        ensures too_few { IsErrOf result FormatFault.TooFew ↔ (segments < least_segments) }
+        ensures too_many { IsErrOf result FormatFault.TooMany ↔ (most_segments < segments) }
+        ensures fresh { IfOk result (λ made. made ≡ fresh_with (Some 1) segments inodes) }
+        ensures laid_out { IfOk result (λ made. IsLaidOut made) }
+        ensures ready { IfOk result (λ made. Expects made []) }
+        ensures rising { IfOk result (λ made. IsRising made) }
+    {
+        Segments::format_as(alloc, segments, inodes, Some(1))
+    }
+
+    /// Lays out such a volume whose first summary gets this serial, where there is one; else summaries have none.
+    pub fn format_as(
+        alloc: Global,
+        segments: u32,
+        inodes: u32,
+        serial: Option<u32>,
+    ) -> Result<Segments, FormatFault>
+        requires { IsNextSerial serial }
+        ensures too_few { IsErrOf result FormatFault.TooFew ↔ (segments < least_segments) }
+        ensures too_many { IsErrOf result FormatFault.TooMany ↔ (most_segments < segments) }
+        ensures fresh { IfOk result (λ made. made ≡ fresh_with serial segments inodes) }
+        ensures laid_out { IfOk result (λ made. IsLaidOut made) }
+        ensures ready { IfOk result (λ made. Expects made []) }
+        ensures rising { IfOk result (λ made. IsRising made) }
     {
         if segments < LEAST_SEGMENTS {
             return Err(FormatFault::TooFew);
@@ -60,22 +98,40 @@ impl Segments {
             blocks,
             active: 0,
             fill: 1,
+            serial,
         })
     }
 
     /// The memory that these blocks are, where a segment is active and so many of its blocks are used, whoever made them;
     /// `None` where they are no volume's: where they aren't 6 to 1,024 whole segments, or have no such segment, or where
-    /// its log can't end behind so many blocks.
+    /// its log can't end behind so many blocks. Summaries have no serials.
     pub fn over(blocks: Vec<Block>, active: u32, fill: u32) -> Option<Segments>
         requires { All (λ block. length block ≡ BLOCK_SIZE) blocks.items }
         ensures over { IfSome result (λ memory. memory ≡ seen blocks.items active fill) }
         ensures none { IfNone result (IsLaidOut (seen blocks.items active fill) → ⊥) }
+    {
+        Segments::over_as(blocks, active, fill, None)
+    }
+
+    /// Such a memory whose next summary gets this serial, where there is one; else summaries have none.
+    pub fn over_as(
+        blocks: Vec<Block>,
+        active: u32,
+        fill: u32,
+        serial: Option<u32>,
+    ) -> Option<Segments>
+        requires blocks { All (λ block. length block ≡ BLOCK_SIZE) blocks.items }
+        requires told { IsNextSerial serial }
+        ensures over { IfSome result
+            (λ memory. memory ≡ seen_with serial blocks.items active fill) }
+        ensures none { IfNone result (IsLaidOut (seen_with serial blocks.items active fill) → ⊥) }
     {
         if is_volume(blocks.len(), active, fill) {
             Some(Segments {
                 blocks: Blocks::of(blocks),
                 active,
                 fill,
+                serial,
             })
         } else {
             None
@@ -96,6 +152,23 @@ impl Segments {
         ensures laid_out { IsLaidOut self.now }
     {
         self.active
+    }
+
+    /// Whether summaries have serials.
+    pub fn has_serials(&self) -> bool
+        ensures serials { result ≡ has_serials self.now }
+        ensures laid_out { IsLaidOut self.now }
+    {
+        self.serial.is_some()
+    }
+
+    /// The serial that the next summary gets, 1 to 2^32 - 1; `None` where summaries have none.
+    pub fn serial(&self) -> Option<u32>
+        ensures serial { result ≡ self.now.serial }
+        ensures told { IsNextSerial result }
+        ensures laid_out { IsLaidOut self.now }
+    {
+        self.serial
     }
 
     /// The address behind the last block of the active segment: the next block's, where there is
@@ -139,12 +212,23 @@ impl Segments {
         address
     }
 
+    /// Uses up the serial of a summary.
+    pub(crate) fn raise(&mut self)
+        ensures raised { self.new ≡ raised self.old }
+        ensures was_laid_out { IsLaidOut self.old }
+        ensures laid_out { IsLaidOut self.new }
+    {
+        self.serial = next_serial(self.serial);
+    }
+
     /// Makes a segment the active one. It is filled with zeros first; the label stays.
     pub fn open_next(&mut self, segment: u32)
         requires { segment < self.old.segments }
         ensures opened { self.new ≡ opened self.old segment }
         // Its log expects a summary.
         ensures ready { Expects self.new [] }
+        // Which has none.
+        ensures rising { IsRising self.old → IsRising self.new }
         ensures was_laid_out { IsLaidOut self.old }
         ensures laid_out { IsLaidOut self.new }
     {

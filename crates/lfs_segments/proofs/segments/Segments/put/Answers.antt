@@ -1,6 +1,8 @@
 use Rattle.std.proofs.Common.{◌∷◌, [], refl, subst, sym, ap, ◌∙◌, arith}
 use Rattle.lfs_segments.specs.Log.{Expects, Extends}
-use Rattle.lfs_segments.specs.Memory.{SegmentMemory, block_at, next_address}
+use Rattle.lfs_segments.specs.Memory.{SegmentMemory, appended, block_at, next_address}
+use Rattle.lfs_segments.specs.Rising.{IsRising}
+use Rattle.lfs_segments.proofs.RisingLemmas.{rising-put}
 use Rattle.lfs_segments.proofs.WritingLemmas.{Expects-put, Extends-appended, block_at-put, entry_at-put}
 use Rattle.lfs_segments.proofs.segments.Segments.put.Goals as goal
 
@@ -27,3 +29,17 @@ returns-clause-names c = λ entry entries before. rw (c.append.ensures.appended,
 pub returns-clause-extends : goal.returns-clause-extends
 returns-clause-extends c = subst (λ (m : SegmentMemory). Extends c.args.self.now m) (sym c.append.ensures.appended)
     (Extends-appended c.args.self.now (c.args.block.now ∷ []) c.append.ensures.was_laid_out c.requires)
+
+pub returns-clause-serial : goal.returns-clause-serial
+returns-clause-serial c = ap (λ (m : SegmentMemory). m.serial) c.append.ensures.appended
+
+pub returns-clause-rising : goal.returns-clause-rising
+returns-clause-rising c = λ entry entries before.
+    let old = c.args.self.now in
+    let block = c.args.block.now in
+    let laid = c.append.ensures.was_laid_out in
+    let fit = before.fit in
+    subst (λ (m : SegmentMemory). IsRising old → IsRising m) (sym c.append.ensures.appended)
+    (rising-put old (appended old (block ∷ [])) entry entries laid (Extends-appended old (block ∷ []) laid c.requires) refl
+    (omega arith) before
+    (Expects-put old block laid c.requires (entry ∷ entries) entries before refl (omega arith)))
