@@ -1,0 +1,4 @@
+pub mod ChainLemmas
+pub mod NamedLemmas
+pub mod RecoverableLemmas
+pub mod WrittenLemmas
