@@ -16,7 +16,7 @@ use Rattle.lfs_segments.specs.declared.entry.LogicalBlock.{LogicalBlock}
 use Rattle.lfs_segments.specs.declared.entry.LogicalBlock.TheVariants as logical
 use Rattle.lfs_segments.specs.declared.entry.SummaryEntry.{SummaryEntry}
 use Rattle.lfs_segments.specs.Log.{entry_at, expected, first_of, log_block, names_from}
-use Rattle.lfs_segments.specs.Memory.{SegmentMemory, block_at, log_start}
+use Rattle.lfs_segments.specs.Memory.{SegmentMemory, block_at, has_serials, log_start}
 use Rattle.lfs_segments.proofs.LogLemmas.{entry_at-in, next_entry}
 use Rattle.lfs_segments.proofs.MemoryLemmas.{log_start-le}
 use Rattle.lfs_segments.proofs.NamesLemmas.{names_from-contains, names_from-named}
@@ -134,7 +134,7 @@ entry_at-from m address e named = ⊎_elim
     (λ (before : address < first_of (address / 64)).
     let none : address - first_of (address / 64) ≡ 0 = omega arith in
     absurd (none-some e (sym (entry_at-in m (address / 64) address refl
-    ∙ ap (λ (n : ℕ). next_entry (expected (log_block m (address / 64)) n)) none) ∙ named)))
+    ∙ ap (λ (n : ℕ). next_entry (expected (has_serials m) (log_block m (address / 64)) n)) none) ∙ named)))
     (λ (from : first_of (address / 64) ≤ address). from)
     (cases_lt address (first_of (address / 64)))
 

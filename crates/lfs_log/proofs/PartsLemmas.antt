@@ -3,17 +3,19 @@
 -- active and the last active one to dirty; only the first was clean, so the count of clean segments falls by one
 -- (`clean_count-changed`). A third state that counts as clean, or a segment opened that was not clean, would break
 -- `opened_count`.
-use Rattle.std.proofs.Common.{◌≡◌, ◌≢◌, ℕ, zero, suc, ◌+◌, ◌-◌, ◌<◌, ◌≤◌, inl, inr, length, refl, sym, ap, ◌∙◌, arith}
+use Rattle.std.proofs.Common.{◌≡◌, ◌≢◌, ℕ, zero, suc, ◌+◌, ◌-◌, ◌<◌, ◌≤◌, inl, inr, Option, length, refl, sym, ap, ◌∙◌}
+use Rattle.std.proofs.Common.{arith}
 use Rattle.std.proofs.lemmas.Bool.{cases_eq}
 use Rattle.std.proofs.lemmas.List.{get_or-replicate, get_or-set_other, get_or-set_same, length-replicate, length-set}
 use Rattle.lfs_ifile.specs.declared.segment.SegState.{SegState}
 use Rattle.lfs_ifile.specs.declared.segment.SegState.TheVariants.{Clean, Dirty, Active}
 use Rattle.lfs_ifile.specs.Tables.{IsIfile, Tables, fresh_tables, with_state}
-use Rattle.lfs_segments.specs.Memory.{IsLaidOut, fresh, opened}
+use Rattle.lfs_segments.specs.Memory.{IsLaidOut, fresh_with, opened}
 use Rattle.lfs_bmap.specs.Counting.{total}
 use Rattle.lfs_bmap.specs.Log.{AreSegments, clean_unit}
 use Rattle.lfs_bmap.proofs.CountingLemmas.{total-changed, total-part}
-use Rattle.lfs_log.specs.Parts.{IsParts, LogParts, clean_count, fresh_parts, log_state, opened_parts, state_of}
+use Rattle.lfs_log.specs.Parts.{IsParts, LogParts, clean_count, fresh_parts, fresh_parts_with, log_state, opened_parts}
+use Rattle.lfs_log.specs.Parts.{state_of}
 use Rattle.lfs_bmap.proofs.LogLemmas.{active_not_clean, dirty_not_active}
 use Rattle.lfs_bmap.proofs.SegmentLemmas.{no_clean_total}
 
@@ -108,9 +110,9 @@ module _ (segments inodes : ℕ) (some : 6 ≤ segments) where
       let none : clean_unit (state_of new 0) ≡ 0 = ap clean_unit fresh_active in
       omega arith
 
-  pub IsParts-fresh : IsLaidOut (fresh segments inodes) → IsIfile (fresh_parts segments inodes).tables
-      → IsParts (fresh_parts segments inodes)
-  IsParts-fresh laid formed = record {
+  pub IsParts-fresh : (serial : Option ℕ) → IsLaidOut (fresh_with serial segments inodes)
+      → IsIfile (fresh_parts segments inodes).tables → IsParts (fresh_parts_with serial segments inodes)
+  IsParts-fresh serial laid formed = record {
     laid_out = laid;
     formed = formed;
     agree = length-replicate segments 0;

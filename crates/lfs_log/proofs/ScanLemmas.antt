@@ -20,14 +20,13 @@ use Rattle.lfs_segments.specs.declared.entry.SummaryEntry.{SummaryEntry}
 use Rattle.lfs_segments.specs.declared.summary.Summary.{Summary}
 use Rattle.lfs_segments.specs.Entry.{unused}
 use Rattle.lfs_segments.specs.Log.{entry_at, expected_at, first_of, named_one, names_from}
-use Rattle.lfs_segments.specs.Memory.{SegmentMemory, block_at, log_start}
-use Rattle.lfs_segments.specs.Reading.{summary_entries}
-use Rattle.lfs_segments.specs.Summary.{IsSummaryBlock}
+use Rattle.lfs_segments.specs.Memory.{SegmentMemory, block_at, has_serials, log_start}
+use Rattle.lfs_segments.specs.Reading.{named_by}
+use Rattle.lfs_segments.specs.Serial.{entries_in}
 use Rattle.lfs_segments.proofs.LogLemmas.{entry_at-ended, entry_at-in, expected_at-more, names_from-append}
 use Rattle.lfs_segments.proofs.LogLemmas.{names_from-more, names_from-none, next_entry}
 use Rattle.lfs_segments.proofs.MemoryLemmas.{log_start-le}
 use Rattle.lfs_segments.proofs.NamesLemmas.{names_from-at_most}
-use Rattle.lfs_segments.proofs.ReadingLemmas.{summary_entries-spelled}
 use Rattle.lfs_types.specs.declared.cleaner.BlockInfo.{BlockInfo}
 use Rattle.lfs_log.specs.Infos.{block_infos, entry_infos, info_of, infos_from, infos_of, slot_info}
 use Rattle.lfs_inodes.proofs.FourSlots.{get_or-slots}
@@ -207,12 +206,12 @@ module _ (m : SegmentMemory) (segment address : ℕ) (from : first_of segment �
         ++ flat_map (entry_infos m) (named_one address o)) (sym (entry_is [] nothing))
         ∙ sym one_more
 
-    pub scan_summary : (s : Summary) → IsSummaryBlock block s → expected_at m segment (address + 1)
-        ≡ Some (drop 0 (take s.count s.entries))
-    scan_summary s spelled = expected_at-more m segment address [] from nothing ∙ ap summary_entries (sym at)
-        ∙ summary_entries-spelled block s spelled
+    pub scan_summary : (s : Summary) → Some (named_by s) ≡ entries_in (has_serials m) block
+        → expected_at m segment (address + 1) ≡ Some (drop 0 (take s.count s.entries))
+    scan_summary s read = expected_at-more m segment address [] from nothing
+        ∙ ap (entries_in (has_serials m)) (sym at) ∙ sym read
 
-    pub scan_ended : summary_entries block ≡ None → infos ≡ infos_of m segment
+    pub scan_ended : entries_in (has_serials m) block ≡ None → infos ≡ infos_of m segment
     unfolding infos_of
     scan_ended none =
         let low = log_start-le segment in
@@ -221,7 +220,7 @@ module _ (m : SegmentMemory) (segment address : ℕ) (from : first_of segment �
         let all : k + rest ≡ 64 - log_start segment = omega arith in
         let here : first_of segment + k ≡ address = omega arith in
         let ended : expected_at m segment (address + 1) ≡ None = expected_at-more m segment address [] from nothing
-        ∙ ap summary_entries (sym at) ∙ none in
+        ∙ ap (entries_in (has_serials m)) (sym at) ∙ none in
         let unnamed : names_from m (first_of segment + k) rest
         ≡ [] = names_from-none m (first_of segment + k) rest (λ a least most. elim (cases_eq a address) [
           | inl e ↦ ap (entry_at m) e ∙ entry_is [] nothing

@@ -1,12 +1,12 @@
 -- What a log keeps: the segment memory, the ifile's tables and the count of clean segments.
 use Rattle.std.specs.Prelude.{◌≡◌, ◌≤◌, ◌/◌, ◌≢◌, ℕ, ◌-◌, ◌+◌, ◌*◌, ◌<◌, length, slice_index, slice_index_or}
-use Rattle.std.specs.Prelude.{if◌then◌else◌, ◌==◌}
+use Rattle.std.specs.Prelude.{if◌then◌else◌, ◌==◌, Option, None}
 use Rattle.lfs_types.specs.declared.limits.TheConstants.{SEGMENT_BLOCKS}
 use Rattle.lfs_ifile.specs.declared.segment.TheConstants.{SEGMENT_BYTES}
 use Rattle.lfs_ifile.specs.declared.segment.SegState.{SegState}
 use Rattle.lfs_ifile.specs.declared.segment.SegState.TheVariants.{Clean, Dirty, Active}
 use Rattle.lfs_ifile.specs.Tables.{IsIfile, Tables, fresh_tables, row_of, with_state}
-use Rattle.lfs_segments.specs.Memory.{IsLaidOut, SegmentMemory, fresh, next_address, opened}
+use Rattle.lfs_segments.specs.Memory.{IsLaidOut, SegmentMemory, fresh_with, next_address, opened}
 use Rattle.lfs_bmap.specs.Counting.{total, units}
 use Rattle.lfs_bmap.specs.Log.{LogState, clean_unit}
 use Rattle.lfs_log.specs.Names.{named_at}
@@ -53,14 +53,18 @@ pub record IsParts (p : LogParts) : Type 0 where
   pub no_other : (s : ℕ) → s < p.memory.segments → state_of p.tables s ≡ Active → s ≡ p.memory.active
   pub counted : p.clean ≡ clean_count p.tables p.memory.segments
 
--- a new log: segment 0 is active, the others are clean
-abbrev pub fresh_parts : ℕ → ℕ → LogParts
-fresh_parts segments inodes =
+-- a new log: segment 0 is active, the others are clean, and its first summary has this serial, if any
+abbrev pub fresh_parts_with : Option ℕ → ℕ → ℕ → LogParts
+fresh_parts_with serial segments inodes =
     record {
-      memory = fresh segments inodes;
+      memory = fresh_with serial segments inodes;
       tables = with_state (fresh_tables segments inodes) 0 Active;
       clean = segments - 1;
     }
+
+-- without serials
+abbrev pub fresh_parts : ℕ → ℕ → LogParts
+fresh_parts segments inodes = fresh_parts_with None segments inodes
 
 -- the tables after a segment became the active one in place of another
 abbrev pub opened_tables : Tables → ℕ → ℕ → Tables

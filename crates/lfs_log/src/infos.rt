@@ -16,8 +16,9 @@ ghost use Rattle.lfs_log.specs.Parts.{IsParts};
 use crate::log::Log;
 use crate::packing::{SLOT_COUNT, inode_in};
 use lfs_segments::entry::{LogicalBlock, SummaryEntry};
+use lfs_segments::log_summary::summary_in;
 use lfs_segments::segments::{SEGMENT_BLOCKS, Segments, log_start};
-use lfs_segments::summary::{ENTRY_LIMIT, Summary};
+use lfs_segments::summary::ENTRY_LIMIT;
 use lfs_types::block::Block;
 use lfs_types::cleaner::{BlockInfo, InfoList};
 
@@ -56,7 +57,7 @@ fn scan(segments: &Segments, segment: u32) -> InfoList
         if next < count {
             push_infos(&mut infos, address, &entries[next], block);
             next += 1;
-        } else if let Some(summary) = Summary::decode(block) {
+        } else if let Some(summary) = summary_in(block, segments.has_serials()) {
             entries = summary.entries;
             next = 0;
             count = summary.count as usize;

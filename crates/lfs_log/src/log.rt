@@ -7,9 +7,10 @@ ghost use Rattle.lfs_ifile.specs.Inode.{IsPlace};
 ghost use Rattle.lfs_ifile.specs.Layout.{ifile_bytes};
 ghost use Rattle.lfs_ifile.specs.Tables.{AreUsed, IsLeastFree, IsTooFew, IsTooMany, blocks_of, place_of, usage_of};
 ghost use Rattle.lfs_segments.specs.Log.{Expects};
-ghost use Rattle.lfs_segments.specs.Memory.{block_at, next_address, room_of};
+ghost use Rattle.lfs_segments.specs.Memory.{IsNextSerial, block_at, has_serials, next_address, room_of};
+ghost use Rattle.lfs_segments.specs.Rising.{IsRising};
 ghost use Rattle.lfs_bmap.specs.Log.{IsEmptyLog, clean_unit};
-ghost use Rattle.lfs_log.specs.Parts.{IsActiveAlone, IsParts, clean_count, fresh_parts, log_state};
+ghost use Rattle.lfs_log.specs.Parts.{IsActiveAlone, IsParts, clean_count, fresh_parts, fresh_parts_with, log_state};
 
 use lfs_ifile::{Ifile, InodePlace, SegState, SegUse};
 use lfs_segments::segments::Segments;
@@ -82,7 +83,7 @@ fn clean_unit(state: SegState) -> u32
 impl Log {
     /// Lays out a volume of 6 to 1,024 segments and 16 to 4,096 inode numbers. Segment 0 is active,
     /// the others are clean, and no number is used. `TooFew` and `TooMany` are answered outside
-    /// these ranges, segments first; `Memory` where a growth was refused.
+    /// these ranges, segments first; `Memory` where a growth was refused. Summaries have no serials.
     pub fn format(alloc: Global, segments: u32, inodes: u32) -> Result<Log, FormatFault>
         ensures too_few { IsErrOf result FormatFault.TooFew ↔ IsTooFew segments inodes }
         ensures too_many { IsErrOf result FormatFault.TooMany ↔ IsTooMany segments inodes }
@@ -90,10 +91,31 @@ impl Log {
         ensures kept { IfOk result IsParts }
         // The log of segment 0 expects a summary.
         ensures ready { IfOk result (λ made. Expects made.memory []) }
+        ensures rising { IfOk result (λ made. IsRising made.memory) }
+        ensures empty { IfOk result (λ made. IsEmptyLog (log_state made (λ n c. 0))) }
+    {
+        Log::format_as(alloc, segments, inodes, None)
+    }
+
+    /// Lays out such a volume whose first summary gets this serial, where there is one; else
+    /// summaries have none.
+    pub fn format_as(
+        alloc: Global,
+        segments: u32,
+        inodes: u32,
+        serial: Option<u32>,
+    ) -> Result<Log, FormatFault>
+        requires { IsNextSerial serial }
+        ensures too_few { IsErrOf result FormatFault.TooFew ↔ IsTooFew segments inodes }
+        ensures too_many { IsErrOf result FormatFault.TooMany ↔ IsTooMany segments inodes }
+        ensures fresh { IfOk result (λ made. made ≡ fresh_parts_with serial segments inodes) }
+        ensures kept { IfOk result IsParts }
+        ensures ready { IfOk result (λ made. Expects made.memory []) }
+        ensures rising { IfOk result (λ made. IsRising made.memory) }
         ensures empty { IfOk result (λ made. IsEmptyLog (log_state made (λ n c. 0))) }
     {
         let mut ifile = Ifile::format(alloc, segments, inodes)?;
-        let memory = Segments::format(alloc, segments, inodes)?;
+        let memory = Segments::format_as(alloc, segments, inodes, serial)?;
         ifile.set_state(0, SegState::Active);
         Ok(Log {
             segments: memory,
@@ -155,6 +177,23 @@ impl Log {
         ensures kept { IsParts self.now }
     {
         self.segments.active()
+    }
+
+    /// Whether summaries have serials.
+    pub fn has_serials(&self) -> bool
+        ensures serials { result ≡ has_serials self.now.memory }
+        ensures kept { IsParts self.now }
+    {
+        self.segments.has_serials()
+    }
+
+    /// The serial that the next summary gets, 1 to 2^32 - 1; `None` where summaries have none.
+    pub fn serial(&self) -> Option<u32>
+        ensures serial { result ≡ self.now.memory.serial }
+        ensures told { IsNextSerial result }
+        ensures kept { IsParts self.now }
+    {
+        self.segments.serial()
     }
 
     /// The address behind the last block of the active segment: the next block's, where there is

@@ -7,8 +7,10 @@ ghost use Rattle.lfs_ifile.specs.declared.segment.SegState.TheVariants.{Clean};
 ghost use Rattle.lfs_segments.specs.declared.entry.SummaryEntry.{SummaryEntry};
 ghost use Rattle.lfs_segments.specs.declared.summary.TheConstants.{ENTRY_LIMIT};
 ghost use Rattle.lfs_segments.specs.Entry.{IsEntry};
-ghost use Rattle.lfs_segments.specs.Log.{Expects, Extends, IsSummaryOf, entry_at};
-ghost use Rattle.lfs_segments.specs.Memory.{block_at, next_address, opened, room_of};
+ghost use Rattle.lfs_segments.specs.Log.{Expects, Extends, entry_at};
+ghost use Rattle.lfs_segments.specs.Memory.{block_at, next_address, next_serial, opened, room_of};
+ghost use Rattle.lfs_segments.specs.Rising.{IsRising};
+ghost use Rattle.lfs_segments.specs.Serial.{IsSummaryWith};
 ghost use Rattle.lfs_bmap.specs.Log.{Opens, Writes};
 ghost use Rattle.lfs_bmap.specs.Owners.{owner_in};
 ghost use Rattle.lfs_log.specs.Names.{named_at, record_in};
@@ -30,6 +32,9 @@ impl Log {
         ensures opened { IfSome result (λ segment. self.new ≡ opened_parts self.old segment) }
         // Its log expects a summary.
         ensures ready { IfSome result (λ _. Expects self.new.memory []) }
+        // Which has none.
+        ensures rising { IfSome result
+            (λ _. IsRising self.old.memory → IsRising self.new.memory) }
         // The other segments' blocks stay.
         ensures blocks { IfSome result (λ segment. (a : ℕ) → a / 64 ≢ segment
             → block_at self.new.memory a ≡ block_at self.old.memory a) }
@@ -49,6 +54,7 @@ impl Log {
         requires clean { state_of self.old.tables segment ≡ Clean }
         ensures opened { self.new ≡ opened_parts self.old segment }
         ensures ready { Expects self.new.memory [] }
+        ensures rising { IsRising self.old.memory → IsRising self.new.memory }
         ensures was_kept { IsParts self.old }
         ensures kept { IsParts self.new }
     {
@@ -60,7 +66,8 @@ impl Log {
     }
 
     /// Begins a partial segment of 1 to 40 blocks: writes the summary of their entries behind the
-    /// active segment's log, and gives its address. The blocks are to be put next, in order.
+    /// active segment's log, and gives its address. The blocks are to be put next, in order. Where
+    /// summaries have serials, it gets the next one; the last one stays.
     pub fn begin(&mut self, entries: &[SummaryEntry]) -> u32
         requires ready { Expects self.old.memory [] }
         requires some { 0 < length entries.now }
@@ -68,8 +75,9 @@ impl Log {
         requires fit { length entries.now < room_of self.old.memory }
         requires named { All IsEntry entries.now }
         ensures address { result ≡ next_address self.old.memory }
-        ensures summary { IsSummaryOf (block_at self.new.memory result)
+        ensures summary { IsSummaryWith self.old.memory.serial (block_at self.new.memory result)
             self.old.memory.active self.old.memory.fill entries.now }
+        ensures serial { self.new.memory.serial ≡ next_serial self.old.memory.serial }
         ensures expects { Expects self.new.memory entries.now }
         // The log names the blocks to come.
         ensures names { (k : ℕ) → k < length entries.now
@@ -77,6 +85,8 @@ impl Log {
         ensures unnamed { entry_at self.new.memory result ≡ None }
         ensures next { next_address self.new.memory ≡ next_address self.old.memory + 1 }
         ensures extends { Extends self.old.memory self.new.memory }
+        // Its serial is above all others.
+        ensures rising { IsRising self.old.memory → IsRising self.new.memory }
         ensures tables { self.new.tables ≡ self.old.tables }
         ensures clean { self.new.clean ≡ self.old.clean }
         ensures step { (at : ℕ → ℕ → ℕ) → Writes (log_state self.old at) (log_state self.new at) 1 }
@@ -90,6 +100,7 @@ impl Log {
         requires { 1 ≤ room_of self.old.memory }
         ensures address { result ≡ next_address self.old.memory }
         ensures block { block_at self.new.memory result ≡ block.now }
+        ensures serial { self.new.memory.serial ≡ self.old.memory.serial }
         ensures expects { (entry : SummaryEntry) (entries : List SummaryEntry)
             → Expects self.old.memory (entry ∷ entries) → Expects self.new.memory entries }
         ensures names { (entry : SummaryEntry) (entries : List SummaryEntry)
@@ -102,6 +113,10 @@ impl Log {
             ≡ owner_in entry.block entry.number entry.version slot (record_in block.now slot) }
         ensures next { next_address self.new.memory ≡ next_address self.old.memory + 1 }
         ensures extends { Extends self.old.memory self.new.memory }
+        // It is no summary.
+        ensures rising { (entry : SummaryEntry) (entries : List SummaryEntry)
+            → Expects self.old.memory (entry ∷ entries)
+            → IsRising self.old.memory → IsRising self.new.memory }
         ensures tables { self.new.tables ≡ self.old.tables }
         ensures clean { self.new.clean ≡ self.old.clean }
         ensures step { (at : ℕ → ℕ → ℕ) → Writes (log_state self.old at) (log_state self.new at) 1 }

@@ -1,6 +1,7 @@
-use Rattle.std.proofs.Common.{◌≤◌, option_map, refl, sym, ap, ◌∙◌, arith}
+use Rattle.std.proofs.Common.{◌≤◌, Bool, option_map, refl, sym, ap, ◌∙◌, arith}
 use Rattle.lfs_segments.specs.Log.{first_of}
 use Rattle.lfs_segments.specs.Reading.{named_by}
+use Rattle.lfs_segments.specs.Serial.{entries_in}
 use Rattle.lfs_segments.proofs.LogLemmas.{expected_at-first}
 use Rattle.lfs_segments.proofs.MemoryLemmas.{log_start-le}
 use Rattle.lfs_log.proofs.ScanLemmas.{scan_begins, scan_done, scan_ended, scan_named, scan_next, scan_room}
@@ -31,7 +32,9 @@ returns-in_default c =
     let start = c.log_start.ensures in
     scan_ended m c.args.segment l.address (omega arith) c.loop-address-test.true l.infos l.entries l.next l.count
     c.block-block.result.now c.if-next-count.false c.block-block.ensures.block
-    l.invariant.pending l.invariant.so_far (sym c.decode.ensures.entries ∙ ap (option_map named_by) c.in_default.is)
+    l.invariant.pending l.invariant.so_far
+    (ap (λ (s : Bool). entries_in s c.block-block.result.now) (sym c.has_serials.ensures.serials)
+    ∙ sym c.summary_in.ensures ∙ ap (option_map named_by) c.in_default.is)
 
 pub loop-address-preserved : goal.loop-address-preserved
 loop-address-preserved c =
@@ -60,7 +63,8 @@ loop-address-preserved c =
         pending = rw (w.entries-is, w.next-is, w.count-is)
             (scan_summary m c.args.segment l.address from c.loop-address-test.true l.infos l.entries l.next l.count _
             w.if-next-count.false c.block-block.ensures.block l.invariant.pending l.invariant.so_far
-            w.in-Some.summary w.in-Some.ensures.found);
+            w.in-Some.summary (w.in-Some.ensures
+            ∙ ap (λ (s : Bool). entries_in s c.block-block.result.now) w.has_serials.ensures.serials));
       }
     ]
 

@@ -2,6 +2,7 @@ use Rattle.std.proofs.Common.{rules, ◌≡◌, ◌<◌, ap, sym, subst, ◌∙�
 use Rattle.lfs_ifile.specs.declared.segment.SegState.TheVariants.{Active, Clean, Dirty}
 use Rattle.lfs_ifile.specs.Tables.{IsIfile, Tables, with_state}
 use Rattle.lfs_segments.specs.Memory.{IsLaidOut}
+use Rattle.lfs_segments.specs.Rising.{IsRising}
 use Rattle.lfs_log.specs.Parts.{LogParts, opened_tables, state_of}
 use Rattle.lfs_log.proofs.PartsLemmas.{IsParts-opened, opened_some}
 use Rattle.lfs_log.proofs.log.Log.activate.Goals as goal
@@ -42,3 +43,7 @@ returns-clause-kept c = invariant_of-self c
 
 pub returns-clause-opened : goal.returns-clause-opened
 returns-clause-opened c = search rules
+
+pub returns-clause-rising : goal.returns-clause-rising
+returns-clause-rising c =
+    subst (λ (p : LogParts). IsRising p.memory → IsRising c.open_next.new.self) c.self.view_is c.open_next.ensures.rising

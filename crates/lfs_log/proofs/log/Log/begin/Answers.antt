@@ -1,6 +1,7 @@
 use Rattle.std.proofs.Common.{rules, ◌+◌, ap, subst, ◌∙◌, arith}
 use Rattle.lfs_segments.specs.Log.{Extends}
 use Rattle.lfs_segments.specs.Memory.{next_address}
+use Rattle.lfs_segments.specs.Rising.{IsRising}
 use Rattle.lfs_log.specs.Parts.{IsParts, LogParts}
 use Rattle.lfs_log.proofs.NameLemmas.{Writes-extended}
 use Rattle.lfs_log.proofs.log.Log.begin.Goals as goal
@@ -21,3 +22,7 @@ returns-clause-expects c = search rules
 
 pub returns-clause-names : goal.returns-clause-names
 returns-clause-names c = search rules
+
+pub returns-clause-rising : goal.returns-clause-rising
+returns-clause-rising c =
+    subst (λ (p : LogParts). IsRising p.memory → IsRising c.begin.new.self) c.self.view_is c.begin.ensures.rising

@@ -1,6 +1,7 @@
 use Rattle.std.proofs.Common.{rules, ◌+◌, ◌∷◌, ap, sym, subst, ◌∙◌, arith}
 use Rattle.lfs_segments.specs.Log.{Expects, Extends}
 use Rattle.lfs_segments.specs.Memory.{next_address}
+use Rattle.lfs_segments.specs.Rising.{IsRising}
 use Rattle.lfs_log.specs.Parts.{IsParts, LogParts}
 use Rattle.lfs_log.proofs.NameLemmas.{named_at-entry, Writes-extended}
 use Rattle.lfs_log.proofs.log.Log.put.Goals as goal
@@ -27,3 +28,9 @@ returns-clause-expects c = search rules
 
 pub returns-clause-names : goal.returns-clause-names
 returns-clause-names c = search rules
+
+pub returns-clause-rising : goal.returns-clause-rising
+returns-clause-rising c = λ entry entries expected rising.
+    c.put.ensures.rising entry entries
+    (subst (λ (p : LogParts). Expects p.memory (entry ∷ entries)) (sym c.self.view_is) expected)
+    (subst (λ (p : LogParts). IsRising p.memory) (sym c.self.view_is) rising)

@@ -4,7 +4,7 @@ use Rattle.lfs_ifile.specs.Tables.{IsIfile, Tables, with_state}
 use Rattle.lfs_ifile.specs.declared.segment.SegState.TheVariants.{Active}
 use Rattle.lfs_segments.specs.Memory.{IsLaidOut, SegmentMemory}
 use Rattle.lfs_log.proofs.PartsLemmas.{IsParts-fresh}
-use Rattle.lfs_log.proofs.log.Log.format.Goals as goal
+use Rattle.lfs_log.proofs.log.Log.format_as.Goals as goal
 
 pub invariant_of-result : goal.invariant_of-result
 invariant_of-result c =
@@ -13,7 +13,7 @@ invariant_of-result c =
     let fresh = c.in_ok-memory.ensures.fresh in
     let laid = c.in_ok-memory.ensures.laid_out in
     let some : 6 ≤ c.args.segments = subst (λ (m : SegmentMemory). 6 ≤ m.segments) fresh laid.at_least in
-    rw (fresh, after, made) (IsParts-fresh c.args.segments c.args.inodes some (subst IsLaidOut fresh laid)
+    rw (fresh, after, made) (IsParts-fresh c.args.segments c.args.inodes some c.args.serial (subst IsLaidOut fresh laid)
     (subst IsIfile (after ∙ ap (λ (t : Tables). with_state t 0 Active) made) c.set_state.ensures.formed))
 
 pub returns-clause-kept : goal.returns-clause-kept
