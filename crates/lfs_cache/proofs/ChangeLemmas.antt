@@ -1,5 +1,5 @@
 -- What a call does to keys other than its own is nothing, or a clean block gives way: `used_kept`, `settled_others`,
--- `forgotten_others`, `filled_gains`, `written_gains`, for each call of `Cache`, on whose clauses `lfs_staging` stands.
+-- `forgotten_others`, `filled_gains`, `written_gains`, for each call of `Cache`, on whose clauses `lfs_parts` stands.
 -- The key leaves its list and comes first in one, which another key doesn't see; blocks are lost by `drop_last` of LRU
 -- alone (`last_gone`), so dirty ones never are. The counts need that no key comes twice (`IsContents`), as
 -- `without_key` takes all of its entries away.

@@ -30,8 +30,9 @@ impl Model for Index {
     ghost invariant = { λ i. IsIndex i.keys.items i.places.items i.taken };
 }
 
-// Where the search for a key starts. Keys of blocks side by side start far apart, so that the search for a key that isn't held
-// soon meets a free place.
+// Where the search for a key starts: sixteen bits of it, as a fraction of the span, so that nothing is divided by a number
+// that isn't known before. Keys of blocks side by side start far apart, so that the search for a key that isn't held soon
+// meets a free place.
 fn start(key: Key, span: usize) -> usize
     requires { 0 < span }
     ensures start { result ≡ start_of key span }
@@ -40,7 +41,8 @@ fn start(key: Key, span: usize) -> usize
     let spread = key.ino as u64 * 668265263
         + key.version as u64 * 374761393
         + key.lbn.0 as u64 * 2654435761;
-    (spread / 65536 % span as u64) as usize
+    let fraction = spread / 65536 % 65536;
+    (fraction as u128 * span as u128 / 65536) as usize
 }
 
 // The first free place from `start` on.
