@@ -1,0 +1,15 @@
+pub mod FileLemmas
+pub mod KeyLemmas
+pub mod OpeningLemmas
+pub mod ReadLemmas
+pub mod RecordsLemmas
+pub mod ReadingBlockLemmas
+pub mod ReplacingLemmas
+pub mod SameContentLemmas
+pub mod ViewLemmas
+pub mod WaitingLemmas
+pub mod FrameLemmas
+pub mod CleanLemmas
+pub mod FilledLemmas
+pub mod HeldLemmas
+pub mod SameLogLemmas

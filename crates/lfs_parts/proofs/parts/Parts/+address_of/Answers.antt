@@ -1,0 +1,31 @@
+use Rattle.std.proofs.Common.{◌≡◌, ◌∷◌, [], sym, ap, ◌∙◌}
+use Rattle.lfs_bmap.specs.Blocks.{way_to}
+use Rattle.lfs_bmap.specs.Reading.{address}
+use Rattle.lfs_bmap.proofs.ReadingLemmas.{address-root}
+use Rattle.lfs_parts.specs.View.{tree_from}
+use Rattle.lfs_parts.proofs.KeyLemmas.{code-other}
+use Rattle.lfs_parts.proofs.ViewLemmas.{held_cell, root_cell, way_to-some}
+use Rattle.lfs_parts.proofs.parts.Parts.+address_of.Goals as goal
+
+pub returns-in_default : goal.returns-in_default
+returns-in_default t c =
+    let tree = tree_from c.args.self.now c.args.inode.now in
+    sym (ap (address tree) c.in_default.ensures.way ∙ address-root tree)
+
+pub returns-in-Record : goal.returns-in-Record
+returns-in-Record t c =
+    let tree = tree_from c.args.self.now c.args.inode.now in
+    let way : way_to c.args.block ≡ c.in-Some.field-0.index ∷ [] = c.in-Some.ensures.way
+    ∙ ap (λ b. c.in-Some.field-0.index ∷ way_to b) c.in-Record.is in
+    c.root_address.ensures ∙ sym (ap (address tree) way
+    ∙ root_cell c.args.self.now c.args.inode.now c.in-Some.field-0.index)
+
+pub returns-in-Single : goal.returns-in-Single
+returns-in-Single t c =
+    let tree = tree_from c.args.self.now c.args.inode.now in
+    let some = way_to-some c.in-Some.field-0.table (code-other c.in-Some.field-0.table c.in-Single.is) in
+    c.entry.ensures.read
+    ∙ held_cell tree c.in-Some.field-0.index
+    (way_to c.in-Some.field-0.table) c.bytes_via-held.result.now c.address_of-address.result some
+    c.address_of-address.ensures c.bytes_via-held.ensures
+    ∙ ap (address tree) (sym c.in-Some.ensures.way)
