@@ -31,11 +31,11 @@ use Rattle.lfs_bmap.proofs.PlaceLemmas.{data_block-read, data_block-past}
 use Rattle.lfs_bmap.proofs.ReadingLemmas.{cleared_address, cleared_addresses, cleared_bytes, cleared_others}
 use Rattle.lfs_bmap.proofs.ReadingLemmas.{kept_blocks, Clears}
 use Rattle.lfs_bmap.proofs.WayLemmas.{no_way_through, same_code, way_of-known}
-use Rattle.lfs_staging.specs.declared.parts.Parts.{Parts}
-use Rattle.lfs_staging.specs.Clean.{GainsNoClean}
-use Rattle.lfs_staging.specs.Keys.{log_state}
+use Rattle.lfs_parts.specs.declared.parts.Parts.{Parts}
+use Rattle.lfs_parts.specs.Clean.{GainsNoClean}
+use Rattle.lfs_parts.specs.Keys.{log_state}
 use Rattle.lfs_staging.specs.Addressing.{IsWaiting, Sets}
-use Rattle.lfs_staging.specs.View.{key_of, record_of, root_in, tree_of, version_of}
+use Rattle.lfs_parts.specs.View.{key_of, record_of, root_in, tree_of, version_of}
 use Rattle.lfs_staging.proofs.TableLemmas.{room_at}
 use Rattle.lfs_staging.proofs.UnstagedLemmas as unstaged
 use Rattle.lfs_staging.proofs.UnstagedLemmas.{Readdresses, Unstages, known, parent_set, place_after, place_kept}

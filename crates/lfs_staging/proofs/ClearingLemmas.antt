@@ -1,5 +1,5 @@
 -- Data blocks of a file are given back one after another: `clears_none`, `may_clear` and `clears_more`, for
--- `Parts::clear_blocks`; DroppingLemmas and EmptiedLemmas use besides that two steps that keep the rest keep it
+-- `clear_blocks`; DroppingLemmas and EmptiedLemmas use besides that two steps that keep the rest keep it
 -- together (`rest_trans`). A step takes one address and one frame away, so what is gone stays gone (`gone_still`), and
 -- what lies past the size was gone from the start (`past_gone`). The holders of the data blocks wait all the while, as
 -- none of them is a data block.
@@ -26,18 +26,18 @@ use Rattle.lfs_bmap.proofs.HolderLemmas.{table_of-code, table_of-is, table_of-wa
 use Rattle.lfs_bmap.proofs.PlaceLemmas.{data_block-past, data_block-read}
 use Rattle.lfs_bmap.proofs.ReadingLemmas.{read-via, via-none}
 use Rattle.lfs_bmap.proofs.WayLemmas.{no_way_through, same_code, way_of-code_of, way_of-data}
-use Rattle.lfs_staging.specs.declared.parts.Parts.{Parts}
+use Rattle.lfs_parts.specs.declared.parts.Parts.{Parts}
 use Rattle.lfs_staging.specs.Addressing.{IsWaiting}
 use Rattle.lfs_staging.specs.Cutting.{ClearsBlock, ClearsBlocks, IsGone, KeepsRest, MayClear, MayClearBetween}
 use Rattle.lfs_staging.specs.Staging.{IsStaged}
-use Rattle.lfs_staging.specs.Store.{HolderWaits}
-use Rattle.lfs_staging.specs.View.{key_of, record_of, tree_of, version_of, waiting_in}
-use Rattle.lfs_staging.proofs.FrameLemmas.{waiting_number}
+use Rattle.lfs_parts.specs.Store.{HolderWaits}
+use Rattle.lfs_parts.specs.View.{key_of, record_of, tree_of, version_of, waiting_in}
+use Rattle.lfs_parts.proofs.FrameLemmas.{waiting_number}
 use Rattle.lfs_staging.proofs.HolderLemmas.{block_gone, gone_free, holder_at, holder_code}
-use Rattle.lfs_staging.proofs.KeptLemmas.{block_known}
+use Rattle.lfs_parts.proofs.SameLogLemmas.{block_known}
 use Rattle.lfs_staging.proofs.StagedLemmas.{stays-refl, stays-trans}
 use Rattle.lfs_staging.proofs.TableLemmas.{apart_code}
-use Rattle.lfs_staging.proofs.ViewLemmas.{not_locked, record_of-waiting}
+use Rattle.lfs_parts.proofs.ViewLemmas.{not_locked, record_of-waiting}
 
 -- ---- what waits of a number
 pub is_waiting : (p : Parts) (number : ℕ) (v : Inode) → waiting_in p.waiting number ≡ Some v
@@ -60,6 +60,7 @@ rest_trans number a b c p q = record {
   others = λ n other. q.others n other ∙ p.others n other;
   attributes = λ f is. let at = p.attributes f is in q.attributes _ at.there;
   waits = q.waits;
+  other_records = λ n other. q.other_records n other ∙ p.other_records n other;
   many = let first = p.many in let second = q.many in omega arith;
 }
 
@@ -70,6 +71,7 @@ rest_refl number p waits = record {
   others = λ n other. refl;
   attributes = λ f is. record { addresses = f.addresses; there = is };
   waits = waits;
+  other_records = λ n other. refl;
   many = omega arith;
 }
 

@@ -1,4 +1,4 @@
--- `Parts::cut` in four steps, the record staged, the last block zeroed, the blocks past it dropped and the size set, is
+-- `cut` in four steps, the record staged, the last block zeroed, the blocks past it dropped and the size set, is
 -- one cut of the file: `may_drop_all`, `may_shorten`, `cut_file`. Each data block is cut: below the last one by
 -- `below_cut`, the last by its zeros, and those past it because a block that is gone reads as zeros (`gone_zeros`). The
 -- four free frames that it asks for are those of `cut_codes`; one more for the record's holder would break `own_room`.
@@ -27,20 +27,22 @@ use Rattle.lfs_bmap.proofs.HolderLemmas.{codes_on-most, codes_on-record, table_o
 use Rattle.lfs_bmap.proofs.PieceLemmas.{cut_padded, past_cut, zero_block-at}
 use Rattle.lfs_bmap.proofs.PlaceLemmas.{data_block-past, data_block-same}
 use Rattle.lfs_bmap.proofs.TableLemmas.{codes_on-table_few}
-use Rattle.lfs_staging.specs.declared.parts.Parts.{Parts}
+use Rattle.lfs_parts.specs.declared.parts.Parts.{Parts}
 use Rattle.lfs_staging.specs.Changing.{StaysInLog, frames_of_length, length_codes}
 use Rattle.lfs_staging.specs.Cutting.{CutsFile, CutsLast, DropsBlocks, MayDropAll, MayShorten, Shortens, cut_codes}
 use Rattle.lfs_staging.specs.Cutting.{last_table}
 use Rattle.lfs_staging.specs.Staging.{HasFrames, IsStaged, MayStage, StagesOwnRecord, TakesOnly}
-use Rattle.lfs_staging.specs.View.{record_of, tree_of, version_of}
+use Rattle.lfs_parts.specs.View.{record_of, tree_of, version_of}
+use Rattle.lfs_parts.specs.Waiting.{KeepsOtherRecords}
 use Rattle.lfs_staging.proofs.ClearingLemmas.{gone_zeros, rest_attributes}
 use Rattle.lfs_staging.proofs.CutLemmas.{length_codes-cut, length_codes-length, length_codes-table}
 use Rattle.lfs_staging.proofs.GrowthLemmas.{one_record}
 use Rattle.lfs_staging.proofs.KeptLemmas.{parents_own}
 use Rattle.lfs_staging.proofs.StagedLemmas.{may_again, parents_staged, stays-trans, stays_files, stays_same}
-use Rattle.lfs_staging.proofs.StagingLemmas.{version-same}
+use Rattle.lfs_parts.proofs.SameLogLemmas.{version-same}
 use Rattle.lfs_staging.proofs.TakenLemmas.{frames_after, frames_enough, taken_most, takes_both, takes_none, takes_part}
 use Rattle.lfs_staging.proofs.TakenLemmas.{takes_version}
+use Rattle.lfs_parts.proofs.WaitingLemmas.{others_both, others_kept}
 use Rattle.lfs_segments.proofs.MemoryLemmas.{length-zero_block}
 
 -- ---- the record waits
@@ -153,8 +155,8 @@ module _ (a b c : Parts) (v : Inode) (len left blocks : ℕ) (may : MayStage a v
           (data_block (tree_of d v.number)) v.size len old_padded cut_all;
     }
 
-    frames : length d.cache.locked ≤ length a.cache.locked + frames_of_length len
-    frames =
+    takes_all : TakesOnly v.number (version_of a v.number) (length_codes len) a.cache d.cache
+    takes_all =
         let version = version-same a c v.number log_same in
         let kept = subst (λ n. (x : ℕ) → Contains (codes_on (way_to (last_table n))) x → Contains (length_codes len) x)
         (sym left_is) (length_codes-table len) in
@@ -162,14 +164,21 @@ module _ (a b c : Parts) (v : Inode) (len left blocks : ℕ) (may : MayStage a v
         (length_codes len) c.cache d.cache version
         (takes_part v.number (version_of c v.number) (codes_on (way_to (last_table left)))
         (length_codes len) c.cache d.cache kept drops.takes) in
+        takes_both v.number (version_of a v.number) (length_codes len) a.cache c.cache d.cache takes second
+
+    frames : length d.cache.locked ≤ length a.cache.locked + frames_of_length len
+    frames =
         let most = taken_most v.number (version_of a v.number)
-        (length_codes len) a.cache d.cache drops.staged.whole.cache
-        (takes_both v.number (version_of a v.number) (length_codes len) a.cache c.cache d.cache takes second) in
+        (length_codes len) a.cache d.cache drops.staged.whole.cache takes_all in
         let many = length_codes-length len in
         omega arith
 
     waiting : length d.waiting ≤ length a.waiting + 1
     waiting = let one = one_record a c v.number (last.waiting ∙ own.room) in let fewer = drops.rest.many in omega arith
+
+    other_records : KeepsOtherRecords v.number a.waiting d.waiting
+    other_records = others_both v.number a.waiting c.waiting d.waiting
+        (others_kept v.number a.waiting c.waiting (last.waiting ∙ own.room)) drops.rest.other_records
 
     log_stays : StaysInLog a d
     log_stays =
@@ -195,6 +204,8 @@ module _ (a b c : Parts) (v : Inode) (len left blocks : ℕ) (may : MayStage a v
       frames = let same : length e.cache.locked
           ≡ length d.cache.locked = ap (λ (s : Contents). length s.locked) short.cache in let most = frames in
           omega arith;
+      takes = subst (TakesOnly v.number (version_of a v.number) (length_codes len) a.cache) (sym short.cache) takes_all;
+      other_records = others_both v.number a.waiting d.waiting e.waiting other_records short.other_records;
       waiting = let fewer = short.waiting in let most = waiting in omega arith;
       waits = short.waits;
     }

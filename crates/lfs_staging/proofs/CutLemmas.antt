@@ -1,5 +1,5 @@
 -- What the last block of a length has past it is zeroed, and nothing where the length ends with a block: `cut_one`,
--- `last_whole`, `last_cut`, for `Parts::cut_block` and `cut_last`. The blocks before it are whole, so a cut leaves them
+-- `last_whole`, `last_cut`, for `cut_block` and `cut_last`. The blocks before it are whole, so a cut leaves them
 -- as they are (`below_cut` of `lfs_bmap`). What it has wait is among what the drop behind it may have wait
 -- (`length_codes-cut`, by `codes_on-behind`), which is why one count of frames serves both in CutFileLemmas.
 use Rattle.std.proofs.Common.{◌≡◌, ◌≢◌, ℕ, ◌+◌, ◌-◌, ◌*◌, ◌/◌, ◌%◌, ◌<◌, ◌≤◌, List, [], ◌∷◌, ◌++◌, length, suc}
@@ -21,11 +21,11 @@ use Rattle.lfs_bmap.specs.Ways.{codes_on}
 use Rattle.lfs_bmap.proofs.HolderLemmas.{code_cases, codes_on-block}
 use Rattle.lfs_bmap.proofs.PieceLemmas.{below_cut}
 use Rattle.lfs_bmap.proofs.TableLemmas.{codes_on-behind, codes_on-long}
-use Rattle.lfs_staging.specs.declared.parts.Parts.{Parts}
+use Rattle.lfs_parts.specs.declared.parts.Parts.{Parts}
 use Rattle.lfs_staging.specs.Changing.{frames_of_length, length_codes, length_table}
 use Rattle.lfs_staging.specs.Cutting.{CutsBlock, CutsLast, cut_codes, last_table}
 use Rattle.lfs_staging.specs.Staging.{IsStaged, IsZeroPast, MayStage, StagesData, TakesOnly}
-use Rattle.lfs_staging.specs.View.{tree_of, version_of}
+use Rattle.lfs_parts.specs.View.{tree_of, version_of}
 use Rattle.lfs_staging.proofs.TakenLemmas.{first_code, more_codes, takes_none}
 
 -- ---- the codes of a length

@@ -1,5 +1,5 @@
 -- All that leads only to data blocks past a length is given back: `drop_whole`, `drops_more`, `drops_all`, for
--- `Parts::drop_table`, `drop_tables` and `drop_blocks`. It goes down by codes: `GoneDown` says that from one code on
+-- `drop_table`, `drop_tables` and `drop_blocks`. It goes down by codes: `GoneDown` says that from one code on
 -- all is gone, and a turn adds an indirect block and what stands in it; codes rise from holder to held
 -- (`table_of-less`), so a block goes behind all whose addresses it holds. The hard case is the double block, code 2,
 -- which waits until its turn (`down_codes`): that bounds the frames, and another order of codes would not.
@@ -28,28 +28,28 @@ use Rattle.lfs_bmap.proofs.HolderLemmas.{table_of-is, table_of-under, table_of-w
 use Rattle.lfs_bmap.proofs.PlaceLemmas.{data_block-same}
 use Rattle.lfs_bmap.proofs.TableLemmas.{codes_on-above, codes_on-two, codes_on-within, first_under-least}
 use Rattle.lfs_bmap.proofs.TableLemmas.{first_under-past, table_of-later, table_of-less, under_table}
-use Rattle.lfs_staging.specs.declared.parts.Parts.{Parts}
+use Rattle.lfs_parts.specs.declared.parts.Parts.{Parts}
 use Rattle.lfs_staging.specs.Cutting.{ClearsBlock, ClearsBlocks, DropsBlocks, DropsDown, DropsTable, GoneDown, IsGone}
 use Rattle.lfs_staging.specs.Cutting.{KeepsRest, MayClear, MayClearBetween, MayClearTable, MayDrop, MayDropAll}
 use Rattle.lfs_staging.specs.Cutting.{cut_codes, down_codes, last_table}
 use Rattle.lfs_staging.specs.Staging.{IsStaged, MayStage, StagesTable, TakesOnly}
-use Rattle.lfs_staging.specs.Store.{HolderWaits}
-use Rattle.lfs_staging.specs.View.{key_of, record_of, tree_from, tree_of, version_of, waiting_in}
-use Rattle.lfs_staging.proofs.FileLemmas.{tree_from-of}
+use Rattle.lfs_parts.specs.Store.{HolderWaits}
+use Rattle.lfs_parts.specs.View.{key_of, record_of, tree_from, tree_of, version_of, waiting_in}
+use Rattle.lfs_parts.proofs.FileLemmas.{tree_from-of}
 use Rattle.lfs_staging.proofs.ClearingLemmas.{cleared_gone, gone_still, past_gone, rest_count, rest_refl, rest_trans}
 use Rattle.lfs_staging.proofs.ClearingLemmas.{rest_used, rest_version, there_within}
-use Rattle.lfs_staging.proofs.ForgettingLemmas.{used_low}
-use Rattle.lfs_staging.proofs.FrameLemmas.{waiting_number}
+use Rattle.lfs_parts.proofs.SameLogLemmas.{used_low}
+use Rattle.lfs_parts.proofs.FrameLemmas.{waiting_number}
 use Rattle.lfs_staging.proofs.HoleLemmas.{hole_under}
 use Rattle.lfs_staging.proofs.HolderLemmas.{block_gone, gone_free, holder_at, holder_code}
-use Rattle.lfs_staging.proofs.KeptLemmas.{block_known}
-use Rattle.lfs_staging.proofs.KeyLemmas.{lies_in}
+use Rattle.lfs_parts.proofs.SameLogLemmas.{block_known}
+use Rattle.lfs_parts.proofs.KeyLemmas.{lies_in}
 use Rattle.lfs_staging.proofs.StagedLemmas.{stays_same, table_staged_still}
-use Rattle.lfs_staging.proofs.StagingLemmas.{version-same}
+use Rattle.lfs_parts.proofs.SameLogLemmas.{version-same}
 use Rattle.lfs_staging.proofs.CutLemmas.{last_codes-cut}
 use Rattle.lfs_staging.proofs.TakenLemmas.{first_code, frames_after, frames_part, more_codes, takes_none, takes_part}
-use Rattle.lfs_staging.proofs.ViewLemmas.{record_of-waiting}
-use Rattle.lfs_staging.proofs.WaitingLemmas.{length-less, length-rest}
+use Rattle.lfs_parts.proofs.ViewLemmas.{record_of-waiting}
+use Rattle.lfs_parts.proofs.WaitingLemmas.{length-less, length-rest, others_kept}
 
 -- ---- the record that waits
 pub waiting_may : (p : Parts) (number : ℕ) (v : Inode) → IsStaged p 0 → (row_of p.log.tables number).used ≡ true
@@ -181,6 +181,7 @@ module _ (a b : Parts) (v : Inode) (t : FileBlock) (left blocks : ℕ) (may : Ma
     others = λ n other. h.same.records n;
     attributes = λ f is. record { addresses = f.addresses; there = h.same.records v.number ∙ is };
     waits = h.takes.waits.record_waits;
+    other_records = others_kept v.number a.waiting b.waiting h.takes.records;
     many =
         let less = length-less a.waiting v.number may.waits in
         let more = length-rest b.waiting v.number in

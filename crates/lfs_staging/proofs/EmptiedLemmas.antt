@@ -1,5 +1,5 @@
 -- The data blocks of an indirect block and then it go as if each were given back alone (`emptied_more`, `emptied_all`,
--- for `Parts::clear_whole`), though their addresses stay in the block until it goes. `Emptied` holds of parts that no
+-- for `clear_whole`), though their addresses stay in the block until it goes. `Emptied` holds of parts that no
 -- code makes: in these the block waits with bytes that lack the addresses of what went (OtherBytesLemmas); once it goes
 -- too, its bytes are nowhere, and the made-up parts and the true ones are the same (`given_table`). So `clear_whole`
 -- may not return before the block itself went.
@@ -26,23 +26,24 @@ use Rattle.lfs_bmap.specs.Ways.{IsBlockWay, code_at, way_of}
 use Rattle.lfs_bmap.proofs.HolderLemmas.{data_table}
 use Rattle.lfs_bmap.proofs.ReadingLemmas.{address-cell, read-waits}
 use Rattle.lfs_bmap.proofs.WayLemmas.{data_way-double, data_way-single, known_way_of, up_known, way_of-code_of}
-use Rattle.lfs_staging.specs.declared.parts.Parts.{Parts}
+use Rattle.lfs_parts.specs.declared.parts.Parts.{Parts}
 use Rattle.lfs_staging.specs.Addressing.{IsWaiting, Sets, SetsEntry, StaysWaiting}
 use Rattle.lfs_staging.specs.Cutting.{ClearsBlock, ClearsBlocks, ClearsTable, MayClear, MayClearTable}
-use Rattle.lfs_staging.specs.Store.{HolderWaits, IsPresent, IsWithin}
-use Rattle.lfs_staging.specs.View.{key_of, record_of, root_in, tree_of, version_of, waiting_in}
+use Rattle.lfs_parts.specs.Store.{HolderWaits, IsPresent, IsWithin}
+use Rattle.lfs_parts.specs.View.{key_of, record_of, root_in, tree_of, version_of, waiting_in}
 use Rattle.lfs_staging.proofs.ClearingLemmas.{clears_more, clears_none, may_clear, rest_used, rest_version}
 use Rattle.lfs_staging.proofs.ForgettingLemmas.{stays_landed, way_some}
 use Rattle.lfs_staging.proofs.GivenBackLemmas.{Gives, given_back, may_lose}
 use Rattle.lfs_staging.proofs.GivingLemmas.{parent_of}
-use Rattle.lfs_staging.proofs.KeptLemmas.{block_known}
+use Rattle.lfs_parts.proofs.SameLogLemmas.{block_known}
 use Rattle.lfs_staging.proofs.OtherBytesLemmas.{bytes_formed, bytes_here, bytes_locked, bytes_only, bytes_other}
 use Rattle.lfs_staging.proofs.OtherBytesLemmas.{bytes_same, cells-four_zeros, four_zeros, length-bytes_at}
 use Rattle.lfs_staging.proofs.OtherBytesLemmas.{length-four_zeros, with_bytes}
-use Rattle.lfs_staging.proofs.SettingLemmas.{held_table, held_waits, holder_locked, holder_waits, record_same}
+use Rattle.lfs_staging.proofs.SettingLemmas.{held_table, held_waits, holder_locked, holder_waits}
+use Rattle.lfs_parts.proofs.SameLogLemmas.{record_same}
 use Rattle.lfs_staging.proofs.SettingLemmas.{sets_entry, some_there, stays_entry, waiting_record}
 use Rattle.lfs_staging.proofs.TableLemmas.{apart_code, longer, table_same}
-use Rattle.lfs_staging.proofs.ViewLemmas.{code_at-way_to, way_to-some}
+use Rattle.lfs_parts.proofs.ViewLemmas.{code_at-way_to, way_to-some}
 
 -- ---- where an address stands
 pub cell_of : (t : FileBlock) (index : ℕ) → table_of (Data index) ≡ t → code_of t ≢ 0

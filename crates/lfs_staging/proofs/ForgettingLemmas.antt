@@ -3,16 +3,14 @@
 -- Live bytes are a sum over keys, and a key with an address is one of its terms; a block's way is its index and the way
 -- of the block above (`way_some`, by the three ranges of indices). If live bytes were counted another way than by keys,
 -- subtracting could go below zero here.
-use Rattle.std.proofs.Common.{◌≡◌, ◌≢◌, ℕ, ◌-◌, ◌*◌, ◌/◌, ◌%◌, ◌<◌, ◌≤◌, List, [], ◌∷◌, length, IsSome, true, refl, sym}
+use Rattle.std.proofs.Common.{◌≡◌, ◌≢◌, ℕ, ◌-◌, ◌*◌, ◌/◌, ◌%◌, ◌<◌, ◌≤◌, List, [], ◌∷◌, length, IsSome, refl, sym}
 use Rattle.std.proofs.Common.{ap, ◌∙◌, subst, inl, inr, arith}
-use Rattle.std.proofs.lemmas.Bool.{cases_lt, false≢true}
-use Rattle.std.proofs.lemmas.List.{get_or_past}
+use Rattle.std.proofs.lemmas.Bool.{cases_lt}
 use Rattle.std.proofs.lemmas.List.Elements.{All-weaker}
 use Rattle.std.specs.Prelude.{All}
-use Rattle.lfs_ifile.specs.Inode.{fresh_row}
 use Rattle.lfs_cache.specs.Changes.{IsContents}
 use Rattle.lfs_ifile.specs.declared.inode.InodeRow.{InodeRow}
-use Rattle.lfs_ifile.specs.Tables.{row_at, row_of}
+use Rattle.lfs_ifile.specs.Tables.{row_at}
 use Rattle.lfs_inodes.specs.declared.inode.Inode.{Inode}
 use Rattle.lfs_cache.specs.Contents.{block_in}
 use Rattle.lfs_log.specs.Parts.{live_of}
@@ -26,12 +24,13 @@ use Rattle.lfs_bmap.specs.Reading.{address}
 use Rattle.lfs_bmap.specs.Ways.{code_at, way_of}
 use Rattle.lfs_bmap.proofs.CountingLemmas.{live-part, weight-here}
 use Rattle.lfs_bmap.proofs.WayLemmas.{data_way-direct, data_way-double, data_way-single}
-use Rattle.lfs_staging.specs.declared.parts.Parts.{Parts}
-use Rattle.lfs_staging.specs.Keys.{log_state}
-use Rattle.lfs_staging.specs.Addressing.{numbers_of, IsWaiting, StaysWaiting}
-use Rattle.lfs_staging.specs.Store.{HolderWaits, IsPresent}
-use Rattle.lfs_staging.specs.View.{key_of, tree_of, waiting_in}
-use Rattle.lfs_staging.proofs.KeyLemmas.{place-block}
+use Rattle.lfs_parts.specs.declared.parts.Parts.{Parts}
+use Rattle.lfs_parts.specs.Keys.{log_state}
+use Rattle.lfs_parts.specs.Waiting.{numbers_of}
+use Rattle.lfs_staging.specs.Addressing.{IsWaiting, StaysWaiting}
+use Rattle.lfs_parts.specs.Store.{HolderWaits, IsPresent}
+use Rattle.lfs_parts.specs.View.{key_of, tree_of, waiting_in}
+use Rattle.lfs_parts.proofs.KeyLemmas.{place-block}
 
 -- the segment of the old address has the block's live bytes
 pub live_had : (p : Parts) (number code from : ℕ) → IsLog (log_state p) 0 → number < length p.log.tables.rows
@@ -51,15 +50,6 @@ live_had p number code from log low below block is some =
     ∙ weight-here (4 * from) (from / 64) code (λ none. omega arith) (omega arith) in
     let counted = log.counted (from / 64) inside in
     omega (arith, part, weight, counted)
-
--- a number in use is one of the volume
-pub used_low : (p : Parts) (number : ℕ) → (row_of p.log.tables number).used ≡ true → number < length p.log.tables.rows
-used_low p number used =
-    elim (cases_lt number (length p.log.tables.rows)) [
-      | inl low ↦ low
-      | inr past ↦ absurd (false≢true (sym (ap (λ (r : InodeRow). r.used)
-          (get_or_past p.log.tables.rows number fresh_row past)) ∙ used))
-    ]
 
 -- a block's way leads somewhere, but for the record's
 pub way_some : (block : FileBlock) → IsFileBlock block → code_of block ≢ 0 → (i : ℕ) × (up : List ℕ)

@@ -22,19 +22,20 @@ use Rattle.lfs_bmap.specs.Reading.{address}
 use Rattle.lfs_bmap.specs.Ways.{way_of}
 use Rattle.lfs_bmap.proofs.BlockLemmas.{code_of-below}
 use Rattle.lfs_bmap.proofs.WayLemmas.{way_of-code_of}
-use Rattle.lfs_staging.specs.declared.parts.Parts.{Parts}
+use Rattle.lfs_parts.specs.declared.parts.Parts.{Parts}
 use Rattle.lfs_staging.specs.Addressing.{IsWaiting, Sets, StaysWaiting}
-use Rattle.lfs_staging.specs.Clean.{GainsNoClean}
+use Rattle.lfs_parts.specs.Clean.{GainsNoClean}
 use Rattle.lfs_staging.specs.Cutting.{ClearsBlock, MayClear}
-use Rattle.lfs_staging.specs.Keys.{log_state}
+use Rattle.lfs_parts.specs.Keys.{log_state}
 use Rattle.lfs_staging.specs.Staging.{IsStaged}
-use Rattle.lfs_staging.specs.View.{LiesIn, blocks_of, key_of, tree_from, tree_of}
+use Rattle.lfs_parts.specs.View.{LiesIn, blocks_of, key_of, tree_from, tree_of}
 use Rattle.lfs_staging.proofs.ClearedLemmas.{Steps, log_after}
-use Rattle.lfs_staging.proofs.FileLemmas.{tree_from-of}
-use Rattle.lfs_staging.proofs.ForgettingLemmas.{live_had, stays_landed, used_low, waited_parent}
+use Rattle.lfs_parts.proofs.FileLemmas.{tree_from-of}
+use Rattle.lfs_staging.proofs.ForgettingLemmas.{live_had, stays_landed, waited_parent}
+use Rattle.lfs_parts.proofs.SameLogLemmas.{used_low}
 use Rattle.lfs_staging.proofs.GivingLemmas.{beneath_of, cleared, parent_of}
-use Rattle.lfs_staging.proofs.HeldLemmas.{forgets_none}
-use Rattle.lfs_staging.proofs.KeyLemmas.{lies_in, place-block}
+use Rattle.lfs_parts.proofs.HeldLemmas.{forgets_none}
+use Rattle.lfs_parts.proofs.KeyLemmas.{lies_in, place-block}
 use Rattle.lfs_staging.proofs.SettingLemmas.{waiting_record}
 
 -- the file of a record that waits

@@ -1,5 +1,5 @@
 -- Behind a block that was given back the parts are staged still and the rest of the file is what it was: `cleared`, for
--- GivenBackLemmas and so for `Parts::clear`. Of what waits the block alone is gone (`frames_only`, `frames_kept`), and
+-- GivenBackLemmas and so for `clear`. Of what waits the block alone is gone (`frames_only`, `frames_kept`), and
 -- each data block is the same or zeros, so the file stays padded. The hard clause is `ParentsWait`: the block could
 -- hold the address of one that waits, and doesn't because `MayClear` has what stands beneath it go before.
 use Rattle.std.proofs.Common.{◌≡◌, ◌≢◌, ℕ, ◌+◌, ◌/◌, ◌%◌, ◌≤◌, ◌⊎◌, List, [], ◌∷◌, length, Some, IsSome, is_some, true}
@@ -32,18 +32,19 @@ use Rattle.lfs_bmap.specs.Reading.{address, data_block}
 use Rattle.lfs_bmap.specs.Ways.{IsBlockWay, code_at, way_of}
 use Rattle.lfs_bmap.proofs.PieceLemmas.{zero_block-at}
 use Rattle.lfs_bmap.proofs.WayLemmas.{code_at-way_of, known_way_of, up_known, way_of-code_of, way_of-known}
-use Rattle.lfs_staging.specs.declared.records.TheConstants.{WAITING_LIMIT}
-use Rattle.lfs_staging.specs.declared.parts.Parts.{Parts}
+use Rattle.lfs_parts.specs.declared.records.TheConstants.{WAITING_LIMIT}
+use Rattle.lfs_parts.specs.declared.parts.Parts.{Parts}
 use Rattle.lfs_staging.specs.Cutting.{ClearsBlock, KeepsRest, MayClear}
-use Rattle.lfs_staging.specs.Keys.{log_state}
-use Rattle.lfs_staging.specs.Addressing.{StaysWaiting, numbers_of}
+use Rattle.lfs_parts.specs.Keys.{log_state}
+use Rattle.lfs_staging.specs.Addressing.{StaysWaiting}
+use Rattle.lfs_parts.specs.Waiting.{numbers_of}
 use Rattle.lfs_staging.specs.Staging.{IsStaged}
-use Rattle.lfs_staging.specs.Store.{AreFiles, HolderWaits, IsFile, IsPresent, IsWithin, Mirrors, ParentsWait}
-use Rattle.lfs_staging.specs.View.{key_of, record_of, tree_of, version_of, waiting_in}
-use Rattle.lfs_staging.proofs.CleanLemmas.{apart_present, coded_below, logged_kept}
+use Rattle.lfs_parts.specs.Store.{AreFiles, HolderWaits, IsFile, IsPresent, IsWithin, Mirrors, ParentsWait}
+use Rattle.lfs_parts.specs.View.{key_of, record_of, tree_of, version_of, waiting_in}
+use Rattle.lfs_parts.proofs.CleanLemmas.{apart_present, coded_below, logged_kept}
 use Rattle.lfs_staging.proofs.ClearedLemmas.{Steps, address_here, address_rest, address_same, data_same, moves}
 use Rattle.lfs_staging.proofs.ClearedLemmas.{record_other, version_same, waits_key, zeros_here}
-use Rattle.lfs_staging.proofs.FrameLemmas.{once_numbers}
+use Rattle.lfs_parts.proofs.FrameLemmas.{once_numbers}
 use Rattle.lfs_staging.proofs.SettingLemmas.{waiting_record}
 use Rattle.lfs_bmap.proofs.BlockLemmas.{code_of-below, same_block}
 use Rattle.lfs_segments.proofs.MemoryLemmas.{length-zero_block}
@@ -328,6 +329,7 @@ module _ (p s q : Parts) (v : Inode) (block : FileBlock) (i : ℕ) (up : List �
           (stays.same ∙ ap (λ (g : Fields). g.attributes) (same_Some (fields_of v) f (sym record_before ∙ is)));
     };
     waits = record_waits;
+    other_records = stays.others;
     many = let same = as_many in omega arith;
   }
 

@@ -1,5 +1,5 @@
 -- A greater size, bytes put and other attributes show as the content says: `grown_to`, `put_shown`, `attrs_shown`, for
--- `Parts::grow`, `put` and `set_attrs`. A record that waits with the same addresses leaves each block
+-- `grow`, `put` and `set_attrs`. A record that waits with the same addresses leaves each block
 -- (`record_changed`), and blocks put one by one are the `splice` of the file (`put_splice` of `lfs_bmap`). The size may
 -- only grow here, since what is zero past it is zero past a greater one; a smaller one is ShorterLemmas'.
 use Rattle.std.proofs.Common.{◌≡◌, ◌≢◌, ℕ, ◌+◌, ◌*◌, ◌<◌, ◌≤◌, max, List, length, Some, option_map, is_some, sym, ap}
@@ -28,21 +28,22 @@ use Rattle.lfs_bmap.specs.Blocks.{code_of, way_to}
 use Rattle.lfs_bmap.specs.Pieces.{IsPadded, IsPut, file_bytes}
 use Rattle.lfs_bmap.specs.Reading.{address, data_block}
 use Rattle.lfs_bmap.proofs.PieceLemmas.{put_splice}
-use Rattle.lfs_staging.specs.declared.parts.Parts.{Parts}
-use Rattle.lfs_staging.specs.Files.{content_of, file_at, file_with}
+use Rattle.lfs_parts.specs.declared.parts.Parts.{Parts}
+use Rattle.lfs_parts.specs.Files.{content_of, file_at, file_with}
 use Rattle.lfs_staging.specs.Putting.{GrowsTo, MayChange, PutsBytes, with_attrs, with_put}
 use Rattle.lfs_staging.specs.Staging.{IsStaged, MayStage, StagesRecord}
-use Rattle.lfs_staging.specs.Store.{AreFiles, IsFile, IsPresent, IsWithin}
-use Rattle.lfs_staging.specs.View.{LiesIn, blocks_of, key_of, record_of, root_in, tree_of, version_of}
-use Rattle.lfs_staging.specs.Waiting.{without}
-use Rattle.lfs_staging.proofs.CleanLemmas.{mirrors_log}
-use Rattle.lfs_staging.proofs.HeldLemmas.{GainsNoClean-same}
-use Rattle.lfs_staging.proofs.FileLemmas.{file_at-record, file_at-some, get-content_of}
-use Rattle.lfs_staging.proofs.KeptLemmas.{AllWithin, few_records, log_kept, may_present, record_once, record_parents}
+use Rattle.lfs_parts.specs.Store.{AreFiles, IsFile, IsPresent, IsWithin}
+use Rattle.lfs_parts.specs.View.{LiesIn, blocks_of, key_of, record_of, root_in, tree_of, version_of}
+use Rattle.lfs_parts.specs.Waiting.{without}
+use Rattle.lfs_parts.proofs.CleanLemmas.{mirrors_log}
+use Rattle.lfs_parts.proofs.HeldLemmas.{GainsNoClean-same}
+use Rattle.lfs_parts.proofs.FileLemmas.{file_at-record, file_at-some, get-content_of}
+use Rattle.lfs_staging.proofs.KeptLemmas.{AllWithin, few_records, may_present, record_once, record_parents}
+use Rattle.lfs_parts.proofs.SameLogLemmas.{log_kept}
 use Rattle.lfs_staging.proofs.KeptLemmas.{record_present, record_room, record_trees}
-use Rattle.lfs_staging.proofs.StagingLemmas.{version-same}
-use Rattle.lfs_staging.proofs.WaitingLemmas.{length-rest, length-without}
-use Rattle.lfs_staging.proofs.SettingLemmas.{present_kept}
+use Rattle.lfs_parts.proofs.SameLogLemmas.{version-same}
+use Rattle.lfs_parts.proofs.WaitingLemmas.{length-rest, length-without}
+use Rattle.lfs_parts.proofs.SameLogLemmas.{present_kept}
 
 -- The record of a file waits with other attributes, and the file's blocks stay. Nothing else changed.
 pub record ChangesRecord (v w : Inode) (old new : Parts) : Type 0 where

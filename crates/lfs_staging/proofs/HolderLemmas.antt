@@ -3,23 +3,16 @@ use Rattle.std.proofs.Common.{List, [], ap, subst, sym, ℕ, ◌∙◌, ◌∷�
 use Rattle.lfs_cache.specs.Contents.{Contents, IsLocked}
 use Rattle.lfs_bmap.specs.Ways.{code_at, way_of}
 use Rattle.lfs_bmap.proofs.WayLemmas.{way_of-code_of, way_of-zero}
-use Rattle.lfs_staging.specs.Store.{HolderWaits, IsBlockCode}
-use Rattle.lfs_staging.specs.View.{key_of, tree_of, version_of}
+use Rattle.lfs_parts.specs.Store.{HolderWaits, IsBlockCode}
+use Rattle.lfs_parts.specs.View.{key_of, tree_of, version_of}
 use Rattle.lfs_staging.proofs.SettingLemmas.{holder_locked, holder_waits}
-use Rattle.lfs_staging.proofs.ViewLemmas.{code_at-way_to, way_to-some}
+use Rattle.lfs_parts.proofs.ViewLemmas.{code_at-way_to, way_to-some}
 use Rattle.lfs_bmap.specs.declared.blocks.FileBlock.{FileBlock}
 use Rattle.lfs_bmap.specs.Blocks.{IsFileBlock, code_of, table_of, way_to}
 use Rattle.lfs_bmap.proofs.HolderLemmas.{table_of-is, table_of-way}
-use Rattle.lfs_staging.specs.declared.parts.Parts.{Parts}
+use Rattle.lfs_parts.specs.declared.parts.Parts.{Parts}
 use Rattle.lfs_staging.specs.Cutting.{IsGone}
 use Rattle.lfs_bmap.specs.Reading.{address}
-
--- where more waits, it does
-pub holder_kept : (c d : Contents) (number version : ℕ) (up : List ℕ)
-    → ((code : ℕ) → IsLocked (key_of number version code) c → IsLocked (key_of number version code) d)
-    → HolderWaits c number version up → HolderWaits d number version up
-holder_kept c d number version [] more h = tt
-holder_kept c d number version (i ∷ up) more h = more (code_at (i ∷ up)) h
 
 -- what holds the address of a block, where it isn't the record, has a code of its own
 pub holder_coded : (block : FileBlock) → IsFileBlock block → (i : ℕ) (up : List ℕ) → way_to block ≡ i ∷ up → up ≢ []

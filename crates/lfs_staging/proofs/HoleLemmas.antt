@@ -11,14 +11,14 @@ use Rattle.lfs_bmap.specs.Ways.{IsBlockWay, code_at}
 use Rattle.lfs_bmap.proofs.HolderLemmas.{table_of-way}
 use Rattle.lfs_bmap.proofs.ReadingLemmas.{address-cell, read-via, table-cells, via-none}
 use Rattle.lfs_bmap.proofs.WayLemmas.{known_way_of}
-use Rattle.lfs_staging.specs.declared.parts.Parts.{Parts}
+use Rattle.lfs_parts.specs.declared.parts.Parts.{Parts}
 use Rattle.lfs_staging.specs.Cutting.{IsGone}
-use Rattle.lfs_staging.specs.Store.{ParentsWait}
-use Rattle.lfs_staging.specs.View.{key_of, tree_of, version_of}
+use Rattle.lfs_parts.specs.Store.{ParentsWait}
+use Rattle.lfs_parts.specs.View.{key_of, tree_of, version_of}
 use Rattle.lfs_staging.proofs.ForgettingLemmas.{way_some}
-use Rattle.lfs_staging.proofs.KeptLemmas.{block_known}
+use Rattle.lfs_parts.proofs.SameLogLemmas.{block_known}
 use Rattle.lfs_staging.proofs.SettingLemmas.{holder_locked}
-use Rattle.lfs_staging.proofs.ViewLemmas.{not_locked, way_to-some}
+use Rattle.lfs_parts.proofs.ViewLemmas.{not_locked, way_to-some}
 
 hole_gone : (p : Parts) (number : ℕ) (t : FileBlock) → ParentsWait p → code_of t ≢ 0 → IsGone p number (way_to t)
     → (j : ℕ) → IsBlockWay (j ∷ way_to t)

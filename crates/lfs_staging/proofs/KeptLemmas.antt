@@ -1,5 +1,5 @@
 -- What is staged with the bytes that it has changes no file, and what is staged with others changes its own block
--- alone: `own_staged`, `table_again`, `data_again`, `data_kept`, for `Parts::stage_own_record`, `stage_with_parents`
+-- alone: `own_staged`, `table_again`, `data_again`, `data_kept`, for `stage_own_record`, `stage_with_parents`
 -- and `stage_data`. Staging touches neither the log nor an address, so `IsLog` stays (`log_kept`); and a data block
 -- stands on no other block's way, so other bytes in it show nowhere else. The hard clause is `ParentsWait`: the record
 -- and the holder are staged before the block, and in another order `block_parents` falls.
@@ -8,7 +8,7 @@ use Rattle.std.proofs.Common.{is_some, true, refl, sym, ap, ◌∙◌, subst, in
 use Rattle.std.specs.Prelude.{slice_index}
 use Rattle.std.proofs.lemmas.Option.{same_Some}
 use Rattle.std.proofs.lemmas.Bool.{cases_eq, cases_lt}
-use Rattle.std.proofs.lemmas.List.Elements.{All-cons, All-weaker}
+use Rattle.std.proofs.lemmas.List.Elements.{All-cons}
 use Rattle.lfs_ifile.specs.Tables.{row_of}
 use Rattle.lfs_inodes.specs.declared.inode.Inode.{Inode}
 use Rattle.lfs_inodes.specs.Facts.{block_count}
@@ -17,96 +17,45 @@ use Rattle.lfs_cache.specs.declared.key.Key.{Key}
 use Rattle.lfs_cache.specs.Changes.{IsContents}
 use Rattle.lfs_cache.specs.Contents.{Contents, IsLocked, block_in}
 use Rattle.lfs_segments.specs.Log.{Expects}
-use Rattle.lfs_segments.specs.Memory.{block_at, next_address}
-use Rattle.lfs_log.specs.Names.{named_at}
-use Rattle.lfs_log.specs.Parts.{IsParts, LogParts, live_of, record_place, state_of}
+use Rattle.lfs_segments.specs.Memory.{block_at}
+use Rattle.lfs_log.specs.Parts.{LogParts}
 use Rattle.lfs_bmap.specs.declared.blocks.FileBlock.{FileBlock}
 use Rattle.lfs_bmap.specs.declared.blocks.FileBlock.TheVariants.{Record, Data}
 use Rattle.lfs_bmap.specs.Blocks.{code_of, table_of, way_to}
-use Rattle.lfs_bmap.specs.Log.{IsLog, SameKeys}
 use Rattle.lfs_bmap.specs.Pieces.{IsPadded}
 use Rattle.lfs_bmap.specs.Reading.{SameReadings, Stages, address, data_block, read}
 use Rattle.lfs_bmap.specs.Ways.{IsBlockWay, code_at, codes_on, way_of}
 use Rattle.lfs_bmap.specs.Blocks.{IsFileBlock}
-use Rattle.lfs_bmap.proofs.BlockLemmas.{code_of-below}
-use Rattle.lfs_bmap.proofs.LogLemmas.{written_log}
 use Rattle.lfs_bmap.proofs.PlaceLemmas.{data_block-past, data_block-read, data_block-same}
 use Rattle.lfs_bmap.proofs.ReadingLemmas.{SameReadings-refl, SameReadings-trans, data_leaf, read-waits}
 use Rattle.lfs_bmap.proofs.ReadingLemmas.{staged_addresses, staged_bytes, staged_others, staged_same}
 use Rattle.lfs_bmap.proofs.WayLemmas.{same_code, way_of-code_of, way_of-data, way_of-known}
-use Rattle.lfs_staging.specs.declared.parts.Parts.{Parts}
-use Rattle.lfs_staging.specs.Keys.{log_state}
+use Rattle.lfs_parts.specs.declared.parts.Parts.{Parts}
 use Rattle.lfs_staging.specs.Staging.{HasParents, IsStaged, IsZeroPast, MayStage, SameFiles, StagesBlock}
 use Rattle.lfs_staging.specs.Staging.{StagesData, StagesOwnRecord, StagesParents, StagesRecord, StagesTable}
 use Rattle.lfs_staging.specs.Staging.{TakesFrames, TakesOnly}
-use Rattle.lfs_staging.specs.Store.{AreFiles, HolderWaits, IsBlockCode, IsPresent, IsStore, IsWithin, Mirrors}
-use Rattle.lfs_staging.specs.Store.{ParentsWait}
-use Rattle.lfs_staging.specs.View.{key_of, record_of, root_in, tree_of, version_of, waiting_in}
-use Rattle.lfs_staging.specs.Waiting.{AreOnce, without}
-use Rattle.lfs_staging.proofs.KeyLemmas.{place-block, place-record}
-use Rattle.lfs_staging.proofs.HolderLemmas.{holder_kept}
-use Rattle.lfs_staging.proofs.SettingLemmas.{holder_waits, present_kept, record_same, some_there}
-use Rattle.lfs_staging.proofs.StagingLemmas.{version-same}
-use Rattle.lfs_staging.proofs.CleanLemmas.{coded_block, mirrors_log}
-use Rattle.lfs_staging.proofs.HeldLemmas.{GainsNoClean-refl, GainsNoClean-same}
-use Rattle.lfs_staging.proofs.ViewLemmas.{code_at-way_to}
-use Rattle.lfs_staging.proofs.WaitingLemmas.{all_without, length-rest, once_staged, without-staged, waiting-head}
-use Rattle.lfs_staging.proofs.WaitingLemmas.{waiting-staged}
+use Rattle.lfs_parts.specs.Store.{AreFiles, HolderWaits, IsBlockCode, IsPresent, IsStore, IsWithin}
+use Rattle.lfs_parts.specs.Store.{ParentsWait}
+use Rattle.lfs_parts.specs.View.{key_of, record_of, root_in, tree_of, version_of, waiting_in}
+use Rattle.lfs_parts.specs.Waiting.{AreOnce, without}
+use Rattle.lfs_parts.proofs.SameLogLemmas.{holder_kept}
+use Rattle.lfs_staging.proofs.SettingLemmas.{holder_waits, some_there}
+use Rattle.lfs_parts.proofs.SameLogLemmas.{present_kept, record_same, version-same}
+use Rattle.lfs_parts.proofs.CleanLemmas.{coded_block, mirrors_log}
+use Rattle.lfs_parts.proofs.HeldLemmas.{GainsNoClean-refl, GainsNoClean-same}
+use Rattle.lfs_parts.proofs.ViewLemmas.{code_at-way_to}
+use Rattle.lfs_parts.proofs.WaitingLemmas.{all_without, length-rest, once_staged, without-staged, waiting-head}
+use Rattle.lfs_parts.proofs.WaitingLemmas.{waiting-staged}
 use Rattle.lfs_staging.proofs.TakenLemmas.{block_takes, takes_none}
 use Rattle.lfs_bmap.proofs.HolderLemmas.{codes_on-below, table_of-under, table_of-way}
 use Rattle.std.specs.List.{Contains}
 use Rattle.lfs_types.specs.declared.limits.TheConstants.{FILE_BLOCKS}
+use Rattle.lfs_parts.proofs.SameLogLemmas.{block_known, log_kept, files_kept}
 
 -- each block that waits lies within the size of its file
 abbrev pub AllWithin : Parts → Type 0
 AllWithin p = (number : ℕ) (block : FileBlock) (f : Fields) → record_of p number ≡ Some f → IsFileBlock block
     → IsLocked (key_of number (version_of p number) (code_of block)) p.cache → IsWithin block f.attributes.size
-
--- the way of a block
-pub block_known : (block : FileBlock) → IsFileBlock block → IsBlockWay (way_to block)
-block_known block is = subst IsBlockWay (way_of-code_of block is)
-    (way_of-known (code_of block) (code_of-below block is))
-
--- ---- the log, where it and the addresses stay
--- each key has the place that it had
-pub keys_kept : (old new : Parts) → new.log ≡ old.log
-    → ((n : ℕ) (way : List ℕ) → IsBlockWay way → address (tree_of new n) way ≡ address (tree_of old n) way)
-    → SameKeys (log_state old) (log_state new)
-keys_kept old new log addresses = record {
-  numbers = ap (λ (l : LogParts). length l.tables.rows) log;
-  segments = ap (λ (l : LogParts). l.memory.segments) log;
-  places = λ n code low below. elim (cases_eq code 0) [
-    | inl record_ ↦
-        ap ((log_state new).at n) record_ ∙ place-record new n ∙ ap (λ (l : LogParts). record_place l.tables n) log
-        ∙ sym (ap ((log_state old).at n) record_ ∙ place-record old n)
-    | inr block ↦
-        place-block new n code block ∙ ap (λ a. 4 * a) (addresses n (way_of code) (way_of-known code below))
-        ∙ sym (place-block old n code block)
-  ];
-  versions = λ n low. version-same old new n log;
-}
-
-pub log_kept : (old new : Parts) (spare : ℕ) → new.log ≡ old.log
-    → ((n : ℕ) (way : List ℕ) → IsBlockWay way → address (tree_of new n) way ≡ address (tree_of old n) way)
-    → IsLog (log_state old) spare → IsLog (log_state new) spare
-log_kept old new spare log addresses h =
-    let to = h.segments.to in
-    let next : next_address new.log.memory ≡ next_address old.log.memory =
-    ap (λ (l : LogParts). next_address l.memory) log in
-    let written = written_log (log_state old) (log_state new) spare 0 h (record {
-      keys = keys_kept old new log addresses;
-      used = record {
-        states = λ s low. ap (λ (l : LogParts). state_of l.tables s) log;
-        clean = ap (λ (l : LogParts). l.clean) log;
-      };
-      live = λ s low. ap (λ (l : LogParts). live_of l.tables s) log;
-      active = ap (λ (l : LogParts). l.memory.active) log;
-      next = omega arith;
-      room = omega arith;
-      owners = λ place written. ap (λ (l : LogParts). named_at l.memory place) log;
-    }) in
-    let none : spare + 512 * 0 ≡ spare = omega arith in
-    subst (IsLog (log_state new)) none written
 
 -- ---- the files
 pub padded_same : (old new : ℕ → List ℕ) (size : ℕ) → IsPadded old size → ((n : ℕ) → new n ≡ old n) → IsPadded new size
@@ -128,38 +77,6 @@ padded_put old new index size bytes h others here whole zeros = record {
         ∙ zeros (i % 512) (omega arith) (omega arith)
     | inr other ↦ ap (λ b. slice_index b (i % 512)) (others (i / 512) other) ∙ h.zeros i past
   ];
-}
-
-pub files_kept : (old new : Parts) → AreFiles old → new.log ≡ old.log → ((n : ℕ) → record_of new n ≡ record_of old n)
-    → ((n : ℕ) (way : List ℕ) → IsBlockWay way → address (tree_of new n) way ≡ address (tree_of old n) way)
-    → ((n : ℕ) (f : Fields) → record_of old n ≡ Some f → IsPadded (data_block (tree_of old n)) f.attributes.size
-    → IsPadded (data_block (tree_of new n)) f.attributes.size)
-    → IsContents new.cache → Mirrors new
-    → All (λ (v : Inode). IsPresent old v.number v.version) new.waiting
-    → ((key : Key) → IsLocked key new.cache → IsPresent old key.ino key.version)
-    → ((key : Key) → IsLocked key new.cache → IsBlockCode key.lbn.0) → AreFiles new
-files_kept old new h log records addresses padded formed mirrors waiting frames coded = record {
-  parts = subst IsParts (sym log) h.parts;
-  cache = formed;
-  reserved = λ n low other. ap (λ (l : LogParts). (row_of l.tables n).used) log ∙ h.reserved n low other;
-  recorded = λ n used. ap is_some (records n)
-      ∙ h.recorded n (sym (ap (λ (l : LogParts). (row_of l.tables n).used) log) ∙ used);
-  files = λ n f is.
-      let is_old = sym (records n) ∙ is in
-      let was = h.files n f is_old in
-      record {
-        formed = was.formed;
-        own_number = was.own_number;
-        own_version = was.own_version ∙ sym (version-same old new n log);
-        none_past = λ block is past. addresses n (way_to block) (block_known block is) ∙ was.none_past block is past;
-        padded = padded n f is_old was.padded;
-      };
-  records = All-weaker (λ (v : Inode). IsPresent old v.number v.version)
-      (λ (v : Inode). IsPresent new v.number v.version)
-      (λ v present. present_kept old new v.number v.version log present) new.waiting waiting;
-  frames = λ key locked. present_kept old new key.ino key.version log (frames key locked);
-  coded = coded;
-  mirrors = mirrors;
 }
 
 -- the same files are well formed still

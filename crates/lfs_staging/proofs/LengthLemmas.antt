@@ -20,13 +20,13 @@ use Rattle.lfs_inodes.specs.Reading.{Fields, fields_of}
 use Rattle.lfs_bmap.specs.Pieces.{IsBlockCut, IsPadded, file_bytes}
 use Rattle.lfs_bmap.specs.Reading.{data_block}
 use Rattle.lfs_bmap.proofs.PieceLemmas.{cut_resized, longer_cut}
-use Rattle.lfs_staging.specs.declared.parts.Parts.{Parts}
+use Rattle.lfs_parts.specs.declared.parts.Parts.{Parts}
 use Rattle.lfs_staging.specs.Cutting.{CutsFile, HasAttributes, with_length}
-use Rattle.lfs_staging.specs.Files.{content_of, file_at, file_with}
+use Rattle.lfs_parts.specs.Files.{content_of, file_at, file_with}
 use Rattle.lfs_staging.specs.Putting.{GrowsTo}
 use Rattle.lfs_staging.specs.Staging.{MayStage, StagesRecord}
-use Rattle.lfs_staging.specs.View.{record_of, tree_of}
-use Rattle.lfs_staging.proofs.FileLemmas.{file_at-record, file_at-some, get-content_of}
+use Rattle.lfs_parts.specs.View.{record_of, tree_of}
+use Rattle.lfs_parts.proofs.FileLemmas.{file_at-record, file_at-some, get-content_of}
 use Rattle.lfs_staging.proofs.GrowthLemmas.{file_from, grown_to}
 
 module _ (old new : Parts) (number len : ℕ) (f : Fields) (has : record_of old number ≡ Some f)

@@ -1,19 +1,9 @@
-pub mod FileLemmas
-pub mod KeyLemmas
-pub mod OpeningLemmas
-pub mod ReadLemmas
-pub mod RecordsLemmas
-pub mod ReadingBlockLemmas
-pub mod ReplacingLemmas
-pub mod SameContentLemmas
 pub mod SettingLemmas
-pub mod ViewLemmas
 pub mod StagedLemmas
 pub mod StagingLemmas
 pub mod HoleLemmas
 pub mod HolderLemmas
 pub mod TakenLemmas
-pub mod WaitingLemmas
 pub mod KeptLemmas
 pub mod PuttingLemmas
 pub mod WholeLemmas
@@ -24,7 +14,6 @@ pub mod TakingLemmas
 pub mod TableLemmas
 pub mod UnstagedLemmas
 pub mod ClearedLemmas
-pub mod FrameLemmas
 pub mod ClearingLemmas
 pub mod DroppingLemmas
 pub mod CutLemmas
@@ -33,9 +22,6 @@ pub mod NewFileLemmas
 pub mod CutFileLemmas
 pub mod LengthLemmas
 pub mod ForgettingLemmas
-pub mod CleanLemmas
-pub mod FilledLemmas
-pub mod HeldLemmas
 pub mod HeldFrames
 pub mod OtherBytesLemmas
 pub mod OtherNumbers

@@ -4,7 +4,7 @@
 -- place that could move. Clean blocks that are held must not be the number's either, which `files_still` asks for.
 use Rattle.std.proofs.Common.{false, ◌≡◌, ◌≢◌, ℕ, ◌+◌, ◌*◌, ◌<◌, ◌≤◌, List, All, length, None, Some, IsSome, is_some}
 use Rattle.std.proofs.Common.{option_and_then, option_map, true, refl, sym, ap, ◌∙◌, subst, inl, inr, arith}
-use Rattle.std.specs.Prelude.{if◌then◌else◌, ◌==◌, slice_index}
+use Rattle.std.specs.Prelude.{slice_index}
 use Rattle.std.proofs.lemmas.Bool.{cases_eq}
 use Rattle.lfs_ifile.specs.declared.inode.InodePlace.{InodePlace}
 use Rattle.lfs_ifile.specs.declared.inode.InodeRow.{InodeRow}
@@ -26,20 +26,21 @@ use Rattle.lfs_bmap.specs.Pieces.{IsPadded}
 use Rattle.lfs_bmap.specs.Reading.{address, data_block}
 use Rattle.lfs_bmap.specs.Ways.{code_at, way_of}
 use Rattle.lfs_bmap.proofs.LogLemmas.{written_log}
-use Rattle.lfs_staging.specs.declared.records.TheConstants.{WAITING_LIMIT}
-use Rattle.lfs_staging.specs.declared.parts.Parts.{Parts}
+use Rattle.lfs_parts.specs.declared.records.TheConstants.{WAITING_LIMIT}
+use Rattle.lfs_parts.specs.declared.parts.Parts.{Parts}
 use Rattle.lfs_staging.specs.Changing.{StaysInLog}
-use Rattle.lfs_staging.specs.Files.{file_at, file_with}
-use Rattle.lfs_staging.specs.Keys.{log_state}
+use Rattle.lfs_parts.specs.Files.{file_at, file_with}
+use Rattle.lfs_parts.specs.Keys.{log_state}
 use Rattle.lfs_staging.proofs.OtherNumbers.{KeepsOthers}
 use Rattle.lfs_staging.specs.Staging.{IsStaged}
-use Rattle.lfs_staging.specs.Store.{AreFiles, HolderWaits, IsFile, IsLogged, IsPresent, ParentsWait}
-use Rattle.lfs_staging.specs.View.{fields_at, key_of, record_of, root_in, tree_of, version_of, waiting_in, waiting_or}
-use Rattle.lfs_staging.specs.Waiting.{AreOnce}
-use Rattle.lfs_staging.proofs.CleanLemmas.{logged_kept}
-use Rattle.lfs_staging.proofs.FileLemmas.{file_at-record}
-use Rattle.lfs_staging.proofs.KeyLemmas.{place-block, place-record, unplaced}
-use Rattle.lfs_staging.proofs.ViewLemmas.{not_locked, nowhere}
+use Rattle.lfs_parts.specs.Store.{AreFiles, HolderWaits, IsFile, IsLogged, IsPresent, ParentsWait}
+use Rattle.lfs_parts.specs.View.{fields_at, key_of, record_of, root_in, tree_of, version_of, waiting_in, waiting_or}
+use Rattle.lfs_parts.specs.Waiting.{AreOnce}
+use Rattle.lfs_parts.proofs.CleanLemmas.{logged_kept}
+use Rattle.lfs_parts.proofs.FileLemmas.{file_at-record}
+use Rattle.lfs_parts.proofs.KeyLemmas.{place-block, place-record, unplaced}
+use Rattle.lfs_parts.proofs.ViewLemmas.{not_locked, nowhere}
+use Rattle.lfs_parts.proofs.SameLogLemmas.{place_in_row}
 
 -- A number has no block: none of it waits, and its record, if it has one, has no address.
 pub record HasNoBlock (p : Parts) (number : ℕ) : Type 0 where
@@ -63,10 +64,6 @@ log_at p spare was now same h =
     }) in
     let none : spare + 512 * 0 ≡ spare = omega arith in
     subst (IsLog (log.log_state p now)) none written
-
--- the place in a row of the inode map
-abbrev pub place_in_row : InodeRow → ℕ
-place_in_row row = if row.address == 0 then 0 else 4 * row.address + row.slot
 
 -- ---- a number without blocks
 module _ (p : Parts) (number : ℕ) (h : HasNoBlock p number) where

@@ -1,5 +1,5 @@
 -- A free number is given out to an empty file, and nothing else of the content changes: `made_staged`, `made_content`,
--- `made_versions`, for `Parts::make`. Frames are of numbers in use, so a free one has none, and its new record has no
+-- `made_versions`, for `make`. Frames are of numbers in use, so a free one has none, and its new record has no
 -- address: each block reads as zeros, and the file is well formed at any size; MakingLemmas has the rest. The version
 -- is raised each time, which is what tells the new file's keys from those of an older one in the log.
 use Rattle.std.proofs.Common.{◌≡◌, ◌≢◌, ℕ, ◌+◌, ◌/◌, ◌%◌, ◌<◌, ◌≤◌, List, [], ◌∷◌, All, length, Some, is_some, false}
@@ -38,23 +38,23 @@ use Rattle.lfs_bmap.specs.Ways.{data_way}
 use Rattle.lfs_bmap.proofs.LogLemmas.{renewed_log}
 use Rattle.lfs_bmap.proofs.PieceLemmas.{zero_block-at}
 use Rattle.lfs_bmap.proofs.PlaceLemmas.{data_block-past}
-use Rattle.lfs_staging.specs.declared.parts.Parts.{Parts}
-use Rattle.lfs_staging.specs.declared.records.TheConstants.{WAITING_LIMIT}
+use Rattle.lfs_parts.specs.declared.parts.Parts.{Parts}
+use Rattle.lfs_parts.specs.declared.records.TheConstants.{WAITING_LIMIT}
 use Rattle.lfs_staging.specs.Changing.{StaysInLog}
-use Rattle.lfs_staging.specs.Files.{content_of, file_at}
-use Rattle.lfs_staging.specs.Keys.{log_state}
+use Rattle.lfs_parts.specs.Files.{content_of, file_at}
+use Rattle.lfs_parts.specs.Keys.{log_state}
 use Rattle.lfs_staging.proofs.OtherNumbers.{KeepsOthers}
 use Rattle.lfs_staging.specs.Staging.{IsStaged}
-use Rattle.lfs_staging.specs.Store.{AreFiles, IsFile, IsPresent}
-use Rattle.lfs_staging.specs.View.{record_of, root_in, tree_of, version_of, waiting_in}
-use Rattle.lfs_staging.specs.Waiting.{AreOnce, without}
-use Rattle.lfs_staging.proofs.FileLemmas.{file_at-some, free_place, get-content_of}
-use Rattle.lfs_staging.proofs.KeyLemmas.{unused_nowhere}
+use Rattle.lfs_parts.specs.Store.{AreFiles, IsFile, IsPresent}
+use Rattle.lfs_parts.specs.View.{record_of, root_in, tree_of, version_of, waiting_in}
+use Rattle.lfs_parts.specs.Waiting.{AreOnce, without}
+use Rattle.lfs_parts.proofs.FileLemmas.{file_at-some, free_place, get-content_of}
+use Rattle.lfs_parts.proofs.KeyLemmas.{unused_nowhere}
 use Rattle.lfs_staging.proofs.MakingLemmas.{all_nowhere, files_still, log_still, none_addressed, none_waits, other_file}
 use Rattle.lfs_staging.proofs.MakingLemmas.{other_present, other_version, staged_still, stays_in_log, HasNoBlock}
-use Rattle.lfs_staging.proofs.ReadLemmas.{data_block-read, no_bytes}
-use Rattle.lfs_staging.proofs.ViewLemmas.{all_zeros}
-use Rattle.lfs_staging.proofs.WaitingLemmas.{all_without, length-without, once_staged, waiting-staged}
+use Rattle.lfs_parts.proofs.ReadLemmas.{data_block-read, no_bytes}
+use Rattle.lfs_parts.proofs.ViewLemmas.{all_zeros}
+use Rattle.lfs_parts.proofs.WaitingLemmas.{all_without, length-without, once_staged, waiting-staged}
 use Rattle.lfs_bmap.specs.Blocks.{way_to}
 use Rattle.lfs_segments.proofs.MemoryLemmas.{length-zero_block}
 

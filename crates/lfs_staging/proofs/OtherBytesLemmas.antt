@@ -17,7 +17,7 @@ use Rattle.lfs_cache.specs.Keys.{same_key}
 use Rattle.lfs_cache.specs.Changes.{IsContents}
 use Rattle.lfs_cache.specs.Contents.{AreApart, Contents, IsLocked, Lacks, block_in, block_of, keys_of, or_else}
 use Rattle.lfs_cache.proofs.Entries.{same_cases, same_is}
-use Rattle.lfs_staging.proofs.HeldLemmas.{locked_apart}
+use Rattle.lfs_parts.proofs.HeldLemmas.{locked_apart}
 
 -- ---- a list of blocks by key
 -- one of them with other bytes, where it is there

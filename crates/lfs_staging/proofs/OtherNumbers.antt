@@ -1,12 +1,12 @@
--- What stays of the other numbers where one is given out or taken back: `KeepsOthers` for `Parts::make`, `Forgets` for
--- `Parts::remove`, whose clauses say the rest. Both are of rows and waiting records, by number, as the lemmas of trees ask
+-- What stays of the other numbers where one is given out or taken back: `KeepsOthers` for `make`, `Forgets` for
+-- `remove`, whose clauses say the rest. Both are of rows and waiting records, by number, as the lemmas of trees ask
 -- for them; the contracts speak of the content and the versions alone.
 use Rattle.std.specs.Prelude.{◌≡◌, ◌≢◌, ℕ, length, false}
 use Rattle.lfs_ifile.specs.Tables.{row_of}
 use Rattle.lfs_log.specs.Parts.{IsParts}
-use Rattle.lfs_staging.specs.declared.parts.Parts.{Parts}
-use Rattle.lfs_staging.specs.View.{waiting_in}
-use Rattle.lfs_staging.specs.Waiting.{without}
+use Rattle.lfs_parts.specs.declared.parts.Parts.{Parts}
+use Rattle.lfs_parts.specs.View.{waiting_in}
+use Rattle.lfs_parts.specs.Waiting.{without}
 
 -- Nothing changed but live bytes and what is of one number: no block, no frame, no other row and no other record.
 pub record KeepsOthers (number : ℕ) (old new : Parts) : Type 0 where

@@ -1,4 +1,4 @@
--- `Parts::put_blocks` puts bytes into one block after another, and at the end each block has what falls into it
+-- `put_blocks` puts bytes into one block after another, and at the end each block has what falls into it
 -- (`put_one`, `put_more`, `put_all`). Below the loop's index all is put, from it on nothing (`PutsBelow`); what waits
 -- more has a code of `put_codes`, which is as long as `frames_of_put` says, so the room that was asked for once is
 -- enough for every block (`takes_room`). The length rests on `table_of-later`: the holders of a run of data blocks have
@@ -23,12 +23,12 @@ use Rattle.lfs_bmap.proofs.TableLemmas.{codes_on-first, codes_on-long, codes_on-
 use Rattle.lfs_staging.proofs.TakenLemmas.{first_code, frames_after, frames_enough, frames_part, more_codes, taken_most}
 use Rattle.lfs_staging.proofs.TakenLemmas.{takes_both, takes_none, takes_part, takes_version}
 use Rattle.lfs_bmap.proofs.PieceLemmas.{byte_put-after, untouched_put}
-use Rattle.lfs_staging.specs.declared.parts.Parts.{Parts}
-use Rattle.lfs_staging.specs.Putting.{PutsBlock, PutsBytes, blocks_of_put, frames_of_put}
+use Rattle.lfs_parts.specs.declared.parts.Parts.{Parts}
+use Rattle.lfs_staging.specs.Putting.{PutsBlock, PutsBytes, TakesPut, blocks_of_put, frames_of_put}
 use Rattle.lfs_staging.specs.Staging.{HasFrames, IsStaged, IsZeroPast, MayStage, StagesData, TakesFrames, TakesOnly}
-use Rattle.lfs_staging.specs.View.{tree_of, version_of, record_of}
-use Rattle.lfs_staging.proofs.StagingLemmas.{version-same}
-use Rattle.lfs_staging.specs.Waiting.{without}
+use Rattle.lfs_parts.specs.View.{key_of, tree_of, version_of, record_of}
+use Rattle.lfs_parts.proofs.SameLogLemmas.{version-same}
+use Rattle.lfs_parts.specs.Waiting.{without}
 
 -- What waits more are blocks of a number that have one of some codes, and the record of the number.
 pub record TakesBelow (number : ℕ) (codes : List ℕ) (old new : Parts) : Type 0 where
@@ -219,6 +219,24 @@ takes_more a b c number start count index p log q inside from to some = record {
   records = q.records ∙ p.records;
 }
 
+-- what bytes put into a file take, and what leads there
+pub only_first : (p : Parts) (number start count : ℕ) → TakesPut number (version_of p number) start count p.cache
+    p.cache
+only_first p number start count = λ key locked. inr locked
+
+pub only_more : (a b c : Parts) (number start count index : ℕ)
+    → TakesPut number (version_of a number) start count a.cache b.cache → b.log ≡ a.log
+    → TakesFrames number (Data index) b c → Touches start (start + count) index
+    → TakesPut number (version_of a number) start count a.cache c.cache
+only_more a b c number start count index p log q touched = λ key locked. elim (q.takes key locked) [
+  | inl one ↦ inl (
+    one.0,
+    record { index = index; touched = touched; on_way = one.1 },
+    one.2 ∙ ap (λ n. key_of number n one.0) (version-same a b number log),
+  )
+  | inr was ↦ p key was
+]
+
 -- there are frames for one more where there are for all
 pub takes_room : (old p : Parts) (number start count index : ℕ) → index < FILE_BLOCKS → start / 512 ≤ index
     → index < (start + count - 1) / 512 + 1 → 0 < count
@@ -236,8 +254,9 @@ pub put_all : (old new : Parts) (v : Inode) (start : ℕ) (bytes : List ℕ) (en
     → PutsBelow v start bytes end old new
     → ((n : ℕ) → Touches start (start + length bytes) n → n < end)
     → TakesBelow v.number (put_codes start (length bytes)) old new
+    → TakesPut v.number (version_of old v.number) start (length bytes) old.cache new.cache
     → PutsBytes v start bytes old new
-put_all old new v start bytes end may h last takes =
+put_all old new v start bytes end may h last takes only =
     let padded = (may.files.files v.number (fields_of v) may.here).padded in
     record {
       log = h.log;
@@ -258,5 +277,6 @@ put_all old new v start bytes end may h last takes =
           let most = taken_most v.number (version_of old v.number)
           (put_codes start (length bytes)) old.cache new.cache h.again.files.cache takes.takes in
           omega arith;
+      only = only;
       waiting = takes.records;
     }

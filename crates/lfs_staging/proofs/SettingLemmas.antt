@@ -1,16 +1,15 @@
 -- An address set in what holds it changes that one cell: `sets_record` and `stays_record`, `sets_entry` and
--- `stays_entry`, for the two arms of `Parts::set_address`. At the empty way the record that waits is replaced by one
+-- `stays_entry`, for the two arms of `set_address`. At the empty way the record that waits is replaced by one
 -- with the same attributes; else four bytes of a LOCKED frame change, and the table of a block that waits is the cells
 -- of its frame (`held_table`). It stands on `ParentsWait`: were the holder in the log alone, there would be nothing to
 -- write into.
-use Rattle.std.proofs.Common.{◌≡◌, ◌≢◌, ℕ, List, length, [], ◌∷◌, Option, None, Some, IsSome, false, option_and_then}
+use Rattle.std.proofs.Common.{◌≡◌, ◌≢◌, ℕ, List, length, [], ◌∷◌, Option, None, Some, IsSome, false}
 use Rattle.std.proofs.Common.{is_some, refl, sym, ap, ◌∙◌, subst}
 use Rattle.std.specs.Prelude.{slice_set, All}
 use Rattle.std.proofs.lemmas.Bool.{cond-true}
 use Rattle.std.proofs.lemmas.List.Elements.{All-weaker}
 use Rattle.lfs_cache.specs.Changes.{IsContents}
-use Rattle.lfs_ifile.specs.declared.inode.InodePlace.{InodePlace}
-use Rattle.lfs_ifile.specs.Tables.{place_of, row_of}
+use Rattle.lfs_ifile.specs.Tables.{row_of}
 use Rattle.lfs_inodes.specs.declared.inode.Inode.{Inode}
 use Rattle.lfs_inodes.specs.Addresses.{addresses, cells}
 use Rattle.lfs_inodes.specs.Attributes.{Attributes, attributes}
@@ -23,24 +22,16 @@ use Rattle.lfs_bmap.specs.declared.blocks.FileBlock.{FileBlock}
 use Rattle.lfs_bmap.specs.Blocks.{code_of, way_to}
 use Rattle.lfs_bmap.specs.Ways.{code_at}
 use Rattle.lfs_bmap.proofs.ReadingLemmas.{table-cells, table-root, read-waits}
-use Rattle.lfs_staging.specs.declared.parts.Parts.{Parts}
-use Rattle.lfs_staging.specs.Addressing.{numbers_of, IsWaiting, Replaces, Sets, SetsEntry, StaysWaiting, replaced}
-use Rattle.lfs_staging.specs.Store.{HolderWaits, IsPresent}
-use Rattle.lfs_staging.specs.View.{fields_at, key_of, record_of, root_in, tree_of, version_of, waiting_in, waiting_or}
-use Rattle.lfs_staging.proofs.HeldLemmas.{GainsNoClean-same}
-use Rattle.lfs_staging.proofs.ViewLemmas.{code_at-way_to, record_of-waiting}
-use Rattle.lfs_staging.proofs.ReplacingLemmas.{each_replaced}
+use Rattle.lfs_parts.specs.declared.parts.Parts.{Parts}
+use Rattle.lfs_parts.specs.Waiting.{numbers_of, Replaces, replaced}
+use Rattle.lfs_staging.specs.Addressing.{IsWaiting, Sets, SetsEntry, StaysWaiting}
+use Rattle.lfs_parts.specs.Store.{HolderWaits, IsPresent}
+use Rattle.lfs_parts.specs.View.{key_of, record_of, root_in, tree_of, version_of, waiting_in}
+use Rattle.lfs_parts.proofs.HeldLemmas.{GainsNoClean-same}
+use Rattle.lfs_parts.proofs.ViewLemmas.{code_at-way_to, record_of-waiting}
+use Rattle.lfs_parts.proofs.ReplacingLemmas.{each_replaced}
 use Rattle.lfs_bmap.proofs.HolderLemmas.{no_end}
-
--- the record of a number is the same where the log is, and what waits for the number
-pub record_same : (p q : Parts) (number : ℕ) → q.log ≡ p.log → waiting_in q.waiting number ≡ waiting_in p.waiting number
-    → record_of q number ≡ record_of p number
-unfolding record_of
-record_same p q number log waits =
-    ap (λ w. option_and_then (λ (place : InodePlace). waiting_or w (fields_at q.log.memory place))
-    (place_of q.log.tables number)) waits
-    ∙ ap (λ (l : LogParts). option_and_then (λ (place : InodePlace). waiting_or (waiting_in p.waiting number)
-    (fields_at l.memory place)) (place_of l.tables number)) log
+use Rattle.lfs_parts.proofs.SameLogLemmas.{present_kept, record_same}
 
 -- the record that waits is the number's
 pub waiting_record : (p : Parts) (v : Inode) → IsWaiting p v → record_of p v.number ≡ Some (fields_of v)
@@ -74,14 +65,6 @@ holder_locked c number version (i ∷ up) some waits = waits
 
 pub record_table : (p : Parts) (v : Inode) → IsWaiting p v → table (tree_of p v.number) [] ≡ addresses v
 record_table p v h = table-root (tree_of p v.number) ∙ ap root_in (waiting_record p v h)
-
--- a number in use at its version stays so
-pub present_kept : (p q : Parts) (number version : ℕ) → q.log ≡ p.log → IsPresent p number version
-    → IsPresent q number version
-present_kept p q number version log h = record {
-  in_use = ap (λ (l : LogParts). (row_of l.tables number).used) log ∙ h.in_use;
-  at_version = h.at_version ∙ ap (λ (l : LogParts). (row_of l.tables number).version) (sym log);
-}
 
 -- what holds of a way's first place and the rest, by an equation
 pub at_way : (P : ℕ → List ℕ → Type 0) (way : List ℕ) (j : ℕ) (above : List ℕ) → way ≡ j ∷ above → P j above

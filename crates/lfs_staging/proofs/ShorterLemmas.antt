@@ -1,5 +1,5 @@
 -- The record of a file waits with a smaller size once nothing is left past it: `shortened`, with `cut_addresses`, for
--- `Parts::shorten`. `MayShorten` has all that `IsFile` asks for at the new size, no address and no frame past it and
+-- `shorten`. `MayShorten` has all that `IsFile` asks for at the new size, no address and no frame past it and
 -- zeros behind, so the size alone changes; the record's cells past it are 0 already, so to zero them changes nothing.
 -- Called before the blocks went, it would leave addresses past the size.
 use Rattle.std.proofs.Common.{◌≡◌, ◌≢◌, ℕ, ◌+◌, ◌≤◌, List, [], ◌∷◌, length, Some, is_some, sym, ap, ◌∙◌, subst, inl}
@@ -26,21 +26,21 @@ use Rattle.lfs_bmap.specs.Reading.{address, data_block}
 use Rattle.lfs_bmap.specs.Ways.{way_of}
 use Rattle.lfs_bmap.proofs.ReadingLemmas.{address-cell, address-root, table-root}
 use Rattle.lfs_bmap.proofs.WayLemmas.{way_of-code_of, way_of-zero}
-use Rattle.lfs_staging.specs.declared.parts.Parts.{Parts}
+use Rattle.lfs_parts.specs.declared.parts.Parts.{Parts}
 use Rattle.lfs_staging.specs.Cutting.{GoneFrom, MayShorten, Shortens}
 use Rattle.lfs_staging.specs.Staging.{IsStaged, StagesRecord}
-use Rattle.lfs_staging.specs.Store.{AreFiles, IsFile, IsPresent, IsWithin}
-use Rattle.lfs_staging.specs.View.{key_of, record_of, root_in, tree_of, version_of, waiting_in}
-use Rattle.lfs_staging.specs.Waiting.{without}
-use Rattle.lfs_staging.proofs.CleanLemmas.{mirrors_log}
-use Rattle.lfs_staging.proofs.HeldLemmas.{GainsNoClean-same}
-use Rattle.lfs_staging.proofs.KeptLemmas.{log_kept, record_once, record_parents, record_present, record_room}
-use Rattle.lfs_staging.proofs.KeptLemmas.{record_trees}
-use Rattle.lfs_staging.proofs.StagingLemmas.{version-same}
-use Rattle.lfs_staging.proofs.WaitingLemmas.{length-less, waiting-head}
+use Rattle.lfs_parts.specs.Store.{AreFiles, IsFile, IsPresent, IsWithin}
+use Rattle.lfs_parts.specs.View.{key_of, record_of, root_in, tree_of, version_of, waiting_in}
+use Rattle.lfs_parts.specs.Waiting.{without}
+use Rattle.lfs_parts.proofs.CleanLemmas.{mirrors_log}
+use Rattle.lfs_parts.proofs.HeldLemmas.{GainsNoClean-same}
+use Rattle.lfs_parts.proofs.SameLogLemmas.{log_kept}
+use Rattle.lfs_staging.proofs.KeptLemmas.{record_once, record_parents, record_present, record_room, record_trees}
+use Rattle.lfs_parts.proofs.SameLogLemmas.{version-same}
+use Rattle.lfs_parts.proofs.WaitingLemmas.{length-less, others_kept, waiting-head}
 use Rattle.lfs_staging.proofs.HolderLemmas.{gone_free}
 use Rattle.lfs_bmap.proofs.HolderLemmas.{root_block}
-use Rattle.lfs_staging.proofs.SettingLemmas.{present_kept}
+use Rattle.lfs_parts.proofs.SameLogLemmas.{present_kept}
 
 -- the addresses of a record from whose place on there are none stay where they are cut
 root_cell : (p : Parts) (v : Inode) (i : ℕ) → record_of p v.number ≡ Some (fields_of v)
@@ -208,6 +208,8 @@ module _ (old new : Parts) (v w : Inode) (len : ℕ) (may : MayShorten old v.num
     };
     others = others;
     blocks = trees;
+    other_records = others_kept v.number old.waiting new.waiting
+        (subst (λ n. without n new.waiting ≡ without n old.waiting) same_number (record_room old new w h));
     waiting = no_more;
     waits = ap is_some (ap (λ (vs : List Inode). waiting_in vs v.number) h.waiting
         ∙ waiting-head w (without w.number old.waiting) v.number same_number);

@@ -13,21 +13,22 @@ use Rattle.lfs_bmap.specs.Reading.{address}
 use Rattle.lfs_bmap.specs.Ways.{IsBlockWay, codes_on}
 use Rattle.lfs_bmap.proofs.MoveLemmas.{moves-refl, moves-same, moves-trans}
 use Rattle.lfs_bmap.proofs.PlaceLemmas.{data_block-same}
-use Rattle.lfs_staging.specs.declared.records.TheConstants.{WAITING_LIMIT}
-use Rattle.lfs_staging.specs.declared.parts.Parts.{Parts}
+use Rattle.lfs_parts.specs.declared.records.TheConstants.{WAITING_LIMIT}
+use Rattle.lfs_parts.specs.declared.parts.Parts.{Parts}
 use Rattle.lfs_staging.specs.Changing.{StaysInLog}
-use Rattle.lfs_staging.specs.Files.{content_of}
-use Rattle.lfs_staging.specs.Keys.{log_state}
+use Rattle.lfs_parts.specs.Files.{content_of}
+use Rattle.lfs_parts.specs.Keys.{log_state}
 use Rattle.lfs_staging.specs.Putting.{MayChange}
 use Rattle.lfs_staging.specs.Staging.{IsStaged, MayStage, SameFiles, StagesParents, StagesTable}
-use Rattle.lfs_staging.specs.Store.{AreFiles, IsWithin, ParentsWait}
-use Rattle.lfs_staging.specs.View.{tree_of}
-use Rattle.lfs_staging.specs.Waiting.{without}
-use Rattle.lfs_staging.proofs.KeptLemmas.{block_known, few_records, keys_kept, log_kept, taken_within, way_within}
-use Rattle.lfs_staging.proofs.KeyLemmas.{lies_in}
-use Rattle.lfs_staging.proofs.SameContentLemmas.{content_of-same, file_at-kept}
-use Rattle.lfs_staging.proofs.StagingLemmas.{version-same}
-use Rattle.lfs_staging.proofs.WaitingLemmas.{length-without}
+use Rattle.lfs_parts.specs.Store.{AreFiles, IsWithin, ParentsWait}
+use Rattle.lfs_parts.specs.View.{tree_of}
+use Rattle.lfs_parts.specs.Waiting.{without}
+use Rattle.lfs_parts.proofs.SameLogLemmas.{block_known, keys_kept, log_kept}
+use Rattle.lfs_staging.proofs.KeptLemmas.{few_records, taken_within, way_within}
+use Rattle.lfs_parts.proofs.KeyLemmas.{lies_in}
+use Rattle.lfs_parts.proofs.SameContentLemmas.{content_of-same, file_at-kept}
+use Rattle.lfs_parts.proofs.SameLogLemmas.{version-same}
+use Rattle.lfs_parts.proofs.WaitingLemmas.{length-without}
 use Rattle.std.specs.List.{Contains}
 use Rattle.lfs_bmap.specs.declared.blocks.FileBlock.{FileBlock}
 

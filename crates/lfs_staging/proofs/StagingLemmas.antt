@@ -1,5 +1,5 @@
 -- A record or a block that is staged changes what its own number or block reads and nothing else: `staged_record` for
--- `stage_record`, `staged_block` for `stage_block`; `version-same` and `key-apart` serve all of the crate. A key is
+-- `stage_record`, `staged_block` for `stage_block`; `key-apart` serves all of the crate. A key is
 -- number, version and code, so two blocks have two keys (`key-apart`), and the tree of a number is told from what waits
 -- under the keys of its blocks (`tree-others`, `tree-staged`). A block that waits is dirty and so not clean, by which
 -- no clean block is gained (`grown`); keys that left out the version would let a removed file's blocks stand for a new
@@ -21,19 +21,15 @@ use Rattle.lfs_bmap.specs.Reading.{Stages}
 use Rattle.lfs_bmap.specs.Ways.{code_at}
 use Rattle.lfs_bmap.proofs.WayLemmas.{known_way_of, way_of-code_of}
 use Rattle.lfs_bmap.specs.Ways.{way_of}
-use Rattle.lfs_staging.specs.declared.parts.Parts.{Parts}
+use Rattle.lfs_parts.specs.declared.parts.Parts.{Parts}
 use Rattle.lfs_staging.specs.Staging.{GrowsBy, StagesBlock, StagesRecord}
-use Rattle.lfs_staging.specs.View.{key_of, record_of, root_in, tree_of, version_of, waiting_in}
+use Rattle.lfs_parts.specs.View.{key_of, record_of, root_in, tree_of, version_of, waiting_in}
 use Rattle.std.proofs.lemmas.Bool.{cond-true}
-use Rattle.lfs_staging.specs.Waiting.{without}
-use Rattle.lfs_staging.proofs.HeldLemmas.{gains_none}
-use Rattle.lfs_staging.proofs.WaitingLemmas.{waiting-head, waiting-staged}
-use Rattle.lfs_staging.proofs.ViewLemmas.{code_at-way_to, record_of-waiting}
-use Rattle.lfs_staging.proofs.SettingLemmas.{record_same}
-
--- ---- records
-pub version-same : (old new : Parts) (n : ℕ) → new.log ≡ old.log → version_of new n ≡ version_of old n
-version-same old new n log = ap (λ (l : LogParts). (row_of l.tables n).version) log
+use Rattle.lfs_parts.specs.Waiting.{without}
+use Rattle.lfs_parts.proofs.HeldLemmas.{gains_none}
+use Rattle.lfs_parts.proofs.WaitingLemmas.{waiting-head, waiting-staged}
+use Rattle.lfs_parts.proofs.ViewLemmas.{code_at-way_to, record_of-waiting}
+use Rattle.lfs_parts.proofs.SameLogLemmas.{record_same, version-same}
 
 -- ---- frames
 pub key-apart : (a b : Key) → (a ≢ b) → same_key a b ≡ false

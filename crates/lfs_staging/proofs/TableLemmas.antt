@@ -23,9 +23,9 @@ use Rattle.lfs_bmap.specs.Reading.{Tree, read, table}
 use Rattle.lfs_bmap.specs.Ways.{data_way}
 use Rattle.lfs_bmap.proofs.ReadingLemmas.{read-waits, table-read, table-root}
 use Rattle.lfs_bmap.proofs.WayLemmas.{data_way-direct, data_way-double, data_way-single}
-use Rattle.lfs_staging.specs.declared.parts.Parts.{Parts}
+use Rattle.lfs_parts.specs.declared.parts.Parts.{Parts}
 use Rattle.lfs_staging.specs.Addressing.{IsWaiting}
-use Rattle.lfs_staging.specs.View.{key_of, tree_of}
+use Rattle.lfs_parts.specs.View.{key_of, tree_of}
 use Rattle.lfs_staging.proofs.SettingLemmas.{at_way, record_table, some_there}
 use Rattle.lfs_staging.proofs.StagingLemmas.{key-apart}
 

@@ -17,11 +17,11 @@ use Rattle.lfs_bmap.specs.declared.blocks.FileBlock.{FileBlock}
 use Rattle.lfs_bmap.specs.Blocks.{IsFileBlock, code_of, table_of, way_to}
 use Rattle.lfs_bmap.specs.Ways.{codes_on}
 use Rattle.lfs_bmap.proofs.HolderLemmas.{codes_on-block}
-use Rattle.lfs_staging.specs.declared.parts.Parts.{Parts}
+use Rattle.lfs_parts.specs.declared.parts.Parts.{Parts}
 use Rattle.lfs_staging.specs.Staging.{GrowsBy, HasFrames, TakesOnly}
-use Rattle.lfs_staging.specs.View.{key_of, version_of}
-use Rattle.lfs_staging.proofs.FrameLemmas.{part_most}
-use Rattle.lfs_staging.proofs.HeldLemmas.{locked_apart}
+use Rattle.lfs_parts.specs.View.{key_of, version_of}
+use Rattle.lfs_parts.proofs.FrameLemmas.{part_most}
+use Rattle.lfs_parts.proofs.HeldLemmas.{locked_apart}
 
 -- ---- codes in a list
 pub first_code : (c : ℕ) (codes : List ℕ) → Contains (c ∷ codes) c

@@ -1,5 +1,5 @@
 -- A number is taken back and its file leaves the content: `taken_staged`, `taken_content` and `removed_content`, for
--- `Parts::give_back` and `remove`. A file of size 0 has no block (`empty_no_block`), so its record's place is all that
+-- `give_back` and `remove`. A file of size 0 has no block (`empty_no_block`), so its record's place is all that
 -- goes; the key loses it and the number is renewed (`last_log`), and the other numbers stay by MakingLemmas. That is
 -- why `remove` cuts the file first: live bytes of a block that is left would be counted for no key.
 use Rattle.std.proofs.Common.{◌≡◌, ◌≢◌, ℕ, ◌+◌, ◌*◌, ◌/◌, ◌<◌, ◌≤◌, List, [], ◌∷◌, All, length, Option, None, Some}
@@ -31,23 +31,23 @@ use Rattle.lfs_bmap.proofs.LogLemmas.{left_log, renewed_log}
 use Rattle.lfs_bmap.proofs.SegmentLemmas.{left_fits}
 use Rattle.lfs_bmap.specs.Reading.{address}
 use Rattle.lfs_bmap.specs.Ways.{way_of}
-use Rattle.lfs_staging.specs.declared.parts.Parts.{Parts}
+use Rattle.lfs_parts.specs.declared.parts.Parts.{Parts}
 use Rattle.lfs_staging.specs.Changing.{StaysInLog}
 use Rattle.lfs_staging.specs.Cutting.{with_length}
-use Rattle.lfs_staging.specs.Files.{content_of}
-use Rattle.lfs_staging.specs.Keys.{log_state}
+use Rattle.lfs_parts.specs.Files.{content_of}
+use Rattle.lfs_parts.specs.Keys.{log_state}
 use Rattle.lfs_staging.proofs.OtherNumbers.{Forgets, KeepsOthers}
 use Rattle.lfs_staging.specs.Staging.{IsStaged}
-use Rattle.lfs_staging.specs.Store.{AreFiles, IsPresent}
-use Rattle.lfs_staging.specs.View.{key_of, record_of, root_in, tree_of, version_of, waiting_in}
-use Rattle.lfs_staging.specs.Waiting.{AreOnce, without}
-use Rattle.lfs_staging.proofs.FileLemmas.{file_at-none, free_place, get-content_of}
-use Rattle.lfs_staging.proofs.KeyLemmas.{place-record, placed_at}
+use Rattle.lfs_parts.specs.Store.{AreFiles, IsPresent}
+use Rattle.lfs_parts.specs.View.{key_of, record_of, root_in, tree_of, version_of, waiting_in}
+use Rattle.lfs_parts.specs.Waiting.{AreOnce, without}
+use Rattle.lfs_parts.proofs.FileLemmas.{file_at-none, free_place, get-content_of}
+use Rattle.lfs_parts.proofs.KeyLemmas.{place-record, placed_at}
 use Rattle.lfs_staging.proofs.MakingLemmas.{all_nowhere, block_nowhere, files_still, log_still, none_addressed}
 use Rattle.lfs_staging.proofs.MakingLemmas.{other_file, other_present, staged_still, stays_in_log, HasNoBlock}
-use Rattle.lfs_staging.proofs.ViewLemmas.{record_of-unused}
-use Rattle.lfs_staging.proofs.WaitingLemmas.{all_without, length-without, once_without, waiting-tail, waiting-head}
-use Rattle.lfs_staging.proofs.WaitingLemmas.{waiting-without}
+use Rattle.lfs_parts.proofs.ViewLemmas.{record_of-unused}
+use Rattle.lfs_parts.proofs.WaitingLemmas.{all_without, length-without, once_without, waiting-tail, waiting-head}
+use Rattle.lfs_parts.proofs.WaitingLemmas.{waiting-without}
 use Rattle.lfs_bmap.specs.Blocks.{code_of}
 use Rattle.lfs_staging.proofs.ClearingLemmas.{some_fields}
 

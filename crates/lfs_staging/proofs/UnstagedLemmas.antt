@@ -23,14 +23,14 @@ use Rattle.lfs_bmap.specs.Ways.{IsBlockWay, code_at, way_of}
 use Rattle.lfs_bmap.proofs.BlockLemmas.{code_of-below}
 use Rattle.lfs_bmap.proofs.CountingLemmas.{placed-cases}
 use Rattle.lfs_bmap.proofs.WayLemmas.{known_way_of, same_code, up_known, way_of-code_of, way_of-known}
-use Rattle.lfs_staging.specs.declared.parts.Parts.{Parts}
-use Rattle.lfs_staging.specs.Keys.{log_state}
+use Rattle.lfs_parts.specs.declared.parts.Parts.{Parts}
+use Rattle.lfs_parts.specs.Keys.{log_state}
 use Rattle.lfs_staging.specs.Addressing.{Sets}
-use Rattle.lfs_staging.specs.Store.{HolderWaits}
-use Rattle.lfs_staging.specs.View.{key_of, record_of, root_in, tree_of, version_of, waiting_in}
-use Rattle.lfs_staging.proofs.KeyLemmas.{place-block, place-record}
+use Rattle.lfs_parts.specs.Store.{HolderWaits}
+use Rattle.lfs_parts.specs.View.{key_of, record_of, root_in, tree_of, version_of, waiting_in}
+use Rattle.lfs_parts.proofs.KeyLemmas.{place-block, place-record}
 use Rattle.lfs_staging.proofs.TableLemmas.{apart_code, apart_number, longer, same_place, table_same}
-use Rattle.lfs_staging.proofs.ViewLemmas.{code_at-way_to, record_like}
+use Rattle.lfs_parts.proofs.ViewLemmas.{code_at-way_to, record_like}
 
 -- ---- the way to a block, and the codes of the block and of what holds its address
 module _ (block : FileBlock) (i : ℕ) (up : List ℕ) (can : IsFileBlock block) (way : way_to block ≡ i ∷ up) where

@@ -1,6 +1,5 @@
 -- The address of a block is set in what holds it, which waits: the record, or an indirect block.
-use Rattle.std.specs.Prelude.{map, ◌≡◌, ◌≢◌, ℕ, List, [], length, Some, true, false, ◌==◌, slice_set, All}
-use Rattle.std.specs.List.{position_or_len}
+use Rattle.std.specs.Prelude.{◌≡◌, ◌≢◌, ℕ, List, [], length, Some, true, false, slice_set, All}
 use Rattle.lfs_ifile.specs.Tables.{row_of}
 use Rattle.lfs_inodes.specs.declared.inode.Inode.{Inode}
 use Rattle.lfs_inodes.specs.Addresses.{cells}
@@ -11,24 +10,11 @@ use Rattle.lfs_cache.specs.Contents.{Contents, block_in}
 use Rattle.lfs_cache.specs.Keys.{same_key}
 use Rattle.lfs_bmap.specs.Reading.{table}
 use Rattle.lfs_bmap.specs.Ways.{code_at}
-use Rattle.lfs_staging.specs.declared.parts.Parts.{Parts}
-use Rattle.lfs_staging.specs.Clean.{GainsNoClean}
-use Rattle.lfs_staging.specs.Store.{HolderWaits, IsPresent}
-use Rattle.lfs_staging.specs.View.{key_of, record_of, tree_of, version_of, waiting_in}
-
--- some records with another one in place of the first of its number
-abbrev pub replaced : List Inode → Inode → List Inode
-replaced records v = slice_set records (position_or_len (λ (w : Inode). w.number == v.number) records) v
-
--- their numbers, in order
-abbrev pub numbers_of : List Inode → List ℕ
-numbers_of records = map (λ (v : Inode). v.number) records
-
--- Of some records, that of a number was replaced.
-pub record Replaces (old new : List Inode) (v : Inode) : Type 0 where
-  pub here : waiting_in new v.number ≡ Some v
-  pub others : (number : ℕ) → number ≢ v.number → waiting_in new number ≡ waiting_in old number
-  pub numbers : numbers_of new ≡ numbers_of old
+use Rattle.lfs_parts.specs.declared.parts.Parts.{Parts}
+use Rattle.lfs_parts.specs.Clean.{GainsNoClean}
+use Rattle.lfs_parts.specs.Store.{HolderWaits, IsPresent}
+use Rattle.lfs_parts.specs.View.{key_of, record_of, tree_of, version_of, waiting_in}
+use Rattle.lfs_parts.specs.Waiting.{numbers_of}
 
 -- an inode is the record that waits of its number, which is in use at its version
 pub record IsWaiting (p : Parts) (v : Inode) : Type 0 where

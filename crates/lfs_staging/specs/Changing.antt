@@ -11,8 +11,8 @@ use Rattle.lfs_bmap.specs.declared.blocks.TheConstants.{FIRST_DATA_CODE}
 use Rattle.lfs_bmap.specs.Blocks.{table_of, way_to}
 use Rattle.lfs_bmap.specs.Moves.{Moves}
 use Rattle.lfs_bmap.specs.Ways.{codes_on}
-use Rattle.lfs_staging.specs.declared.parts.Parts.{Parts}
-use Rattle.lfs_staging.specs.Keys.{log_state}
+use Rattle.lfs_parts.specs.declared.parts.Parts.{Parts}
+use Rattle.lfs_parts.specs.Keys.{log_state}
 use Rattle.lfs_staging.specs.Putting.{frames_of_put}
 
 -- Nothing was written: the segments' blocks, how each is used and how many are clean are as before; a key has the place

@@ -20,12 +20,12 @@ use Rattle.lfs_bmap.specs.Blocks.{IsFileBlock, code_of, first_under, table_of, w
 use Rattle.lfs_bmap.specs.Pieces.{IsBlockCut, IsPadded}
 use Rattle.lfs_bmap.specs.Reading.{address, data_block}
 use Rattle.lfs_bmap.specs.Ways.{IsBlockWay, code_at, codes_on, data_way}
-use Rattle.lfs_staging.specs.declared.parts.Parts.{Parts}
+use Rattle.lfs_parts.specs.declared.parts.Parts.{Parts}
 use Rattle.lfs_staging.specs.Changing.{StaysInLog, frames_of_length, length_codes}
 use Rattle.lfs_staging.specs.Staging.{HasFrames, IsStaged, TakesFrames, TakesOnly}
-use Rattle.lfs_staging.specs.Store.{HolderWaits, IsWithin}
-use Rattle.lfs_staging.specs.View.{key_of, record_of, tree_of, version_of, waiting_in}
-use Rattle.lfs_staging.specs.Waiting.{without}
+use Rattle.lfs_parts.specs.Store.{HolderWaits, IsWithin}
+use Rattle.lfs_parts.specs.View.{key_of, record_of, tree_of, version_of, waiting_in}
+use Rattle.lfs_parts.specs.Waiting.{KeepsOtherRecords, without}
 
 -- the content with a file cut, or with zeros added to it, to have this many bytes
 abbrev pub with_length : ℕ → ℕ → Content → Content
@@ -65,6 +65,7 @@ pub record KeepsRest (number : ℕ) (old new : Parts) : Type 0 where
   pub others : (n : ℕ) → n ≢ number → record_of new n ≡ record_of old n
   pub attributes : (f : Fields) → record_of old number ≡ Some f → HasAttributes new number f.attributes
   pub waits : IsSome (waiting_in new.waiting number)
+  pub other_records : KeepsOtherRecords number old.waiting new.waiting
   pub many : length new.waiting ≤ length old.waiting
 
 -- A block of a file was given back: it has no address, waits no more, and reads as zeros.
@@ -244,6 +245,7 @@ pub record Shortens (number len : ℕ) (old new : Parts) : Type 0 where
       → HasAttributes new number (record (f.attributes) { size = len })
   pub others : (n : ℕ) → n ≢ number → record_of new n ≡ record_of old n
   pub blocks : (n : ℕ) → tree_of new n ≡ tree_of old n
+  pub other_records : KeepsOtherRecords number old.waiting new.waiting
   pub waiting : length new.waiting ≤ length old.waiting
   pub waits : IsSome (waiting_in new.waiting number)
 
@@ -258,5 +260,7 @@ pub record CutsFile (number len : ℕ) (old new : Parts) : Type 0 where
   pub cut : (m : ℕ) → IsBlockCut m len (data_block (tree_of old number) m) (data_block (tree_of new number) m)
   pub data_same : (n m : ℕ) → n ≢ number → data_block (tree_of new n) m ≡ data_block (tree_of old n) m
   pub frames : length new.cache.locked ≤ length old.cache.locked + frames_of_length len
+  pub takes : TakesOnly number (version_of old number) (length_codes len) old.cache new.cache
+  pub other_records : KeepsOtherRecords number old.waiting new.waiting
   pub waiting : length new.waiting ≤ length old.waiting + 1
   pub waits : IsSome (waiting_in new.waiting number)

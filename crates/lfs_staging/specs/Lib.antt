@@ -1,14 +1,6 @@
-pub mod Files
-pub mod Filling
-pub mod Keys
-pub mod Opening
-pub mod Store
-pub mod View
 pub mod Staging
-pub mod Waiting
 pub mod Putting
 pub mod Changing
-pub mod Clean
 pub mod Frames
 pub mod Cutting
 pub mod Addressing

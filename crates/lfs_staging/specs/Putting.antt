@@ -1,5 +1,6 @@
 -- Bytes put into a file.
-use Rattle.std.specs.Prelude.{◌≡◌, ◌≢◌, ℕ, ◌+◌, ◌-◌, ◌*◌, ◌/◌, ◌<◌, ◌≤◌, max, List, length, Some, true}
+use Rattle.std.specs.Prelude.{◌≡◌, ◌≢◌, ◌⊎◌, ℕ, ◌+◌, ◌-◌, ◌*◌, ◌/◌, ◌<◌, ◌≤◌, max, List, length, Some, true}
+use Rattle.std.specs.List.{Contains}
 use Rattle.std.specs.FinMap as map
 use Rattle.lfs_types.specs.Changes.{changed_at}
 use Rattle.lfs_types.specs.Splicing.{splice}
@@ -8,20 +9,22 @@ use Rattle.lfs_types.specs.declared.attrs.Attrs.{Attrs}
 use Rattle.lfs_inodes.specs.declared.inode.Inode.{Inode}
 use Rattle.lfs_inodes.specs.Reading.{Fields, fields_of}
 use Rattle.lfs_bmap.specs.declared.blocks.FileBlock.TheVariants.{Data}
-use Rattle.lfs_bmap.specs.Pieces.{IsPut}
+use Rattle.lfs_bmap.specs.Pieces.{IsPut, Touches}
 use Rattle.lfs_bmap.specs.Reading.{address, data_block}
 use Rattle.lfs_bmap.specs.Tables.{tables_between}
-use Rattle.lfs_bmap.specs.Ways.{IsBlockWay}
-use Rattle.lfs_staging.specs.declared.parts.Parts.{Parts}
+use Rattle.lfs_bmap.specs.Ways.{IsBlockWay, codes_on, data_way}
+use Rattle.lfs_cache.specs.Contents.{Contents, IsLocked}
+use Rattle.lfs_cache.specs.declared.key.Key.{Key}
+use Rattle.lfs_parts.specs.declared.parts.Parts.{Parts}
 use Rattle.lfs_types.specs.declared.block.TheConstants.{BLOCK_SIZE}
 use Rattle.lfs_types.specs.declared.limits.TheConstants.{FILE_BYTES}
 use Rattle.lfs_ifile.specs.Tables.{row_of}
 use Rattle.lfs_inodes.specs.Facts.{IsSizeOf}
-use Rattle.lfs_staging.specs.declared.records.TheConstants.{WAITING_LIMIT}
+use Rattle.lfs_parts.specs.declared.records.TheConstants.{WAITING_LIMIT}
 use Rattle.lfs_staging.specs.Staging.{IsStaged, MayStage, TakesFrames}
-use Rattle.lfs_staging.specs.Store.{AreFiles, ParentsWait}
-use Rattle.lfs_staging.specs.Waiting.{without}
-use Rattle.lfs_staging.specs.View.{LiesIn, blocks_of, record_of, tree_of}
+use Rattle.lfs_parts.specs.Store.{AreFiles, ParentsWait}
+use Rattle.lfs_parts.specs.Waiting.{without}
+use Rattle.lfs_parts.specs.View.{LiesIn, blocks_of, key_of, record_of, tree_of, version_of}
 
 -- all of block n of a file is among some bytes at a place of it
 abbrev pub Covers : ℕ → ℕ → List ℕ → Type 0
@@ -36,6 +39,18 @@ blocks_of_put start count = (start + count - 1) / BLOCK_SIZE + 1 - start / BLOCK
 abbrev pub frames_of_put : ℕ → ℕ → ℕ
 frames_of_put start count = blocks_of_put start count
     + tables_between (start / BLOCK_SIZE) ((start + count - 1) / BLOCK_SIZE)
+
+-- A code is that of a block that bytes put at a place of a file fall into, or of an indirect block that leads to one.
+pub record LeadsToPut (start count code : ℕ) : Type 0 where
+  pub index : ℕ
+  pub touched : Touches start (start + count) index
+  pub on_way : Contains (codes_on (data_way index)) code
+
+-- each key that waits waited, or is of such a block of a number
+abbrev pub TakesPut : ℕ → ℕ → ℕ → ℕ → Contents → Contents → Type 0
+TakesPut number version start count old new =
+    (key : Key) → IsLocked key new
+    → ((code : ℕ) × LeadsToPut start count code × (key ≡ key_of number version code)) ⊎ IsLocked key old
 
 -- What falls of some bytes, put at `start` of a file, into one of its data blocks is there, and nothing else changed.
 pub record PutsBlock (v : Inode) (index start : ℕ) (bytes : List ℕ) (old new : Parts) : Type 0 where
@@ -59,6 +74,7 @@ pub record PutsBytes (v : Inode) (start : ℕ) (bytes : List ℕ) (old new : Par
   pub again : MayStage new v
   pub kept : (spare : ℕ) → IsStaged old spare → IsStaged new spare
   pub frames : length new.cache.locked ≤ length old.cache.locked + frames_of_put start (length bytes)
+  pub only : TakesPut v.number (version_of old v.number) start (length bytes) old.cache new.cache
   pub waiting : without v.number new.waiting ≡ without v.number old.waiting
 
 -- The record of a file waits with a size of at least so many bytes. Nothing else changed.

@@ -15,13 +15,13 @@ use Rattle.lfs_bmap.specs.Blocks.{IsFileBlock, code_of, table_of, way_to}
 use Rattle.lfs_bmap.specs.Log.{IsLog}
 use Rattle.lfs_bmap.specs.Reading.{SameReadings, Stages, address, data_block}
 use Rattle.lfs_bmap.specs.Ways.{IsBlockWay, codes_on}
-use Rattle.lfs_staging.specs.declared.records.TheConstants.{WAITING_LIMIT}
-use Rattle.lfs_staging.specs.declared.parts.Parts.{Parts}
-use Rattle.lfs_staging.specs.Clean.{GainsNoClean}
-use Rattle.lfs_staging.specs.Keys.{log_state}
-use Rattle.lfs_staging.specs.Store.{AreFiles, HolderWaits, IsWithin, ParentsWait}
-use Rattle.lfs_staging.specs.View.{LiesIn, blocks_of, key_of, record_of, tree_of, version_of, waiting_in}
-use Rattle.lfs_staging.specs.Waiting.{AreOnce, without}
+use Rattle.lfs_parts.specs.declared.records.TheConstants.{WAITING_LIMIT}
+use Rattle.lfs_parts.specs.declared.parts.Parts.{Parts}
+use Rattle.lfs_parts.specs.Clean.{GainsNoClean}
+use Rattle.lfs_parts.specs.Keys.{log_state}
+use Rattle.lfs_parts.specs.Store.{AreFiles, HolderWaits, IsWithin, ParentsWait}
+use Rattle.lfs_parts.specs.View.{LiesIn, blocks_of, key_of, record_of, tree_of, version_of, waiting_in}
+use Rattle.lfs_parts.specs.Waiting.{AreOnce, without}
 
 -- What holds in the middle of a call: of the files, of the log with so many spare bytes, and of what waits. There is
 -- room for the records, and each block that waits lies within its file.

@@ -10,16 +10,16 @@ ghost use Rattle.lfs_bmap.specs.declared.blocks.TheConstants.{FIRST_DATA_CODE};
 ghost use Rattle.lfs_bmap.specs.Blocks.{IsFileBlock, way_to};
 ghost use Rattle.lfs_staging.specs.Addressing.{IsWaiting, Sets, SetsEntry, StaysWaiting};
 ghost use Rattle.lfs_staging.specs.Frames.{KeepsFrames};
-ghost use Rattle.lfs_staging.specs.Store.{HolderWaits, IsPresent, IsWithin};
+ghost use Rattle.lfs_parts.specs.Store.{HolderWaits, IsPresent, IsWithin};
 
-use crate::parts::{Parts, key_of};
 use lfs_bmap::blocks::{Cell, FileBlock};
 use lfs_cache::{Cache, Key};
 use lfs_inodes::addresses::with_entry;
 use lfs_inodes::inode::Inode;
+use lfs_parts::parts::{Parts, key_of};
 
 /// Sets an address in an indirect block that waits.
-#[tactic(auto, using(crate::proofs::HeldLemmas::gains_none))]
+#[tactic(auto, using(lfs_parts::proofs::HeldLemmas::gains_none))]
 fn set_entry(cache: &mut Cache, key: Key, index: usize, address: u32)
     requires inside { index < 128 }
     requires table { key.lbn.0 < FIRST_DATA_CODE }
@@ -37,34 +37,32 @@ fn set_entry(cache: &mut Cache, key: Key, index: usize, address: u32)
     }
 }
 
-impl Parts {
-    /// Sets the address of a block of a file in what holds it, which waits: in the record, or in an
-    /// indirect block.
-    pub fn set_address(&mut self, inode: &Inode, block: FileBlock, address: u32)
-        requires record { IsWaiting self.old inode.now }
-        requires block { IsFileBlock block }
-        requires within { IsWithin block inode.now.size }
-        requires in_volume { address < ADDRESS_LIMIT }
-        requires cache { IsContents self.old.cache }
-        requires present { All (λ (w : Inode). IsPresent self.old w.number w.version) self.old.waiting }
-        requires parent { (i : ℕ) (up : List ℕ) → way_to block ≡ i ∷ up
-            → HolderWaits self.old.cache inode.now.number inode.now.version up }
-        ensures set { (i : ℕ) (up : List ℕ) → way_to block ≡ i ∷ up
-            → Sets self.old self.new inode.now i up address }
-        ensures waiting { StaysWaiting self.old self.new inode.now }
-        ensures held { KeepsFrames self.old.cache self.new.cache }
-    {
-        let Some(Cell { table, index }) = block.cell() else {
-            return;
-        };
-        match table {
-            FileBlock::Record => self
-                .waiting
-                .replace(inode.with_root(index as usize, address)),
-            FileBlock::Single | FileBlock::Double | FileBlock::Child(_) | FileBlock::Data(_) => {
-                let key = key_of(inode, table);
-                set_entry(&mut self.cache, key, index as usize, address);
-            }
+/// Sets the address of a block of a file in what holds it, which waits: in the record, or in an
+/// indirect block.
+pub fn set_address(parts: &mut Parts, inode: &Inode, block: FileBlock, address: u32)
+    requires record { IsWaiting parts.old inode.now }
+    requires block { IsFileBlock block }
+    requires within { IsWithin block inode.now.size }
+    requires in_volume { address < ADDRESS_LIMIT }
+    requires cache { IsContents parts.old.cache }
+    requires present { All (λ (w : Inode). IsPresent parts.old w.number w.version) parts.old.waiting }
+    requires parent { (i : ℕ) (up : List ℕ) → way_to block ≡ i ∷ up
+        → HolderWaits parts.old.cache inode.now.number inode.now.version up }
+    ensures set { (i : ℕ) (up : List ℕ) → way_to block ≡ i ∷ up
+        → Sets parts.old parts.new inode.now i up address }
+    ensures waiting { StaysWaiting parts.old parts.new inode.now }
+    ensures held { KeepsFrames parts.old.cache parts.new.cache }
+{
+    let Some(Cell { table, index }) = block.cell() else {
+        return;
+    };
+    match table {
+        FileBlock::Record => parts
+            .waiting
+            .replace(inode.with_root(index as usize, address)),
+        FileBlock::Single | FileBlock::Double | FileBlock::Child(_) | FileBlock::Data(_) => {
+            let key = key_of(inode, table);
+            set_entry(&mut parts.cache, key, index as usize, address);
         }
     }
 }

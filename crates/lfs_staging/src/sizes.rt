@@ -1,11 +1,9 @@
-//! The sizes of the profile as numbers.
+//! The size of the profile as a number.
 
 ghost use Rattle.std.specs.Prelude.{◌≡◌};
 ghost use Rattle.lfs_staging.specs.declared.cutting.TheConstants.{CUT_FRAMES};
-ghost use Rattle.lfs_staging.specs.declared.records.TheConstants.{WAITING_LIMIT};
 
-/// The constants that contracts cite by name are these numbers: a law, which does nothing.
+/// The constant that contracts cite by name is this number: a law, which does nothing.
 pub fn sizes()
-    ensures waiting { WAITING_LIMIT ≡ 64 }
-    ensures cut { CUT_FRAMES ≡ 4 }
+    ensures { CUT_FRAMES ≡ 4 }
 {}

@@ -1,0 +1,38 @@
+use Rattle.std.proofs.Common.{◌<◌, sym, ap, ◌∙◌, subst, arith}
+use Rattle.lfs_types.specs.declared.limits.TheConstants.{FILE_BLOCKS}
+use Rattle.lfs_inodes.specs.Reading.{fields_of}
+use Rattle.lfs_bmap.specs.Reading.{read}
+use Rattle.lfs_bmap.specs.Ways.{data_way}
+use Rattle.lfs_parts.specs.View.{LiesIn, blocks_of, tree_of}
+use Rattle.lfs_staging.proofs.CutLemmas.{cut_one, cut_zeros}
+use Rattle.lfs_parts.proofs.FileLemmas.{tree_from-of}
+use Rattle.lfs_parts.proofs.ReadLemmas.{data_block-read}
+use Rattle.lfs_staging.proofs.cutting.cut_block.Goals as goal
+
+pub block_of-requires-clause-inside : goal.block_of-requires-clause-inside
+block_of-requires-clause-inside c =
+    let p = c.args.parts.now in
+    let v = c.args.inode.now in
+    let same = tree_from-of p v.number v c.requires.may.here
+    (c.requires.may.files.files v.number (fields_of v) c.requires.may.here) in
+    subst (LiesIn (blocks_of p)) (sym same) c.requires.may.inside
+
+pub stage_data-requires-clause-zeros : goal.stage_data-requires-clause-zeros
+stage_data-requires-clause-zeros c =
+    cut_zeros c.args.index c.args.len c.args.inode.now.size c.block_of.result.now c.cut_piece.new.block
+    c.cut_piece.ensures c.requires.less
+
+pub returns : goal.returns
+returns c =
+    let p = c.args.parts.now in
+    let v = c.args.inode.now in
+    let file = c.requires.may.files.files v.number (fields_of v) c.requires.may.here in
+    let same = tree_from-of p v.number v c.requires.may.here file in
+    let most = file.formed.sized.0 in
+    let inside = c.requires.within in
+    let low : c.args.index < FILE_BLOCKS = omega arith in
+    let block = c.block_of.ensures ∙ ap (λ t. read t (data_way c.args.index)) same
+    ∙ sym (data_block-read (tree_of p v.number) c.args.index low) in
+    cut_one p c.stage_data.new.parts v c.args.index c.args.len c.block_of.result.now c.cut_piece.new.block
+    (c.stage_data.ensures.kept 0 c.requires.staged)
+    c.stage_data.ensures.staged block c.cut_piece.ensures

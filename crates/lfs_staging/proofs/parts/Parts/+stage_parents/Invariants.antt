@@ -1,5 +1,0 @@
-use Rattle.lfs_bmap.specs.Blocks.{code_of}
-use Rattle.lfs_staging.proofs.parts.Parts.+stage_parents.Given as goal
-
-abbrev pub decreases-stage_parents : goal.decreases-stage_parents
-decreases-stage_parents l = code_of l.block

@@ -1,5 +1,0 @@
-use Rattle.lfs_staging.specs.Cutting.{ClearsBlocks}
-use Rattle.lfs_staging.proofs.parts.Parts.clear_blocks.Given as goal
-
-abbrev pub invariant-loop-index : goal.invariant-loop-index
-invariant-loop-index l = ClearsBlocks l.ino l.first l.index l.fn.self l.self

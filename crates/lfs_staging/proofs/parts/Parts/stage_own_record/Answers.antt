@@ -1,5 +1,0 @@
-use Rattle.lfs_staging.proofs.KeptLemmas.{own_staged}
-use Rattle.lfs_staging.proofs.parts.Parts.stage_own_record.Goals as goal
-
-pub returns : goal.returns
-returns c = own_staged c.args.self.now c.stage_record.new.self c.args.inode.now c.requires.may c.stage_record.ensures

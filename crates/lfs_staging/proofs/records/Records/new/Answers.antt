@@ -1,6 +1,0 @@
-use Rattle.lfs_staging.proofs.RecordsLemmas.{no_records}
-use Rattle.lfs_staging.proofs.records.Records.new.Goals as goal
-
-pub invariant_of-result : goal.invariant_of-result
-invariant_of-result c = no_records _ _ _ c.in_ok-records.ensures.items
-    (c.in_ok-waits.ensures.items_if_clones_equal (λ y clone. clone)) c.in_ok-records.ensures.exact

@@ -1,7 +1,0 @@
-use Rattle.std.proofs.Common.{sym, ◌∙◌}
-use Rattle.lfs_staging.proofs.RecordsLemmas.{without-untold}
-use Rattle.lfs_staging.proofs.records.drop_known.Goals as goal
-
-pub returns-else-waits-clause-items : goal.returns-else-waits-clause-items
-returns-else-waits-clause-items c = sym (without-untold c.args.records.now.items c.args.number (sym c.requires
-    ∙ c.if-waits.false))
