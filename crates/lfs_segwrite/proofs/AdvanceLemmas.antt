@@ -4,12 +4,12 @@ use Rattle.std.proofs.Common.{◌∙◌, subst, inl, inr, arith}
 use Rattle.std.proofs.lemmas.Bool.{cases_Bool, false≢true}
 use Rattle.lfs_segments.specs.Memory.{next_address}
 use Rattle.lfs_cache.specs.Contents.{block_in}
-use Rattle.lfs_staging.specs.declared.parts.Parts.{Parts}
+use Rattle.lfs_parts.specs.declared.parts.Parts.{Parts}
 use Rattle.lfs_staging.proofs.HeldFrames.{KeepsFrames-refl, KeepsFrames-trans}
 use Rattle.lfs_segwrite.specs.Flushing.{Waits}
-use Rattle.lfs_staging.specs.Keys.{log_state}
+use Rattle.lfs_parts.specs.Keys.{log_state}
 use Rattle.lfs_segwrite.specs.Recording.{Advances}
-use Rattle.lfs_staging.specs.View.{key_of, version_of, waiting_in}
+use Rattle.lfs_parts.specs.View.{key_of, version_of, waiting_in}
 
 -- a key waits, or does not
 is_or_not : (b : Bool) → (b ≡ true) ⊎ (b ≡ true → ⊥)
@@ -23,6 +23,8 @@ pub Advances-refl : (from : ℕ) (p : Parts) → Advances from p p
 Advances-refl from p = record {
   content = refl;
   segments = refl;
+  serials = refl;
+  rising = λ r. r;
   active = refl;
   states = refl;
   clean = refl;
@@ -41,6 +43,8 @@ pub Advances-trans : (from : ℕ) (a b c : Parts) → Advances from a b → Adva
 Advances-trans from a b c h g = record {
   content = g.content ∙ h.content;
   segments = g.segments ∙ h.segments;
+  serials = g.serials ∙ h.serials;
+  rising = λ r. g.rising (h.rising r);
   active = g.active ∙ h.active;
   states = g.states ∙ h.states;
   clean = g.clean ∙ h.clean;

@@ -19,19 +19,19 @@ use Rattle.lfs_bmap.specs.Reading.{address}
 use Rattle.lfs_bmap.specs.Ways.{way_of}
 use Rattle.lfs_bmap.proofs.PlaceLemmas.{data_block-same}
 use Rattle.lfs_bmap.proofs.WayLemmas.{way_of-code_of}
-use Rattle.lfs_staging.specs.declared.parts.Parts.{Parts}
-use Rattle.lfs_staging.specs.declared.records.TheConstants.{WAITING_LIMIT}
+use Rattle.lfs_parts.specs.declared.parts.Parts.{Parts}
+use Rattle.lfs_parts.specs.declared.records.TheConstants.{WAITING_LIMIT}
 use Rattle.lfs_segwrite.specs.Flushing.{Waits}
-use Rattle.lfs_staging.specs.Keys.{log_state}
+use Rattle.lfs_parts.specs.Keys.{log_state}
 use Rattle.lfs_segwrite.specs.Marking.{SameShown, StagesAgain}
 use Rattle.lfs_staging.specs.Staging.{IsStaged, MayStage, SameFiles, StagesParents, StagesTable, TakesOnly}
-use Rattle.lfs_staging.specs.Store.{IsFile, IsWithin}
-use Rattle.lfs_staging.specs.View.{key_of, record_of, tree_of, version_of, waiting_in}
-use Rattle.lfs_staging.specs.Waiting.{without}
-use Rattle.lfs_staging.proofs.FileLemmas.{free_place}
-use Rattle.lfs_staging.proofs.KeyLemmas.{lies_in, place-block, unused_nowhere}
+use Rattle.lfs_parts.specs.Store.{IsFile, IsWithin}
+use Rattle.lfs_parts.specs.View.{key_of, record_of, tree_of, version_of, waiting_in}
+use Rattle.lfs_parts.specs.Waiting.{without}
+use Rattle.lfs_parts.proofs.FileLemmas.{free_place}
+use Rattle.lfs_parts.proofs.KeyLemmas.{lies_in, place-block, unused_nowhere}
 use Rattle.lfs_segwrite.proofs.NamedLemmas.{codes-block}
-use Rattle.lfs_staging.proofs.WaitingLemmas.{length-without, waiting-without}
+use Rattle.lfs_parts.proofs.WaitingLemmas.{length-without, waiting-without}
 use Rattle.lfs_bmap.proofs.HolderLemmas.{codes_on-record}
 use Rattle.lfs_staging.proofs.StagedLemmas.{parents_staged}
 

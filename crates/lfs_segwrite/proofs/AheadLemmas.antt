@@ -15,23 +15,25 @@ use Rattle.lfs_ifile.specs.declared.segment.SegState.{SegState}
 use Rattle.lfs_ifile.specs.declared.segment.SegState.TheVariants.{Clean}
 use Rattle.lfs_ifile.specs.declared.inode.InodeRow.{InodeRow}
 use Rattle.lfs_cache.specs.Contents.{IsLocked}
-use Rattle.lfs_segments.specs.Memory.{SegmentMemory, block_at, next_address, room_of}
+use Rattle.lfs_segments.specs.Memory.{SegmentMemory, block_at, has_serials, next_address, room_of}
+use Rattle.lfs_segments.specs.Rising.{IsRising}
+use Rattle.lfs_found.specs.Written.{IsRecoverable}
 use Rattle.lfs_log.specs.Parts.{state_of}
 use Rattle.lfs_bmap.specs.Counting.{seg_of}
 use Rattle.lfs_bmap.specs.Log.{IsPlaced}
 use Rattle.lfs_bmap.specs.Moves.{DirtyIn, Moves, StaysDirty}
 use Rattle.lfs_bmap.proofs.LogLemmas.{dirty_not_active}
 use Rattle.lfs_bmap.proofs.MoveLemmas.{StaysDirty-trans, moves-same, moves-trans}
-use Rattle.lfs_staging.specs.declared.parts.Parts.{Parts}
+use Rattle.lfs_parts.specs.declared.parts.Parts.{Parts}
 use Rattle.lfs_segwrite.specs.Applying.{HasRoom, HasRoomFor, versions_after, MakesChanges, MakesWay, StagesAll}
 use Rattle.lfs_segwrite.specs.Applying.{WritesWaiting, blocks_for, frames_of_all, may_use_reserve}
 use Rattle.lfs_segwrite.specs.Applying.{needs_of, passes_limits, peak_of_all, records_of_all, waiting_blocks}
 use Rattle.lfs_segwrite.specs.Collecting.{blocks_of_entries, entries_of}
-use Rattle.lfs_staging.specs.Files.{content_of}
+use Rattle.lfs_parts.specs.Files.{content_of}
 use Rattle.lfs_segwrite.specs.Flushing.{Flushes, Waits, WritesAhead}
-use Rattle.lfs_staging.specs.Keys.{log_state}
+use Rattle.lfs_parts.specs.Keys.{log_state}
 use Rattle.lfs_segwrite.specs.Room.{KeepsFiles}
-use Rattle.lfs_staging.specs.Store.{IsSettled, IsStore}
+use Rattle.lfs_parts.specs.Store.{IsSettled, IsStore}
 use Rattle.lfs_staging.specs.Changing.{StaysInLog}
 use Rattle.lfs_staging.specs.Staging.{IsStaged}
 use Rattle.lfs_staging.proofs.HeldFrames.{KeepsFrames-same, KeepsFrames-trans}
@@ -40,7 +42,7 @@ use Rattle.lfs_staging.proofs.StagedLemmas.{stays-refl}
 use Rattle.lfs_ifile.specs.Tables.{row_at}
 use Rattle.lfs_inodes.specs.declared.inode.Inode.{Inode}
 use Rattle.lfs_segments.specs.Log.{Expects}
-use Rattle.lfs_staging.specs.View.{key_of, version_of, waiting_in}
+use Rattle.lfs_parts.specs.View.{key_of, version_of, waiting_in}
 use Rattle.lfs_segwrite.proofs.BoundLemmas.{blocks_more, blocks_sum}
 use Rattle.lfs_segwrite.proofs.OrderLemmas.{entries_of-same}
 use Rattle.lfs_segwrite.proofs.CollectingLemmas.{entries_of-length}
@@ -142,6 +144,9 @@ module _ (old a b new : Parts) (kept : KeepsFiles old a) (fewer : a.log.clean �
   pub writes_ahead : WritesAhead old new
   writes_ahead = record {
     segments = flushes.segments ∙ segments_same;
+    serials = flushes.serials ∙ ap has_serials stays.memory ∙ kept.serials;
+    rising = λ r. flushes.rising (subst IsRising (sym stays.memory) (kept.rising r));
+    whole = λ r. flushes.whole (subst IsRecoverable (sym stays.memory) (kept.whole r));
     numbers = flushes.numbers ∙ stays.numbers ∙ ap (λ (rs : List InodeRow). length rs) kept.rows;
     clean = clean_less;
     moves = moves_ahead;
@@ -215,6 +220,9 @@ module _ (old a new : Parts) (blocks : ℕ) (is : blocks ≡ waiting_blocks old)
 pub stays_ahead : (a b : Parts) → StaysInLog a b → WritesAhead a b
 stays_ahead a b stays = record {
   segments = ap (λ (m : SegmentMemory). m.segments) stays.memory;
+  serials = ap has_serials stays.memory;
+  rising = subst IsRising (sym stays.memory);
+  whole = subst IsRecoverable (sym stays.memory);
   numbers = stays.numbers;
   clean = let same = stays.clean in omega arith;
   moves = record {
@@ -234,6 +242,9 @@ ahead_stays old a b ahead stays =
     let after = stays_ahead a b stays in
     record {
       segments = after.segments ∙ ahead.segments;
+      serials = after.serials ∙ ahead.serials;
+      rising = λ r. after.rising (ahead.rising r);
+      whole = λ r. after.whole (ahead.whole r);
       numbers = after.numbers ∙ ahead.numbers;
       clean = let first = ahead.clean in let second = after.clean in omega arith;
       moves = moves-trans (DirtyIn (log_state old)) (log_state old) (log_state a) (log_state b) ahead.moves (record {

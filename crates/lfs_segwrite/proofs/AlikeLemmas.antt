@@ -23,18 +23,18 @@ use Rattle.lfs_bmap.specs.Reading.{SameReadings, data_block}
 use Rattle.lfs_bmap.specs.Ways.{way_of}
 use Rattle.lfs_bmap.proofs.PlaceLemmas.{data_block-same}
 use Rattle.lfs_bmap.proofs.WayLemmas.{way_of-known}
-use Rattle.lfs_staging.specs.declared.parts.Parts.{Parts}
-use Rattle.lfs_staging.specs.Files.{content_of}
-use Rattle.lfs_staging.specs.Keys.{log_state}
+use Rattle.lfs_parts.specs.declared.parts.Parts.{Parts}
+use Rattle.lfs_parts.specs.Files.{content_of}
+use Rattle.lfs_parts.specs.Keys.{log_state}
 use Rattle.lfs_staging.specs.Staging.{IsStaged}
-use Rattle.lfs_staging.specs.Store.{AreFiles, HolderWaits, IsFile, IsPresent}
-use Rattle.lfs_staging.specs.View.{key_of, record_of, tree_of, version_of, waiting_in}
-use Rattle.lfs_staging.specs.Waiting.{AreOnce}
-use Rattle.lfs_staging.proofs.CleanLemmas.{mirrors_read}
-use Rattle.lfs_staging.proofs.FileLemmas.{record_of-past}
-use Rattle.lfs_staging.proofs.KeyLemmas.{place-block}
-use Rattle.lfs_staging.proofs.SameContentLemmas.{content_of-same, file_at-kept}
-use Rattle.lfs_staging.proofs.KeptLemmas.{block_known}
+use Rattle.lfs_parts.specs.Store.{AreFiles, HolderWaits, IsFile, IsPresent}
+use Rattle.lfs_parts.specs.View.{key_of, record_of, tree_of, version_of, waiting_in}
+use Rattle.lfs_parts.specs.Waiting.{AreOnce}
+use Rattle.lfs_parts.proofs.CleanLemmas.{mirrors_read}
+use Rattle.lfs_parts.proofs.FileLemmas.{record_of-past}
+use Rattle.lfs_parts.proofs.KeyLemmas.{place-block}
+use Rattle.lfs_parts.proofs.SameContentLemmas.{content_of-same, file_at-kept}
+use Rattle.lfs_parts.proofs.SameLogLemmas.{block_known}
 
 pub record AreAlike (p q : Parts) : Type 0 where
   pub cache : q.cache ≡ p.cache

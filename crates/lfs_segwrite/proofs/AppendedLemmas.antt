@@ -12,6 +12,7 @@ use Rattle.lfs_cache.specs.Contents.{Contents, IsLocked, block_in}
 use Rattle.lfs_segments.specs.declared.entry.SummaryEntry.{SummaryEntry}
 use Rattle.lfs_segments.specs.Log.{Expects, Extends}
 use Rattle.lfs_segments.specs.Memory.{block_at, next_address, room_of}
+use Rattle.lfs_segments.specs.Rising.{IsRising}
 use Rattle.lfs_log.specs.Parts.{IsParts, record_place}
 use Rattle.lfs_log.specs.Parts as log
 use Rattle.lfs_bmap.specs.declared.blocks.TheConstants.{BLOCK_CODES}
@@ -20,15 +21,15 @@ use Rattle.lfs_bmap.specs.Reading.{IsUnread, address}
 use Rattle.lfs_bmap.specs.Ways.{code_at}
 use Rattle.lfs_bmap.proofs.LogLemmas.{written_log}
 use Rattle.lfs_bmap.proofs.ReadingLemmas.{kept_blocks}
-use Rattle.lfs_staging.specs.declared.parts.Parts.{Parts}
+use Rattle.lfs_parts.specs.declared.parts.Parts.{Parts}
 use Rattle.lfs_segwrite.specs.Flushing.{Waits}
-use Rattle.lfs_staging.specs.Keys.{log_state}
+use Rattle.lfs_parts.specs.Keys.{log_state}
 use Rattle.lfs_segwrite.specs.Landing.{AppendsBlock}
 use Rattle.lfs_segwrite.specs.Recording.{Advances}
 use Rattle.lfs_staging.specs.Staging.{IsStaged}
-use Rattle.lfs_staging.specs.Store.{IsPresent}
-use Rattle.lfs_staging.specs.View.{key_of, root_in, tree_of, version_of, waiting_in}
-use Rattle.lfs_staging.specs.Waiting.{AreOnce}
+use Rattle.lfs_parts.specs.Store.{IsPresent}
+use Rattle.lfs_parts.specs.View.{key_of, root_in, tree_of, version_of, waiting_in}
+use Rattle.lfs_parts.specs.Waiting.{AreOnce}
 use Rattle.lfs_segwrite.proofs.PutLemmas.{blocks_put, next_some, record_put, unread_next}
 use Rattle.lfs_segwrite.proofs.AlikeLemmas.{AreAlike, alike_content, alike_files, alike_place, alike_staged}
 use Rattle.lfs_staging.proofs.HeldFrames.{KeepsFrames-same}
@@ -112,6 +113,8 @@ module _ (p q : Parts) (a : ℕ) (block : List ℕ) (put : AppendsBlock p q a bl
   appended_advances from first = record {
     content = alike_content p q appended_alike;
     segments = put.step.keys.segments;
+    serials = put.serials;
+    rising = put.rising;
     active = put.step.active;
     states = ap (λ (t : Tables). t.states) put.tables;
     clean = put.step.used.clean;
@@ -131,16 +134,18 @@ module _ (p q : Parts) (a : ℕ) (block : List ℕ) (put : AppendsBlock p q a bl
 pub summary_put : (p q : Parts) (a : ℕ) (entries : List SummaryEntry) → IsStaged p 0 → Expects p.log.memory []
     → Expects q.log.memory entries → 1 ≤ room_of p.log.memory
     → a ≡ next_address p.log.memory → next_address q.log.memory ≡ next_address p.log.memory + 1
-    → Extends p.log.memory q.log.memory
+    → Extends p.log.memory q.log.memory → (IsRising p.log.memory → IsRising q.log.memory)
     → q.log.tables ≡ p.log.tables → q.cache ≡ p.cache → q.waiting ≡ p.waiting
     → Writes (log_state p) (log.log_state q.log (log_state p).at) 1
     → AppendsBlock p q a (block_at q.log.memory a)
-summary_put p q a entries staged ready expects room end next extends tables cache waiting step =
+summary_put p q a entries staged ready expects room end next extends rising tables cache waiting step =
     let parts = staged.whole.parts in
     record {
       end = end;
       somewhere = λ none. let some = next_some p.log.memory parts.laid_out in omega arith;
       inside = omega arith;
+      serials = extends.serials;
+      rising = rising;
       tables = tables;
       cache = cache;
       waiting = waiting;

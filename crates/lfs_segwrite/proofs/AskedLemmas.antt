@@ -24,16 +24,16 @@ use Rattle.lfs_inodes.specs.Reading.{Fields}
 use Rattle.lfs_inodes.specs.declared.inode.Inode.{Inode}
 use Rattle.lfs_bmap.specs.Reading.{data_block}
 use Rattle.lfs_bmap.proofs.PieceLemmas.{file_bytes-length}
-use Rattle.lfs_staging.specs.declared.parts.Parts.{Parts}
-use Rattle.lfs_staging.specs.Files.{content_of, file_with}
+use Rattle.lfs_parts.specs.declared.parts.Parts.{Parts}
+use Rattle.lfs_parts.specs.Files.{content_of, file_with}
 use Rattle.lfs_staging.specs.Putting.{MayChange, with_put}
 use Rattle.lfs_staging.specs.Staging.{IsStaged}
-use Rattle.lfs_staging.specs.Store.{AreFiles}
-use Rattle.lfs_staging.specs.View.{record_of, tree_of}
-use Rattle.lfs_staging.specs.Waiting.{without}
-use Rattle.lfs_staging.proofs.FileLemmas.{file_at-some, free_shown, get-content_of, used_shown}
-use Rattle.lfs_staging.proofs.KeyLemmas.{lies_in}
-use Rattle.lfs_staging.proofs.ForgettingLemmas.{used_low}
+use Rattle.lfs_parts.specs.Store.{AreFiles}
+use Rattle.lfs_parts.specs.View.{record_of, tree_of}
+use Rattle.lfs_parts.specs.Waiting.{without}
+use Rattle.lfs_parts.proofs.FileLemmas.{file_at-some, free_shown, get-content_of, used_shown}
+use Rattle.lfs_parts.proofs.KeyLemmas.{lies_in}
+use Rattle.lfs_parts.proofs.SameLogLemmas.{used_low}
 
 -- ---- which numbers are in use
 pub some_at : (o : Option File) (P : File → Type 0) (f : File) → o ≡ Some f → IsSomeAnd o P → P f

@@ -25,11 +25,11 @@ use Rattle.lfs_bmap.specs.Blocks.{IsFileBlock, block_with, code_of, logical_of}
 use Rattle.lfs_bmap.specs.Tables.{rank_of}
 use Rattle.lfs_bmap.proofs.BlockLemmas.{block_with-code_of}
 use Rattle.lfs_bmap.proofs.TableLemmas.{rank_of-few}
-use Rattle.lfs_staging.specs.Store.{AreFiles, IsBlockCode}
-use Rattle.lfs_staging.specs.declared.parts.Parts.{Parts}
+use Rattle.lfs_parts.specs.Store.{AreFiles, IsBlockCode}
+use Rattle.lfs_parts.specs.declared.parts.Parts.{Parts}
 use Rattle.lfs_segwrite.specs.Collecting.{entries_of, entry_of, in_order, in_passes, inode_blocks, is_of}
-use Rattle.lfs_staging.specs.Opening.{inodes_entry}
-use Rattle.lfs_staging.proofs.ForgettingLemmas.{used_low}
+use Rattle.lfs_parts.specs.Opening.{inodes_entry}
+use Rattle.lfs_parts.proofs.SameLogLemmas.{used_low}
 
 -- ---- the order
 pub filter_yes : (p : Key → Bool) (n : Key) (ns : List Key) → p n ≡ true → filter p (n ∷ ns) ≡ n ∷ filter p ns

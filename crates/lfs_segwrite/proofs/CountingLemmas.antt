@@ -25,12 +25,12 @@ use Rattle.lfs_cache.specs.Changes.{IsContents}
 use Rattle.lfs_cache.specs.Contents.{Contents, IsLocked, block_in}
 use Rattle.lfs_cache.specs.Keys.{same_key}
 use Rattle.lfs_cache.proofs.Entries.{same_cases, same_is, same_self}
-use Rattle.lfs_staging.specs.Addressing.{numbers_of}
-use Rattle.lfs_staging.specs.View.{waiting_in}
-use Rattle.lfs_staging.specs.Waiting.{AreOnce}
-use Rattle.lfs_staging.proofs.FrameLemmas.{part_most}
-use Rattle.lfs_staging.proofs.HeldLemmas.{locked_apart}
-use Rattle.lfs_staging.proofs.WaitingLemmas.{waiting-head, waiting-tail}
+use Rattle.lfs_parts.specs.Waiting.{numbers_of}
+use Rattle.lfs_parts.specs.View.{waiting_in}
+use Rattle.lfs_parts.specs.Waiting.{AreOnce}
+use Rattle.lfs_parts.proofs.FrameLemmas.{part_most}
+use Rattle.lfs_parts.proofs.HeldLemmas.{locked_apart}
+use Rattle.lfs_parts.proofs.WaitingLemmas.{waiting-head, waiting-tail}
 use Rattle.lfs_segwrite.specs.Counting.{AddsKeys}
 use Rattle.lfs_segwrite.specs.Marking.{code_named, codes_to_mark, keys_to_mark, number_named, records_to_mark}
 use Rattle.lfs_segwrite.proofs.NamedLemmas.{codes-most}

@@ -3,37 +3,44 @@
 -- others wait, and the log expects the entries from k on (`LandsKeys`); then come the records by four (`Remains`). The
 -- hard part is that no block waits whose address the next one holds (`IsNext`): such a block has a lower rank, and so
 -- came before; by another order an indirect block would be written without an address.
-use Rattle.std.proofs.Common.{◌≡◌, ◌≢◌, ℕ, zero, suc, ◌+◌, ◌-◌, ◌<◌, ◌≤◌, List, [], ◌∷◌, length, map, replicate, take}
-use Rattle.std.proofs.Common.{drop, get_or, IsSome, is_some, true, false, refl, sym, ap, ◌∙◌, subst, inl, inr, arith}
+use Rattle.std.proofs.Common.{◌≡◌, ◌≢◌, ◌⊎◌, ℕ, zero, suc, ◌+◌, ◌-◌, ◌*◌, ◌<◌, ◌≤◌, List, [], ◌∷◌, ◌++◌, length, map}
+use Rattle.std.proofs.Common.{replicate, take, drop, get_or, IsSome, is_some, true, false, refl, sym, ap, ◌∙◌, subst, inl, inr}
+use Rattle.std.proofs.Common.{⊎_elim, length-append, arith}
 use Rattle.std.specs.Prelude.{◌==◌, Bool, if◌then◌else◌}
 use Rattle.std.proofs.lemmas.Bool.Decides.{nat_tests}
-use Rattle.std.proofs.lemmas.Bool.{cases_eq, cond-true, cond-false, eq-eqb, ne_eqb, false≢true}
-use Rattle.std.proofs.lemmas.List.{drop_at, drop_more, get_or-take, length-map, length-take-le, get_or_default}
+use Rattle.std.proofs.lemmas.Bool.{cases_eq, cases_lt, cond-true, cond-false, eq-eqb, ne_eqb, false≢true}
+use Rattle.std.proofs.lemmas.List.{drop_at, drop_more, get_or-append_right, get_or-replicate, get_or-take, get_or_default}
+use Rattle.std.proofs.lemmas.List.{length-map, length-replicate, length-take-le}
 use Rattle.lfs_cache.specs.declared.key.Key.{Key}
 use Rattle.lfs_cache.specs.Contents.{AreApart, Contents, IsLocked, Lacks, block_in, keys_of}
 use Rattle.lfs_cache.specs.Keys.{same_key}
 use Rattle.lfs_cache.proofs.Entries.{same_cases, same_is, same_self}
 use Rattle.lfs_segments.specs.declared.entry.SummaryEntry.{SummaryEntry}
-use Rattle.lfs_segments.specs.Log.{Expects}
-use Rattle.lfs_segments.specs.Memory.{next_address}
+use Rattle.lfs_segments.specs.Entry.{unused}
+use Rattle.lfs_segments.specs.Log.{Expects, Extends, IsOlder}
+use Rattle.lfs_segments.specs.Memory.{block_at, next_address}
+use Rattle.lfs_segments.proofs.LogLemmas.{entry_at-same}
+use Rattle.lfs_inodes.specs.declared.inode.Inode.{Inode}
+use Rattle.lfs_recovery.specs.Whole.{ends_in_inodes, has_record, is_inodes}
+use Rattle.lfs_found.specs.Written.{IsRecoverable, WritesEntries}
 use Rattle.lfs_bmap.specs.declared.blocks.FileBlock.{FileBlock}
 use Rattle.lfs_bmap.specs.Blocks.{IsFileBlock, block_with, code_of, file_block_of, logical_of, table_of, way_to}
 use Rattle.lfs_bmap.specs.Tables.{rank_of}
 use Rattle.lfs_bmap.proofs.HolderLemmas.{table_of-is, table_of-way}
 use Rattle.lfs_bmap.proofs.TableLemmas.{rank_of-table}
-use Rattle.lfs_staging.specs.declared.parts.Parts.{Parts}
+use Rattle.lfs_parts.specs.declared.parts.Parts.{Parts}
 use Rattle.lfs_segwrite.specs.Collecting.{blocks_of_entries, entries_of, entry_of, in_order, inode_blocks}
 use Rattle.lfs_segwrite.specs.Flushing.{Flushes, Waits}
-use Rattle.lfs_staging.specs.Opening.{inodes_entry}
+use Rattle.lfs_parts.specs.Opening.{inodes_entry}
 use Rattle.lfs_segwrite.specs.Recording.{Advances, entry_at_version}
 use Rattle.lfs_staging.specs.Staging.{IsStaged}
-use Rattle.lfs_staging.specs.Store.{AreFiles, IsBlockCode, IsSettled}
-use Rattle.lfs_staging.specs.View.{key_of, version_of, waiting_in}
+use Rattle.lfs_parts.specs.Store.{AreFiles, IsBlockCode, IsSettled}
+use Rattle.lfs_parts.specs.View.{key_of, version_of, waiting_in}
 use Rattle.lfs_bmap.proofs.BlockLemmas.{file_block_of-logical, logical_of-file_block}
 use Rattle.lfs_segwrite.proofs.CollectingLemmas.{coded_entry, entries_of-length, in_order-length}
 use Rattle.lfs_segwrite.proofs.OrderLemmas.{entries_of-block, in_order-after, in_order-locked}
 use Rattle.lfs_segwrite.proofs.AdvanceLemmas.{Advances-refl, Advances-trans}
-use Rattle.lfs_staging.proofs.HeldLemmas.{locked_apart}
+use Rattle.lfs_parts.proofs.HeldLemmas.{locked_apart}
 use Rattle.lfs_staging.proofs.KeptLemmas.{staged_store}
 use Rattle.lfs_bmap.proofs.WayLemmas.{same_code, way_of-code_of}
 use Rattle.lfs_bmap.specs.Ways.{way_of}
@@ -47,6 +54,7 @@ pub record Remains (old p : Parts) : Type 0 where
   pub advances : (from : ℕ) → from ≤ next_address old.log.memory → Advances from old p
   pub next : next_address p.log.memory + inode_blocks (length p.waiting) ≡ next_address old.log.memory
       + inode_blocks (length old.waiting)
+  pub last : length p.waiting < length old.waiting → has_record p.log.memory (next_address p.log.memory - 1) ≡ true
 
 pub one_block : (n : ℕ) → 0 < n → replicate (inode_blocks n) inodes_entry ≡ inodes_entry
     ∷ replicate (inode_blocks (n - 4)) inodes_entry
@@ -57,8 +65,10 @@ pub remains_fewer : (old p q : Parts) → Remains old p → 0 < length p.waiting
     → ((from : ℕ) → from ≤ next_address p.log.memory → Advances from p q)
     → length q.waiting ≡ length p.waiting - 4 → q.cache ≡ p.cache
     → ((rest : List SummaryEntry) → Expects p.log.memory (inodes_entry ∷ rest) → Expects q.log.memory rest)
-    → next_address q.log.memory ≡ next_address p.log.memory + 1 → Remains old q
-remains_fewer old p q h some staged advances count cache expects next = record {
+    → next_address q.log.memory ≡ next_address p.log.memory + 1
+    → has_record q.log.memory (next_address p.log.memory) ≡ true
+    → Remains old q
+remains_fewer old p q h some staged advances count cache expects next first = record {
   staged = staged;
   no_frame = ap (λ (c : Contents). c.locked) cache ∙ h.no_frame;
   expected = subst (λ n. Expects q.log.memory (replicate (inode_blocks n) inodes_entry)) (sym count)
@@ -67,6 +77,9 @@ remains_fewer old p q h some staged advances count cache expects next = record {
   advances = λ from low. Advances-trans from old p q (h.advances from low)
       (advances from (let next = (h.advances from low).next in omega arith));
   next = let before = h.next in omega arith;
+  last = λ less.
+      let at : next_address q.log.memory - 1 ≡ next_address p.log.memory = omega arith in
+      ap (has_record q.log.memory) at ∙ first;
 }
 
 -- a list that is not empty
@@ -291,14 +304,80 @@ blocks_some n some = elim (cases_eq n 0) [
   | inr other ↦ cond-false _ _ _ (ne_eqb n 0 other)
 ]
 
+pub entries_more : (n : ℕ) → (if n == 0 then 0 else n + 1) ≢ 0 → 0 < n
+entries_more n some = elim (cases_eq n 0) [
+  | inl is ↦ absurd (some (cond-true _ _ _ (eq-eqb n 0 is)))
+  | inr other ↦ omega arith
+]
+
+-- a block that waits has its record wait
+pub records_some : (p : Parts) → IsStaged p 0 → 0 < length (entries_of p) → 0 < length p.waiting
+records_some p staged some = elim (cases_lt 0 (length p.waiting)) [
+  | inl more ↦ more
+  | inr none ↦
+      let many = entries_of-length p in
+      let all = ordered-length p in
+      let d : Key = key_of 0 0 0 in
+      let key = get_or (ordered p) 0 d in
+      let locked : IsLocked key p.cache =
+      (in_order-locked p.cache (locked_apart p.cache staged.whole.cache)).only 0 d (omega arith) in
+      let empty : p.waiting ≡ [] = empty_list p.waiting (omega arith) in
+      absurd (false≢true (sym (ap (λ vs. is_some (waiting_in vs key.ino)) empty) ∙ staged.parents.records key locked))
+]
+  where
+    empty_list : (vs : List Inode) → length vs ≡ 0 → vs ≡ []
+    empty_list [] none = refl
+    empty_list (v ∷ vs) none = absurd (omega arith)
+
+-- the last block that is written is one of records
+pub records_last : (p : Parts) → 0 < length p.waiting → ends_in_inodes (entries_of p) ≡ true
+unfolding entries_of
+records_last p some =
+    let blocks : List SummaryEntry = map entry_of (ordered p) in
+    let records : ℕ = inode_blocks (length p.waiting) in
+    let whole = length-append blocks (replicate records inodes_entry) in
+    let many = length-replicate records inodes_entry in
+    let last : ℕ = length (blocks ++ replicate records inodes_entry) - 1 in
+    let is : get_or (blocks ++ replicate records inodes_entry) last unused ≡ inodes_entry =
+    get_or-append_right blocks (replicate records inodes_entry) (length blocks) last unused refl (omega arith)
+    ∙ get_or-replicate records (last - length blocks) inodes_entry unused (omega arith) in
+    ap (λ (e : SummaryEntry). is_inodes e.block) is
+
+-- the log went on, and what was there stays
+pub advanced_extends : (p q : Parts) → Advances (next_address p.log.memory) p q → Extends p.log.memory q.log.memory
+advanced_extends p q h =
+    let m = p.log.memory in
+    let n = q.log.memory in
+    let active = h.active in
+    let next = h.next in
+    let stays : (a : ℕ) → IsOlder m a → block_at n a ≡ block_at m a = λ a older. h.blocks a (⊎_elim
+    (λ (before : a < next_address m). inl before)
+    (λ (beyond : m.active * 64 + 64 ≤ a). inr (omega arith))
+    older) in
+    record {
+      segments = h.segments;
+      active = active;
+      fill = omega arith;
+      serials = h.serials;
+      blocks = stays;
+      entries = λ a older. entry_at-same m n a h.serials (λ b from below. stays b (⊎_elim
+          (λ (before : a < next_address m). inl (omega arith))
+          (λ (beyond : m.active * 64 + 64 ≤ a). inr (omega arith))
+          older));
+    }
+
 pub flushed : (p q : Parts) → IsStaged q 0 → Expects q.log.memory [] → IsSettled q
     → Advances (next_address p.log.memory) p q
-    → next_address q.log.memory ≡ next_address p.log.memory + blocks_of_entries (entries_of p) → Flushes p q
-flushed p q staged ready settled h grown = record {
+    → next_address q.log.memory ≡ next_address p.log.memory + blocks_of_entries (entries_of p)
+    → (0 < length p.waiting → WritesEntries p.log.memory q.log.memory (entries_of p))
+    → (IsRecoverable p.log.memory → IsRecoverable q.log.memory) → Flushes p q
+flushed p q staged ready settled h grown written whole = record {
   store = staged_store q staged ready;
   settled = settled;
   content = h.content;
   segments = h.segments;
+  serials = h.serials;
+  rising = h.rising;
   active = h.active;
   states = h.states;
   clean = h.clean;
@@ -310,4 +389,6 @@ flushed p q staged ready settled h grown = record {
   blocks = h.blocks;
   held = h.held;
   grown = grown;
+  written = written;
+  whole = whole;
 }

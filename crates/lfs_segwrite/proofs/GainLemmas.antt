@@ -32,16 +32,16 @@ use Rattle.lfs_bmap.proofs.CountingLemmas.{live-none}
 use Rattle.lfs_bmap.proofs.LogLemmas.{dirty_not_active, dirty_not_clean}
 use Rattle.lfs_bmap.proofs.MoveLemmas.{StaysDirty-refl, StaysDirty-trans, moves-trans, present_address-key}
 use Rattle.lfs_cache.specs.Keys.{same_key}
-use Rattle.lfs_staging.specs.declared.parts.Parts.{Parts}
-use Rattle.lfs_staging.specs.Files.{content_of}
-use Rattle.lfs_staging.specs.Keys.{log_state}
-use Rattle.lfs_staging.specs.Store.{IsSettled, IsStore}
+use Rattle.lfs_parts.specs.declared.parts.Parts.{Parts}
+use Rattle.lfs_parts.specs.Files.{content_of}
+use Rattle.lfs_parts.specs.Keys.{log_state}
+use Rattle.lfs_parts.specs.Store.{IsSettled, IsStore}
 use Rattle.lfs_segwrite.specs.Gaining.{Empties, IsGainful, IsWorth, MovesBlocks, MovesEights, Spends, blocks_by_eights}
 use Rattle.lfs_segwrite.specs.Gaining.{eight, eight_blocks, eights, greatest, live_infos, pass_blocks, space, widest}
 use Rattle.lfs_segwrite.specs.Gaining.{widest_eight}
 use Rattle.lfs_segwrite.specs.Marking.{IsNamed, IsOnWay, IsRewritten, MarksSettled, blocks_to_mark, code_named}
 use Rattle.lfs_segwrite.specs.Marking.{keys_to_mark, number_named}
-use Rattle.lfs_staging.specs.View.{key_of, version_of}
+use Rattle.lfs_parts.specs.View.{key_of, version_of}
 use Rattle.lfs_segwrite.proofs.CountingLemmas.{mapped, part_count, same_decides, same_laws}
 use Rattle.lfs_segwrite.proofs.InfoLemmas.{live_kept, placed_listed}
 use Rattle.lfs_segwrite.proofs.NamedLemmas.{named_place, named_there}
@@ -296,6 +296,9 @@ moves_none p store settled = record {
   settled = settled;
   content = refl;
   segments = refl;
+  serials = refl;
+  rising = λ r. r;
+  whole = λ r. r;
   numbers = refl;
   used = λ n. refl;
   versions = λ n. refl;
@@ -318,6 +321,9 @@ moves_more old mid new marks count h store settled content m =
       settled = settled;
       content = content ∙ h.content;
       segments = all;
+      serials = m.log.serials ∙ h.serials;
+      rising = λ r. m.log.rising (h.rising r);
+      whole = λ r. m.log.whole (h.whole r);
       numbers = m.log.numbers ∙ h.numbers;
       used = λ n. m.used n ∙ h.used n;
       versions = λ n. m.versions n ∙ h.versions n;

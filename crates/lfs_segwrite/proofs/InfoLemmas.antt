@@ -33,10 +33,10 @@ use Rattle.lfs_log.specs.Infos.{block_infos, entry_infos, info_of, infos_of, slo
 use Rattle.lfs_log.specs.Parts.{record_place}
 use Rattle.lfs_log.proofs.FoundLemmas.{infos_of-named, infos_of-only}
 use Rattle.lfs_ifile.specs.Tables.{row_of}
-use Rattle.lfs_staging.specs.declared.parts.Parts.{Parts}
-use Rattle.lfs_staging.specs.Keys.{log_state}
-use Rattle.lfs_staging.specs.Store.{IsStore}
-use Rattle.lfs_staging.proofs.KeyLemmas.{place-block, place-record}
+use Rattle.lfs_parts.specs.declared.parts.Parts.{Parts}
+use Rattle.lfs_parts.specs.Keys.{log_state}
+use Rattle.lfs_parts.specs.Store.{IsStore}
+use Rattle.lfs_parts.proofs.KeyLemmas.{place-block, place-record}
 use Rattle.lfs_segwrite.specs.Gaining.{live_infos, names_block}
 use Rattle.lfs_segwrite.specs.Marking.{IsNamed, code_named}
 use Rattle.lfs_segwrite.proofs.NamedLemmas.{code_named-block}

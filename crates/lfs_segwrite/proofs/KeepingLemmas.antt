@@ -27,17 +27,17 @@ use Rattle.lfs_bmap.specs.Pieces.{IsPadded}
 use Rattle.lfs_bmap.specs.Reading.{address, data_block}
 use Rattle.lfs_bmap.specs.Ways.{code_at, way_of}
 use Rattle.lfs_bmap.proofs.WayLemmas.{way_of-code_of, way_of-known}
-use Rattle.lfs_staging.specs.declared.parts.Parts.{Parts}
-use Rattle.lfs_staging.specs.Files.{content_of}
+use Rattle.lfs_parts.specs.declared.parts.Parts.{Parts}
+use Rattle.lfs_parts.specs.Files.{content_of}
 use Rattle.lfs_staging.specs.Addressing.{StaysWaiting}
-use Rattle.lfs_staging.specs.Store.{AreFiles, HolderWaits, IsBlockCode, IsFile, IsLogged, IsPresent, IsWithin, Mirrors}
-use Rattle.lfs_staging.specs.View.{key_of, record_of, tree_of}
-use Rattle.lfs_staging.proofs.CleanLemmas.{apart_present, coded_below, coded_block, logged_kept}
-use Rattle.lfs_staging.proofs.FileLemmas.{record_of-past}
-use Rattle.lfs_staging.proofs.ForgettingLemmas.{used_low}
+use Rattle.lfs_parts.specs.Store.{AreFiles, HolderWaits, IsBlockCode, IsFile, IsLogged, IsPresent, IsWithin, Mirrors}
+use Rattle.lfs_parts.specs.View.{key_of, record_of, tree_of}
+use Rattle.lfs_parts.proofs.CleanLemmas.{apart_present, coded_below, coded_block, logged_kept}
+use Rattle.lfs_parts.proofs.FileLemmas.{record_of-past}
+use Rattle.lfs_parts.proofs.SameLogLemmas.{used_low}
 use Rattle.lfs_segwrite.proofs.LandedLemmas.{Steps, address_here, address_same, block_other, data_same, lands}
 use Rattle.lfs_segwrite.proofs.LandedLemmas.{record_other, rows_all, version_same, waits_key}
-use Rattle.lfs_staging.proofs.SameContentLemmas.{content_of-same, file_at-kept, file_at-same}
+use Rattle.lfs_parts.proofs.SameContentLemmas.{content_of-same, file_at-kept, file_at-same}
 use Rattle.lfs_staging.proofs.SettingLemmas.{waiting_record}
 use Rattle.lfs_bmap.proofs.BlockLemmas.{code_of-below}
 use Rattle.lfs_staging.proofs.GivingLemmas.{within_apart}

@@ -27,20 +27,21 @@ use Rattle.lfs_bmap.specs.Log.{IsLog}
 use Rattle.lfs_bmap.specs.Ways.{IsBlockWay, code_at, way_of}
 use Rattle.lfs_bmap.proofs.CountingLemmas.{placed-cases}
 use Rattle.lfs_bmap.proofs.WayLemmas.{known_way_of, up_known, way_of-code_of, way_of-known}
-use Rattle.lfs_staging.specs.declared.parts.Parts.{Parts}
-use Rattle.lfs_staging.specs.Files.{content_of}
+use Rattle.lfs_parts.specs.declared.parts.Parts.{Parts}
+use Rattle.lfs_parts.specs.Files.{content_of}
 use Rattle.lfs_segwrite.specs.Flushing.{Waits}
-use Rattle.lfs_staging.specs.Keys.{log_state}
-use Rattle.lfs_staging.specs.Addressing.{IsWaiting, StaysWaiting, numbers_of}
+use Rattle.lfs_parts.specs.Keys.{log_state}
+use Rattle.lfs_staging.specs.Addressing.{IsWaiting, StaysWaiting}
+use Rattle.lfs_parts.specs.Waiting.{numbers_of}
 use Rattle.lfs_segwrite.specs.Landing.{entry_of, LandsBlock, MayLand, GetsPlace}
 use Rattle.lfs_segwrite.specs.Recording.{Advances, entry_at_version}
 use Rattle.lfs_staging.specs.Staging.{IsStaged}
-use Rattle.lfs_staging.specs.Store.{AreFiles, HolderWaits, IsPresent, IsWithin}
-use Rattle.lfs_staging.specs.View.{key_of, record_of, version_of, waiting_in}
+use Rattle.lfs_parts.specs.Store.{AreFiles, HolderWaits, IsPresent, IsWithin}
+use Rattle.lfs_parts.specs.View.{key_of, record_of, version_of, waiting_in}
 use Rattle.lfs_staging.proofs.SettingLemmas.{waiting_record}
-use Rattle.lfs_staging.proofs.WaitingLemmas.{waiting-head, waiting-tail}
-use Rattle.lfs_staging.proofs.CleanLemmas.{coded_below}
-use Rattle.lfs_staging.proofs.FrameLemmas.{once_numbers, waiting_number}
+use Rattle.lfs_parts.proofs.WaitingLemmas.{waiting-head, waiting-tail}
+use Rattle.lfs_parts.proofs.CleanLemmas.{coded_below}
+use Rattle.lfs_parts.proofs.FrameLemmas.{once_numbers, waiting_number}
 use Rattle.lfs_segwrite.proofs.AgainLemmas.{waits_block}
 
 -- what waits of a number rests on the numbers
@@ -242,6 +243,8 @@ module _ (p q : Parts) (v : Inode) (block : FileBlock) (a : ℕ) (h : LandsKey p
   landed_advances from first = record {
     content = h.content;
     segments = h.place.segments;
+    serials = h.place.serials;
+    rising = h.place.rising;
     active = h.place.active;
     states = h.place.states;
     clean = h.place.clean;

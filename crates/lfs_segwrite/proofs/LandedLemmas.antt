@@ -30,14 +30,14 @@ use Rattle.lfs_bmap.proofs.BlockLemmas.{code_of-below}
 use Rattle.lfs_bmap.proofs.LogLemmas.{taken_log, written_log, MayTake}
 use Rattle.lfs_bmap.proofs.ReadingLemmas.{kept_blocks, landed_address, landed_addresses, landed_data, read-waits}
 use Rattle.lfs_bmap.proofs.WayLemmas.{way_of-data, way_of-known}
-use Rattle.lfs_staging.specs.declared.parts.Parts.{Parts}
-use Rattle.lfs_staging.specs.Keys.{log_state}
+use Rattle.lfs_parts.specs.declared.parts.Parts.{Parts}
+use Rattle.lfs_parts.specs.Keys.{log_state}
 use Rattle.lfs_staging.specs.Addressing.{IsWaiting, Sets}
 use Rattle.lfs_segwrite.specs.Landing.{AppendsBlock}
-use Rattle.lfs_staging.specs.View.{key_of, record_of, root_in, tree_of, version_of}
+use Rattle.lfs_parts.specs.View.{key_of, record_of, root_in, tree_of, version_of}
 use Rattle.lfs_staging.proofs.TableLemmas.{apart_code, longer, room_at, table_same}
-use Rattle.lfs_staging.proofs.ViewLemmas.{code_at-way_to}
-use Rattle.lfs_staging.specs.Store.{HolderWaits}
+use Rattle.lfs_parts.proofs.ViewLemmas.{code_at-way_to}
+use Rattle.lfs_parts.specs.Store.{HolderWaits}
 use Rattle.lfs_staging.proofs.UnstagedLemmas as unstaged
 use Rattle.lfs_staging.proofs.UnstagedLemmas.{Readdresses, Unstages, above_known, code_apart, known, parent_set}
 use Rattle.lfs_staging.proofs.UnstagedLemmas.{record_here, waits_none, waits_other, waits_rest, way_here}

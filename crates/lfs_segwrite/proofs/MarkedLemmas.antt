@@ -22,23 +22,23 @@ use Rattle.lfs_bmap.specs.Moves.{DirtyIn}
 use Rattle.lfs_bmap.proofs.MoveLemmas.{StaysDirty-trans, moves-same, moves-trans}
 use Rattle.lfs_segwrite.specs.Applying.{WritesWaiting}
 use Rattle.lfs_bmap.proofs.LogLemmas.{dirty_not_active, dirty_not_clean}
-use Rattle.lfs_staging.specs.declared.parts.Parts.{Parts}
+use Rattle.lfs_parts.specs.declared.parts.Parts.{Parts}
 use Rattle.lfs_segwrite.specs.Collecting.{blocks_of_entries, entries_of}
-use Rattle.lfs_staging.specs.Files.{content_of}
+use Rattle.lfs_parts.specs.Files.{content_of}
 use Rattle.lfs_segwrite.specs.Flushing.{Flushes, Waits}
-use Rattle.lfs_staging.specs.Keys.{log_state}
+use Rattle.lfs_parts.specs.Keys.{log_state}
 use Rattle.lfs_segwrite.specs.Finishing.{HasRoomToMark, MarksAgain}
 use Rattle.lfs_segwrite.specs.Marking.{AreNamed, IsOnWay, IsRewritten, MarksSettled}
 use Rattle.lfs_segwrite.specs.Marking.{SameShown, StagesNamed, blocks_to_mark, code_named, keys_to_mark}
 use Rattle.lfs_segwrite.specs.Room.{KeepsFiles}
-use Rattle.lfs_staging.specs.Store.{IsSettled, IsStore}
-use Rattle.lfs_staging.specs.View.{key_of, version_of}
+use Rattle.lfs_parts.specs.Store.{IsSettled, IsStore}
+use Rattle.lfs_parts.specs.View.{key_of, version_of}
 use Rattle.lfs_segwrite.proofs.CollectingLemmas.{entries_of-length}
 use Rattle.lfs_staging.specs.Changing.{StaysInLog}
-use Rattle.lfs_staging.proofs.KeptLemmas.{keys_kept}
+use Rattle.lfs_parts.proofs.SameLogLemmas.{keys_kept}
 use Rattle.lfs_segwrite.proofs.PutLemmas.{next_some}
 use Rattle.lfs_segwrite.proofs.NamedLemmas.{named_there}
-use Rattle.lfs_staging.proofs.SameContentLemmas.{content_of-same, file_at-kept}
+use Rattle.lfs_parts.proofs.SameContentLemmas.{content_of-same, file_at-kept}
 use Rattle.lfs_segwrite.proofs.AheadLemmas.{writes_ahead}
 
 -- what shows the same has the same content

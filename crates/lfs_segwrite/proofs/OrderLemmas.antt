@@ -18,9 +18,9 @@ use Rattle.lfs_cache.proofs.CallerLemmas.{listed_has_block}
 use Rattle.lfs_inodes.specs.declared.inode.Inode.{Inode}
 use Rattle.lfs_bmap.specs.Tables.{rank_of}
 use Rattle.lfs_bmap.proofs.TableLemmas.{rank_of-few}
-use Rattle.lfs_staging.specs.declared.parts.Parts.{Parts}
+use Rattle.lfs_parts.specs.declared.parts.Parts.{Parts}
 use Rattle.lfs_segwrite.specs.Collecting.{AreLocked, entries_of, entry_of, in_order, in_passes, inode_blocks, is_of}
-use Rattle.lfs_staging.specs.Opening.{inodes_entry}
+use Rattle.lfs_parts.specs.Opening.{inodes_entry}
 use Rattle.lfs_segwrite.proofs.CollectingLemmas.{filter_no, filter_yes, in_order-length}
 use Rattle.lfs_segwrite.proofs.CollectingLemmas.{in_passes-each, in_passes-more, in_passes-none}
 use Rattle.lfs_segments.specs.declared.entry.SummaryEntry.{SummaryEntry}

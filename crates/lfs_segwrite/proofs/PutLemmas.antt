@@ -15,6 +15,7 @@ use Rattle.lfs_inodes.specs.Slots.{slot_of}
 use Rattle.lfs_segments.specs.declared.entry.SummaryEntry.{SummaryEntry}
 use Rattle.lfs_segments.specs.Log.{Expects, Extends, IsOlder}
 use Rattle.lfs_segments.specs.Memory.{IsLaidOut, SegmentMemory, block_at, log_start, next_address, room_of}
+use Rattle.lfs_segments.specs.Rising.{IsRising}
 use Rattle.lfs_log.specs.Parts.{IsParts, LogParts, record_place}
 use Rattle.lfs_log.specs.Parts as log
 use Rattle.lfs_log.proofs.NameLemmas.{written_older}
@@ -23,13 +24,13 @@ use Rattle.lfs_bmap.specs.Reading.{IsUnread, address}
 use Rattle.lfs_bmap.specs.Ways.{code_at, way_of}
 use Rattle.lfs_bmap.proofs.ReadingLemmas.{address-root}
 use Rattle.lfs_bmap.proofs.WayLemmas.{known_way_of, way_of-zero}
-use Rattle.lfs_staging.specs.declared.parts.Parts.{Parts}
+use Rattle.lfs_parts.specs.declared.parts.Parts.{Parts}
 use Rattle.lfs_segwrite.specs.Landing.{AppendsBlock, ExpectsSome}
-use Rattle.lfs_staging.specs.Keys.{log_state}
-use Rattle.lfs_staging.specs.View.{fields_at, record_of, tree_of, waiting_in, waiting_or}
-use Rattle.lfs_staging.proofs.FileLemmas.{free_place, record_of-past}
-use Rattle.lfs_staging.proofs.KeyLemmas.{place-block, placed_at}
-use Rattle.lfs_staging.proofs.ViewLemmas.{record_of-at, record_of-unused}
+use Rattle.lfs_parts.specs.Keys.{log_state}
+use Rattle.lfs_parts.specs.View.{fields_at, record_of, tree_of, waiting_in, waiting_or}
+use Rattle.lfs_parts.proofs.FileLemmas.{free_place, record_of-past}
+use Rattle.lfs_parts.proofs.KeyLemmas.{place-block, placed_at}
+use Rattle.lfs_parts.proofs.ViewLemmas.{record_of-at, record_of-unused}
 
 -- the log never goes on at address 0
 first_some : (active fill : ℕ) → log_start active ≤ fill → 0 < active * 64 + fill
@@ -127,17 +128,19 @@ unread_next p number spare parts log room low = λ way known e.
 -- A block that was put at the log's end, where the log expected one: each file is as it was.
 pub appends : (p : Parts) (l : LogParts) (a : ℕ) (block : List ℕ) → IsParts p.log → IsLog (log_state p) 0
     → (e : ExpectsSome p.log.memory) → a ≡ next_address p.log.memory → block_at l.memory a ≡ block
-    → l.tables ≡ p.log.tables → Extends p.log.memory l.memory
+    → l.tables ≡ p.log.tables → Extends p.log.memory l.memory → (IsRising p.log.memory → IsRising l.memory)
     → next_address l.memory ≡ next_address p.log.memory + 1 → Expects l.memory e.rest
     → Writes (log_state p) (log.log_state l (log_state p).at) 1
     → AppendsBlock p (record { log = l; cache = p.cache; waiting = p.waiting }) a block
-appends p l a block parts is_log e end written tables extends next expects step =
+appends p l a block parts is_log e end written tables extends rising next expects step =
     let q : Parts = record { log = l; cache = p.cache; waiting = p.waiting } in
     let room : 1 ≤ room_of p.log.memory = let fit = e.expects.fit in omega arith in
     record {
       end = end;
       somewhere = λ none. let some = next_some p.log.memory parts.laid_out in omega (arith, end, none, some);
       inside = omega (arith, end, room);
+      serials = extends.serials;
+      rising = rising;
       tables = tables;
       cache = refl;
       waiting = refl;

@@ -17,9 +17,9 @@ use Rattle.lfs_segments.specs.Log.{entry_at, first_of}
 use Rattle.lfs_segments.specs.Memory.{IsLaidOut, SegmentMemory, block_at, next_address}
 use Rattle.lfs_log.specs.Names.{inode_key, named_at, record_in}
 use Rattle.lfs_log.proofs.NameLemmas.{named_at-record}
-use Rattle.lfs_staging.specs.declared.parts.Parts.{Parts}
+use Rattle.lfs_parts.specs.declared.parts.Parts.{Parts}
 use Rattle.lfs_segwrite.specs.Landing.{AppendsBlock}
-use Rattle.lfs_staging.specs.Opening.{inodes_entry}
+use Rattle.lfs_parts.specs.Opening.{inodes_entry}
 use Rattle.lfs_segwrite.specs.Recording.{Advances, StandsAt}
 use Rattle.lfs_staging.specs.Staging.{IsStaged}
 use Rattle.lfs_segwrite.proofs.AdvanceLemmas.{Advances-trans}

@@ -18,6 +18,8 @@ use Rattle.lfs_inodes.specs.Reading.{Fields, fields_in}
 use Rattle.lfs_inodes.specs.Slots.{slot_of}
 use Rattle.lfs_segments.specs.Log.{Expects, first_of}
 use Rattle.lfs_segments.specs.Memory.{block_at, log_start, opened}
+use Rattle.lfs_segments.proofs.RisingLemmas.{rising-opened}
+use Rattle.lfs_found.proofs.RecoverableLemmas.{opens_recoverable}
 use Rattle.lfs_segments.proofs.WritingLemmas.{block_at-opened_apart, block_at-opened_other}
 use Rattle.lfs_log.specs.Parts.{IsParts, LogParts, opened_parts, record_place, state_of}
 use Rattle.lfs_log.specs.Parts as log
@@ -31,19 +33,18 @@ use Rattle.lfs_bmap.proofs.PlaceLemmas.{data_block-same}
 use Rattle.lfs_bmap.proofs.ReadingLemmas.{address-root, kept_blocks}
 use Rattle.lfs_bmap.proofs.SegmentLemmas.{opened_log}
 use Rattle.lfs_bmap.proofs.WayLemmas.{known_way_of, way_of-known, way_of-zero}
-use Rattle.lfs_staging.specs.declared.parts.Parts.{Parts}
-use Rattle.lfs_staging.specs.Files.{content_below, content_of, file_at, file_with}
-use Rattle.lfs_staging.specs.Keys.{log_state}
+use Rattle.lfs_parts.specs.declared.parts.Parts.{Parts}
+use Rattle.lfs_parts.specs.Files.{content_below, content_of, file_at, file_with}
+use Rattle.lfs_parts.specs.Keys.{log_state}
 use Rattle.lfs_segwrite.specs.Room.{OpensSegment}
-use Rattle.lfs_staging.specs.Store.{AreFiles, IsFile, IsStore}
-use Rattle.lfs_staging.specs.View.{record_of, root_in, tree_of, waiting_in}
-use Rattle.lfs_staging.proofs.CleanLemmas.{mirrors_read}
-use Rattle.lfs_staging.proofs.FileLemmas.{file_at-record, record_of-past}
-use Rattle.lfs_staging.proofs.KeyLemmas.{place-block, place-record, placed_at, unused_waits}
-use Rattle.lfs_staging.proofs.ViewLemmas.{nowhere, record_of-logged, record_of-unused, record_of-waiting}
+use Rattle.lfs_parts.specs.Store.{AreFiles, IsFile, IsStore}
+use Rattle.lfs_parts.specs.View.{record_of, root_in, tree_of, waiting_in}
+use Rattle.lfs_parts.proofs.CleanLemmas.{mirrors_read}
+use Rattle.lfs_parts.proofs.FileLemmas.{file_at-record, record_of-past}
+use Rattle.lfs_parts.proofs.KeyLemmas.{place-block, place-record, placed_at, unused_waits}
+use Rattle.lfs_parts.proofs.ViewLemmas.{nowhere, record_of-logged, record_of-unused, record_of-waiting}
 use Rattle.lfs_bmap.specs.Blocks.{way_to}
-use Rattle.lfs_staging.proofs.KeptLemmas.{block_known}
-use Rattle.lfs_staging.proofs.ForgettingLemmas.{used_low}
+use Rattle.lfs_parts.proofs.SameLogLemmas.{block_known, used_low}
 
 -- ---- parts whose files read the same
 below_same : (old new : ℕ → Option File) → ((n : ℕ) → new n ≡ old n) → (n : ℕ) → content_below new n
@@ -239,6 +240,9 @@ module _ (p : Parts) (s : ℕ) (store : IsStore p) (inside : s < p.log.memory.se
           within = λ n block f is can locked. store.within n block f (sym (record_kept n) ∙ is) can locked;
         };
         files = record {
+          serials = refl;
+          rising = rising-opened p.log.memory s store.whole.parts.laid_out opens.inside;
+          whole = opens_recoverable p.log.memory s opens.inside parts.laid_out;
           rows = refl;
           cache = refl;
           waiting = refl;

@@ -17,7 +17,8 @@ use Rattle.lfs_ifile.specs.Tables.{Tables, place_of, row_of}
 use Rattle.lfs_inodes.specs.declared.inode.Inode.{Inode}
 use Rattle.lfs_cache.specs.Contents.{Contents, IsLocked, block_in}
 use Rattle.lfs_segments.specs.Log.{first_of}
-use Rattle.lfs_segments.specs.Memory.{SegmentMemory, block_at, next_address}
+use Rattle.lfs_segments.specs.Memory.{SegmentMemory, block_at, has_serials, next_address}
+use Rattle.lfs_segments.specs.Rising.{IsRising}
 use Rattle.lfs_log.specs.Parts.{IsParts, MayMoveLive, record_place}
 use Rattle.lfs_log.specs.Parts as log
 use Rattle.lfs_log.proofs.TakeLemmas.{MayMoveLive-taken, MayTake-written}
@@ -29,21 +30,21 @@ use Rattle.lfs_bmap.specs.Log.{Assigns, IsLog}
 use Rattle.lfs_bmap.proofs.CountingLemmas.{placed-code, placed-here, placed-number}
 use Rattle.lfs_bmap.proofs.LogLemmas.{taken_log, MayTake}
 use Rattle.lfs_bmap.proofs.ReadingLemmas.{kept_blocks}
-use Rattle.lfs_staging.specs.declared.parts.Parts.{Parts}
+use Rattle.lfs_parts.specs.declared.parts.Parts.{Parts}
 use Rattle.lfs_segwrite.specs.Flushing.{Waits}
-use Rattle.lfs_staging.specs.Keys.{log_state}
+use Rattle.lfs_parts.specs.Keys.{log_state}
 use Rattle.lfs_segwrite.specs.Recording.{Advances, StandsAt}
 use Rattle.lfs_staging.specs.Staging.{IsStaged}
-use Rattle.lfs_staging.specs.Store.{IsPresent}
-use Rattle.lfs_staging.specs.View.{fields_at, key_of, record_of, root_in, tree_of, version_of, waiting_in, waiting_or}
-use Rattle.lfs_staging.specs.Waiting.{AreOnce}
+use Rattle.lfs_parts.specs.Store.{IsPresent}
+use Rattle.lfs_parts.specs.View.{fields_at, key_of, record_of, root_in, tree_of, version_of, waiting_in, waiting_or}
+use Rattle.lfs_parts.specs.Waiting.{AreOnce}
 use Rattle.lfs_segwrite.proofs.AlikeLemmas.{AreAlike, alike_content, alike_files, alike_place, alike_staged}
-use Rattle.lfs_staging.proofs.ForgettingLemmas.{used_low}
+use Rattle.lfs_parts.proofs.SameLogLemmas.{used_low}
 use Rattle.lfs_staging.proofs.SettingLemmas.{waiting_record}
-use Rattle.lfs_staging.proofs.ViewLemmas.{record_of-logged}
-use Rattle.lfs_staging.proofs.RecordsLemmas.{once_front, waiting-front}
-use Rattle.lfs_staging.proofs.WaitingLemmas.{waiting-head, waiting-tail}
-use Rattle.lfs_staging.proofs.KeyLemmas.{row_place}
+use Rattle.lfs_parts.proofs.ViewLemmas.{record_of-logged}
+use Rattle.lfs_parts.proofs.RecordsLemmas.{once_front, waiting-front}
+use Rattle.lfs_parts.proofs.WaitingLemmas.{waiting-head, waiting-tail}
+use Rattle.lfs_parts.proofs.KeyLemmas.{row_place}
 use Rattle.lfs_staging.proofs.HeldFrames.{KeepsFrames-same}
 
 -- ---- the list of records, and the last of them
@@ -293,6 +294,8 @@ module _ (p q : Parts) (v : Inode) (front : List Inode) (address slot : ℕ) (h 
   settled_advances from first = record {
     content = alike_content p q alike;
     segments = ap (λ (m : SegmentMemory). m.segments) h.memory;
+    serials = ap has_serials h.memory;
+    rising = subst IsRising (sym h.memory);
     active = ap (λ (m : SegmentMemory). m.active) h.memory;
     states = h.states;
     clean = h.clean;

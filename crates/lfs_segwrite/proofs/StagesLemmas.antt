@@ -16,20 +16,20 @@ use Rattle.lfs_inodes.specs.declared.inode.Inode.{Inode}
 use Rattle.lfs_cache.specs.declared.key.Key.{Key}
 use Rattle.lfs_cache.specs.Contents.{IsLocked, block_in}
 use Rattle.lfs_cache.specs.Keys.{same_key}
-use Rattle.lfs_staging.specs.declared.parts.Parts.{Parts}
+use Rattle.lfs_parts.specs.declared.parts.Parts.{Parts}
 use Rattle.lfs_segwrite.specs.Flushing.{Waits}
-use Rattle.lfs_staging.specs.Keys.{log_state}
+use Rattle.lfs_parts.specs.Keys.{log_state}
 use Rattle.lfs_segwrite.specs.Marking.{IsNamed, StagesAgain, StagesNamed, code_named, codes_to_mark, keys_to_mark}
 use Rattle.lfs_segwrite.specs.Marking.{number_named}
 use Rattle.lfs_staging.specs.Staging.{IsStaged}
-use Rattle.lfs_staging.specs.Store.{IsSettled}
-use Rattle.lfs_staging.specs.View.{key_of, version_of, waiting_in}
+use Rattle.lfs_parts.specs.Store.{IsSettled}
+use Rattle.lfs_parts.specs.View.{key_of, version_of, waiting_in}
 use Rattle.lfs_segwrite.proofs.AgainLemmas.{SameShown-refl, SameShown-trans}
 use Rattle.lfs_segwrite.proofs.CountingLemmas.{frames_counted, keys_few, keys_more, mapped, numbers_more}
 use Rattle.lfs_segwrite.proofs.CountingLemmas.{records_counted}
-use Rattle.lfs_staging.proofs.KeptLemmas.{keys_kept}
+use Rattle.lfs_parts.proofs.SameLogLemmas.{keys_kept}
 use Rattle.lfs_segwrite.proofs.NamedLemmas.{named_kept, named_there}
-use Rattle.lfs_staging.proofs.StagingLemmas.{version-same}
+use Rattle.lfs_parts.proofs.SameLogLemmas.{version-same}
 
 -- what waited waits still
 still_waits : (old new : Parts) (number code n c : ℕ) → StagesAgain number code old new → Waits old n c → Waits new n c

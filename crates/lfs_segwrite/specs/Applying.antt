@@ -1,7 +1,7 @@
 -- Changes of a store's content, made one after another, and written all together.
 use Rattle.std.specs.Prelude.{◌≡◌, ◌⊎◌, ◌||◌, ℕ, ◌+◌, ◌<◌, ◌≤◌, Bool, true, false, List, [], ◌∷◌, length}
 use Rattle.std.specs.Prelude.{max, nat_lt, if◌then◌else◌, ◌==◌, sum_by, Option, None, Some}
-use Rattle.std.specs.List.{list_any}
+use Rattle.std.specs.List.{Contains, list_any}
 use Rattle.lfs_types.specs.Changes.{applied, changed}
 use Rattle.lfs_types.specs.Stored.{bytes_of, shown_attrs}
 use Rattle.lfs_types.specs.declared.attrs.Attrs.{Attrs}
@@ -16,22 +16,24 @@ use Rattle.lfs_types.specs.declared.store.Change.TheVariants.{Make, Remove, SetA
 use Rattle.lfs_types.specs.declared.store.Reserve.{Reserve}
 use Rattle.lfs_types.specs.declared.store.Reserve.TheVariants.{Users, Superuser}
 use Rattle.lfs_segments.specs.Memory.{next_address, room_of}
-use Rattle.lfs_staging.specs.declared.parts.Parts.{Parts}
-use Rattle.lfs_staging.specs.Changing.{StaysInLog, frames_of, records_of, version_after}
+use Rattle.lfs_parts.specs.declared.parts.Parts.{Parts}
+use Rattle.lfs_staging.specs.Changing.{StaysInLog, frames_of, length_codes, records_of, version_after}
 use Rattle.lfs_segwrite.specs.Collecting.{blocks_of_entries, entries_of, inode_blocks}
 use Rattle.lfs_segwrite.specs.Flushing.{Waits, WritesAhead}
 use Rattle.lfs_ifile.specs.Tables.{row_of}
+use Rattle.lfs_cache.specs.Contents.{IsLocked}
 use Rattle.lfs_cache.specs.declared.cache.TheConstants.{LOCKED_LIMIT}
+use Rattle.lfs_cache.specs.declared.key.Key.{Key}
 use Rattle.lfs_bmap.specs.declared.blocks.TheConstants.{BLOCK_CODES}
 use Rattle.lfs_staging.specs.declared.cutting.TheConstants.{CUT_FRAMES}
-use Rattle.lfs_staging.specs.declared.records.TheConstants.{WAITING_LIMIT}
-use Rattle.lfs_staging.specs.View.{version_of}
+use Rattle.lfs_parts.specs.declared.records.TheConstants.{WAITING_LIMIT}
+use Rattle.lfs_parts.specs.View.{version_of, waiting_in}
 use Rattle.lfs_staging.specs.Frames.{KeepsFrames}
-use Rattle.lfs_staging.specs.Files.{content_of}
-use Rattle.lfs_staging.specs.Keys.{log_state}
+use Rattle.lfs_parts.specs.Files.{content_of}
+use Rattle.lfs_parts.specs.Keys.{log_state}
 use Rattle.lfs_staging.specs.Staging.{IsStaged}
-use Rattle.lfs_staging.specs.Store.{IsSettled, IsStore}
-use Rattle.lfs_staging.specs.Putting.{frames_of_put}
+use Rattle.lfs_parts.specs.Store.{IsSettled, IsStore}
+use Rattle.lfs_staging.specs.Putting.{LeadsToPut, frames_of_put}
 
 -- a change ends within the limit of a file, and puts no more bytes than one call brings
 abbrev pub IsInReach : Change → Type 0
@@ -97,25 +99,60 @@ abbrev pub versions_after : List Change → ℕ → ℕ → ℕ
 versions_after [] number version = version
 versions_after (change ∷ changes) number version = versions_after changes number (version_after change number version)
 
--- The parts are staged with this content and these versions, by at most so many frames and so many records more.
--- Nothing was written.
-pub record StagesTo (content : Content) (versions : ℕ → ℕ → ℕ) (frames records : ℕ) (old new : Parts) : Type 0 where
+-- the number that a change names
+abbrev pub number_of : Change → ℕ
+number_of (Make ino attrs) = ino
+number_of (Remove ino) = ino
+number_of (SetAttrs ino attrs) = ino
+number_of (Put ino off bytes) = ino
+number_of (SetLength ino len) = ino
+
+-- a change may have the block of its number with a code wait: one that its bytes fall into, the one that its length
+-- ends in, or an indirect block that leads there
+abbrev pub MayHaveWait : Change → ℕ → Type 0
+MayHaveWait (Make ino attrs) code = ⊥
+MayHaveWait (Remove ino) code = ⊥
+MayHaveWait (SetAttrs ino attrs) code = ⊥
+MayHaveWait (Put ino off bytes) code = LeadsToPut off (length bytes.now) code
+MayHaveWait (SetLength ino len) code = Contains (length_codes len) code
+
+-- one of some changes may have the block of a number with a code wait
+pub record OneMayHaveWait (changes : List Change) (number code : ℕ) : Type 0 where
+  pub change : Change
+  pub among : Contains changes change
+  pub its : number ≡ number_of change
+  pub may : MayHaveWait change code
+
+-- one of some changes names a number
+pub record OneNames (changes : List Change) (number : ℕ) : Type 0 where
+  pub change : Change
+  pub among : Contains changes change
+  pub its : number ≡ number_of change
+
+-- The parts are staged with this content and these versions, by at most so many frames and so many records more. What
+-- waits waited, or is one of these blocks of numbers or a record of these numbers. Nothing was written.
+pub record StagesTo (content : Content) (versions : ℕ → ℕ → ℕ) (frames records : ℕ) (blocks : ℕ → ℕ → Type 0)
+    (numbers : ℕ → Type 0) (old new : Parts) : Type 0 where
   pub staged : IsStaged new 0
   pub content_is : content_of new ≡ content
   pub versions_are : (number : ℕ) → version_of new number ≡ versions number (version_of old number)
   pub log : StaysInLog old new
   pub frames_more : length new.cache.locked ≤ length old.cache.locked + frames
   pub records_more : length new.waiting ≤ length old.waiting + records
+  pub frames_only : (key : Key) → IsLocked key new.cache → blocks key.ino key.lbn.0 ⊎ IsLocked key old.cache
+  pub records_only : (number : ℕ) → (numbers number → ⊥) → waiting_in new.waiting number
+      ≡ waiting_in old.waiting number
 
 -- a change waits
 abbrev pub StagesChange : Change → Parts → Parts → Type 0
 StagesChange change old new = StagesTo (changed change (content_of old)) (version_after change) (frames_of change)
-    (records_of change) old new
+    (records_of change) (λ number code. (number ≡ number_of change) × MayHaveWait change code)
+    (λ number. number ≡ number_of change) old new
 
 -- changes wait, in order
 abbrev pub StagesAll : List Change → Parts → Parts → Type 0
 StagesAll changes old new = StagesTo (applied changes (content_of old)) (versions_after changes) (frames_of_all changes)
-    (records_of_all changes) old new
+    (records_of_all changes) (OneMayHaveWait changes) (OneNames changes) old new
 
 -- the blocks of the log that what waits takes, with the summary before them
 abbrev pub waiting_blocks : Parts → ℕ
@@ -197,10 +234,12 @@ pub record MakesWay (changes : List Change) (old new : Parts) : Type 0 where
       ⊎ ((passes_limits old changes ≡ true) × WritesWaiting old new)
 
 -- What waited before them was written where with the changes more could wait than may, and nothing else was. Then all
--- the changes were made, in order, and wait, with nothing beside them. A number that was made has the version behind
--- its last, each other one the version that it had. One segment was opened at most, and only where what waited had no
--- room and the changes had some. Where the changes may not use what is kept back, two segments stay clean, also once all
--- that waits is written. Nothing was written where no block waited and at most 60 records.
+-- the changes were made, in order, and wait, with nothing beside them: of blocks that didn't wait before only those
+-- that they put bytes into or that a length ends in, and what leads there; of records only those of the numbers that
+-- they name. A number that was made has the version behind its last, each other one the version that it had. One
+-- segment was opened at most, and only where what waited had no room and the changes had some. Where the changes may
+-- not use what is kept back, two segments stay clean, also once all that waits is written. Nothing was written where no
+-- block waited and at most 60 records.
 pub record MakesChanges (by : Reserve) (changes : List Change) (old new : Parts) : Type 0 where
   pub store : IsStore new
   pub room : HasRoom new

@@ -9,8 +9,8 @@ use Rattle.lfs_log.specs.declared.packing.TheConstants.{SLOT_COUNT}
 use Rattle.lfs_bmap.specs.declared.tables.TheConstants.{RANKS}
 use Rattle.lfs_bmap.specs.Blocks.{block_with, logical_of}
 use Rattle.lfs_bmap.specs.Tables.{rank_of}
-use Rattle.lfs_staging.specs.declared.parts.Parts.{Parts}
-use Rattle.lfs_staging.specs.Opening.{inodes_entry}
+use Rattle.lfs_parts.specs.declared.parts.Parts.{Parts}
+use Rattle.lfs_parts.specs.Opening.{inodes_entry}
 
 -- the block of a key is written in a pass
 abbrev pub is_of : ℕ → Key → Bool

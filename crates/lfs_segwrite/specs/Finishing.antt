@@ -4,8 +4,8 @@ use Rattle.lfs_types.specs.declared.cleaner.BlockInfo.{BlockInfo}
 use Rattle.lfs_types.specs.declared.limits.TheConstants.{SEGMENT_BLOCKS}
 use Rattle.lfs_segments.specs.Memory.{block_at, room_of}
 use Rattle.lfs_bmap.specs.Moves.{DirtyIn, Moves, StaysDirty}
-use Rattle.lfs_staging.specs.declared.parts.Parts.{Parts}
-use Rattle.lfs_staging.specs.Keys.{log_state}
+use Rattle.lfs_parts.specs.declared.parts.Parts.{Parts}
+use Rattle.lfs_parts.specs.Keys.{log_state}
 use Rattle.lfs_segwrite.specs.Applying.{WritesWaiting}
 use Rattle.lfs_segwrite.specs.Gaining.{pass_blocks, widest}
 use Rattle.lfs_segwrite.specs.Giving.{HaveRoom}

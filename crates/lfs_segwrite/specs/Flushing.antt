@@ -4,22 +4,28 @@ use Rattle.lfs_types.specs.declared.limits.TheConstants.{SEGMENT_BLOCKS}
 use Rattle.lfs_cache.specs.Contents.{IsLocked}
 use Rattle.lfs_ifile.specs.declared.segment.SegState.TheVariants.{Clean}
 use Rattle.lfs_ifile.specs.Tables.{row_of}
-use Rattle.lfs_segments.specs.Memory.{block_at, next_address}
+use Rattle.lfs_segments.specs.Memory.{block_at, has_serials, next_address}
+use Rattle.lfs_segments.specs.Rising.{IsRising}
+use Rattle.lfs_found.specs.Written.{IsRecoverable, WritesEntries}
 use Rattle.lfs_log.specs.Parts.{state_of}
 use Rattle.lfs_bmap.specs.declared.blocks.TheConstants.{BLOCK_CODES}
 use Rattle.lfs_bmap.specs.Moves.{DirtyIn, Moves, StaysDirty}
-use Rattle.lfs_staging.specs.declared.parts.Parts.{Parts}
+use Rattle.lfs_parts.specs.declared.parts.Parts.{Parts}
 use Rattle.lfs_segwrite.specs.Collecting.{blocks_of_entries, entries_of}
 use Rattle.lfs_staging.specs.Frames.{KeepsFrames}
-use Rattle.lfs_staging.specs.Files.{content_of}
-use Rattle.lfs_staging.specs.Keys.{log_state}
-use Rattle.lfs_staging.specs.Store.{IsSettled, IsStore}
-use Rattle.lfs_staging.specs.View.{key_of, version_of, waiting_in}
+use Rattle.lfs_parts.specs.Files.{content_of}
+use Rattle.lfs_parts.specs.Keys.{log_state}
+use Rattle.lfs_parts.specs.Store.{IsSettled, IsStore}
+use Rattle.lfs_parts.specs.View.{key_of, version_of, waiting_in}
 
 -- Blocks were written at the log's end, perhaps in a clean segment that was opened for them. No key came to lie in a
--- segment that was dirty, each of these is dirty still, and no block that was written is another.
+-- segment that was dirty, each of these is dirty still, and no block that was written is another. Where recovery found all
+-- that was begun, it finds all that is.
 pub record WritesAhead (old new : Parts) : Type 0 where
   pub segments : new.log.memory.segments ≡ old.log.memory.segments
+  pub serials : has_serials new.log.memory ≡ has_serials old.log.memory
+  pub rising : IsRising old.log.memory → IsRising new.log.memory
+  pub whole : IsRecoverable old.log.memory → IsRecoverable new.log.memory
   pub numbers : length new.log.tables.rows ≡ length old.log.tables.rows
   pub clean : new.log.clean ≤ old.log.clean
   pub moves : Moves (DirtyIn (log_state old)) (log_state old) (log_state new)
@@ -36,11 +42,14 @@ Waits p number (suc code) = IsLocked (key_of number (version_of p number) (suc c
 -- All that waited was written as one partial segment, behind what the active segment held: one summary and the blocks
 -- that it names, and nothing where nothing waited. The content is the same. Each key that waited has a place there,
 -- every other one the place that it had, and no other block changed. The cache holds each block that it held, clean now.
+-- Where summaries have serials, recovery finds the partial segment whole, and what it found before (`written`, `whole`).
 pub record Flushes (old new : Parts) : Type 0 where
   pub store : IsStore new
   pub settled : IsSettled new
   pub content : content_of new ≡ content_of old
   pub segments : new.log.memory.segments ≡ old.log.memory.segments
+  pub serials : has_serials new.log.memory ≡ has_serials old.log.memory
+  pub rising : IsRising old.log.memory → IsRising new.log.memory
   pub active : new.log.memory.active ≡ old.log.memory.active
   pub states : new.log.tables.states ≡ old.log.tables.states
   pub clean : new.log.clean ≡ old.log.clean
@@ -57,3 +66,5 @@ pub record Flushes (old new : Parts) : Type 0 where
       → block_at new.log.memory a ≡ block_at old.log.memory a
   pub held : KeepsFrames old.cache new.cache
   pub grown : next_address new.log.memory ≡ next_address old.log.memory + blocks_of_entries (entries_of old)
+  pub written : 0 < length old.waiting → WritesEntries old.log.memory new.log.memory (entries_of old)
+  pub whole : IsRecoverable old.log.memory → IsRecoverable new.log.memory

@@ -7,18 +7,20 @@ use Rattle.lfs_types.specs.declared.cleaner.TheConstants.{MARK_LIMIT}
 use Rattle.lfs_types.specs.declared.limits.TheConstants.{SEGMENT_BLOCKS}
 use Rattle.lfs_ifile.specs.Tables.{row_of}
 use Rattle.lfs_ifile.specs.declared.segment.SegState.TheVariants.{Dirty}
-use Rattle.lfs_segments.specs.Memory.{block_at, room_of}
+use Rattle.lfs_segments.specs.Memory.{block_at, has_serials, room_of}
+use Rattle.lfs_segments.specs.Rising.{IsRising}
+use Rattle.lfs_found.specs.Written.{IsRecoverable}
 use Rattle.lfs_log.specs.Infos.{infos_of}
 use Rattle.lfs_log.specs.Parts.{live_of, state_of}
 use Rattle.lfs_bmap.specs.declared.blocks.TheConstants.{BLOCK_CODES}
 use Rattle.lfs_bmap.specs.Counting.{total}
 use Rattle.lfs_bmap.specs.Log.{LogState}
 use Rattle.lfs_bmap.specs.Moves.{DirtyIn, Moves, StaysDirty, present_address}
-use Rattle.lfs_staging.specs.declared.parts.Parts.{Parts}
-use Rattle.lfs_staging.specs.Files.{content_of}
-use Rattle.lfs_staging.specs.Keys.{log_state}
-use Rattle.lfs_staging.specs.Store.{IsSettled, IsStore}
-use Rattle.lfs_staging.specs.View.{version_of}
+use Rattle.lfs_parts.specs.declared.parts.Parts.{Parts}
+use Rattle.lfs_parts.specs.Files.{content_of}
+use Rattle.lfs_parts.specs.Keys.{log_state}
+use Rattle.lfs_parts.specs.Store.{IsSettled, IsStore}
+use Rattle.lfs_parts.specs.View.{version_of}
 use Rattle.lfs_segwrite.specs.Marking.{AreNamed, IsNamed, IsOnWay, blocks_to_mark, code_named}
 use Rattle.lfs_segwrite.specs.declared.room.TheConstants.{WHOLE}
 
@@ -107,6 +109,9 @@ pub record MovesBlocks (old new : Parts) : Type 0 where
   pub settled : IsSettled new
   pub content : content_of new ≡ content_of old
   pub segments : new.log.memory.segments ≡ old.log.memory.segments
+  pub serials : has_serials new.log.memory ≡ has_serials old.log.memory
+  pub rising : IsRising old.log.memory → IsRising new.log.memory
+  pub whole : IsRecoverable old.log.memory → IsRecoverable new.log.memory
   pub numbers : length new.log.tables.rows ≡ length old.log.tables.rows
   pub used : (number : ℕ) → (row_of new.log.tables number).used ≡ (row_of old.log.tables number).used
   pub versions : (number : ℕ) → version_of new number ≡ version_of old number

@@ -6,8 +6,8 @@ use Rattle.lfs_types.specs.declared.store.Change.{Change}
 use Rattle.lfs_types.specs.declared.store.Change.TheVariants.{Make, Remove, SetAttrs, Put, SetLength}
 use Rattle.lfs_segments.specs.Memory.{room_of}
 use Rattle.lfs_bmap.specs.Moves.{DirtyIn}
-use Rattle.lfs_staging.specs.declared.parts.Parts.{Parts}
-use Rattle.lfs_staging.specs.Keys.{log_state}
+use Rattle.lfs_parts.specs.declared.parts.Parts.{Parts}
+use Rattle.lfs_parts.specs.Keys.{log_state}
 use Rattle.lfs_segwrite.specs.Gaining.{blocks_by_eights, live_infos, widest_eight}
 use Rattle.lfs_segwrite.specs.declared.room.TheConstants.{WHOLE}
 

@@ -5,7 +5,8 @@ use Rattle.lfs_cache.specs.Contents.{IsLocked, block_in}
 use Rattle.lfs_log.specs.Parts as log
 use Rattle.lfs_segments.specs.declared.entry.SummaryEntry.{SummaryEntry}
 use Rattle.lfs_segments.specs.Log.{Expects}
-use Rattle.lfs_segments.specs.Memory.{SegmentMemory, block_at, next_address}
+use Rattle.lfs_segments.specs.Memory.{SegmentMemory, block_at, has_serials, next_address}
+use Rattle.lfs_segments.specs.Rising.{IsRising}
 use Rattle.lfs_types.specs.declared.limits.TheConstants.{SEGMENT_BLOCKS}
 use Rattle.lfs_bmap.specs.declared.blocks.TheConstants.{BLOCK_CODES}
 use Rattle.lfs_bmap.specs.Counting.{placed}
@@ -13,10 +14,10 @@ use Rattle.lfs_bmap.specs.Log.{Writes}
 use Rattle.lfs_bmap.specs.Reading.{IsUnread, Lands, SameReadings, data_block}
 use Rattle.lfs_bmap.specs.Blocks.{IsFileBlock, code_of, logical_of, way_to}
 use Rattle.lfs_bmap.specs.declared.blocks.FileBlock.{FileBlock}
-use Rattle.lfs_staging.specs.declared.parts.Parts.{Parts}
-use Rattle.lfs_staging.specs.Keys.{log_state}
-use Rattle.lfs_staging.specs.Store.{HolderWaits, IsWithin}
-use Rattle.lfs_staging.specs.View.{key_of, record_of, tree_of}
+use Rattle.lfs_parts.specs.declared.parts.Parts.{Parts}
+use Rattle.lfs_parts.specs.Keys.{log_state}
+use Rattle.lfs_parts.specs.Store.{HolderWaits, IsWithin}
+use Rattle.lfs_parts.specs.View.{key_of, record_of, tree_of}
 use Rattle.lfs_staging.specs.Addressing.{IsWaiting}
 use Rattle.lfs_staging.specs.Frames.{KeepsFrames}
 
@@ -41,6 +42,8 @@ pub record AppendsBlock (old new : Parts) (a : ℕ) (block : List ℕ) : Type 0 
   pub end : a ≡ next_address old.log.memory
   pub somewhere : a ≢ 0
   pub inside : a < old.log.memory.active * SEGMENT_BLOCKS + SEGMENT_BLOCKS
+  pub serials : has_serials new.log.memory ≡ has_serials old.log.memory
+  pub rising : IsRising old.log.memory → IsRising new.log.memory
   pub tables : new.log.tables ≡ old.log.tables
   pub cache : new.cache ≡ old.cache
   pub waiting : new.waiting ≡ old.waiting
@@ -80,6 +83,8 @@ pub record GetsPlace (old new : Parts) (number code a place : ℕ) : Type 0 wher
   pub end : a ≡ next_address old.log.memory
   pub next : next_address new.log.memory ≡ next_address old.log.memory + 1
   pub segments : new.log.memory.segments ≡ old.log.memory.segments
+  pub serials : has_serials new.log.memory ≡ has_serials old.log.memory
+  pub rising : IsRising old.log.memory → IsRising new.log.memory
   pub active : new.log.memory.active ≡ old.log.memory.active
   pub states : new.log.tables.states ≡ old.log.tables.states
   pub clean : new.log.clean ≡ old.log.clean

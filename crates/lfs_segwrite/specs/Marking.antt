@@ -18,12 +18,12 @@ use Rattle.lfs_bmap.specs.Log.{LogState}
 use Rattle.lfs_bmap.specs.Moves.{DirtyIn, present_address}
 use Rattle.lfs_bmap.specs.Reading.{address, data_block}
 use Rattle.lfs_bmap.specs.Ways.{IsBlockWay, codes_on, way_of}
-use Rattle.lfs_staging.specs.declared.parts.Parts.{Parts}
+use Rattle.lfs_parts.specs.declared.parts.Parts.{Parts}
 use Rattle.lfs_segwrite.specs.Collecting.{inode_blocks}
 use Rattle.lfs_segwrite.specs.Flushing.{Waits, WritesAhead}
-use Rattle.lfs_staging.specs.Keys.{log_state}
+use Rattle.lfs_parts.specs.Keys.{log_state}
 use Rattle.lfs_staging.specs.Staging.{IsStaged, TakesOnly}
-use Rattle.lfs_staging.specs.View.{key_of, record_of, tree_of, version_of, waiting_in}
+use Rattle.lfs_parts.specs.View.{key_of, record_of, tree_of, version_of, waiting_in}
 
 -- the code of the block that an info names, BLOCK_CODES where no file can have such a block
 unfoldable pub code_named : ℕ → ℕ

@@ -7,22 +7,25 @@ use Rattle.lfs_inodes.specs.Reading.{fields_of}
 use Rattle.lfs_log.specs.Names.{named_at, record_owner}
 use Rattle.lfs_segments.specs.declared.entry.SummaryEntry.{SummaryEntry}
 use Rattle.lfs_segments.specs.Log.{first_of}
-use Rattle.lfs_segments.specs.Memory.{block_at, next_address}
+use Rattle.lfs_segments.specs.Memory.{block_at, has_serials, next_address}
+use Rattle.lfs_segments.specs.Rising.{IsRising}
 use Rattle.lfs_bmap.specs.declared.blocks.TheConstants.{BLOCK_CODES}
 use Rattle.lfs_bmap.specs.declared.blocks.FileBlock.{FileBlock}
 use Rattle.lfs_bmap.specs.Blocks.{logical_of}
-use Rattle.lfs_staging.specs.declared.parts.Parts.{Parts}
+use Rattle.lfs_parts.specs.declared.parts.Parts.{Parts}
 use Rattle.lfs_staging.specs.Frames.{KeepsFrames}
-use Rattle.lfs_staging.specs.Files.{content_of}
+use Rattle.lfs_parts.specs.Files.{content_of}
 use Rattle.lfs_segwrite.specs.Flushing.{Waits}
-use Rattle.lfs_staging.specs.Keys.{log_state}
-use Rattle.lfs_staging.specs.View.{fields_at, version_of}
+use Rattle.lfs_parts.specs.Keys.{log_state}
+use Rattle.lfs_parts.specs.View.{fields_at, version_of}
 
 -- The log went on behind an address: each key that waits no more has a place there, every other one the place that it
--- had. No other block changed, the content is the same, and no frame is given up.
+-- had. No other block changed, the content is the same, no frame is given up, and serials rise where they did.
 pub record Advances (from : ℕ) (old new : Parts) : Type 0 where
   pub content : content_of new ≡ content_of old
   pub segments : new.log.memory.segments ≡ old.log.memory.segments
+  pub serials : has_serials new.log.memory ≡ has_serials old.log.memory
+  pub rising : IsRising old.log.memory → IsRising new.log.memory
   pub active : new.log.memory.active ≡ old.log.memory.active
   pub states : new.log.tables.states ≡ old.log.tables.states
   pub clean : new.log.clean ≡ old.log.clean

@@ -2,21 +2,26 @@
 use Rattle.std.specs.Prelude.{◌≡◌, ◌≢◌, ◌⊎◌, ℕ, ◌+◌, ◌/◌, ◌≤◌}
 use Rattle.lfs_types.specs.declared.limits.TheConstants.{SEGMENT_BLOCKS}
 use Rattle.lfs_ifile.specs.declared.segment.SegState.TheVariants.{Clean}
-use Rattle.lfs_segments.specs.Memory.{block_at, room_of}
+use Rattle.lfs_segments.specs.Memory.{block_at, has_serials, room_of}
+use Rattle.lfs_segments.specs.Rising.{IsRising}
+use Rattle.lfs_found.specs.Written.{IsRecoverable}
 use Rattle.lfs_log.specs.Parts.{state_of}
 use Rattle.lfs_bmap.specs.Log.{SameKeys}
 use Rattle.lfs_bmap.specs.Moves.{StaysDirty}
 use Rattle.lfs_bmap.specs.Reading.{SameReadings}
-use Rattle.lfs_staging.specs.declared.parts.Parts.{Parts}
-use Rattle.lfs_staging.specs.Files.{content_of}
-use Rattle.lfs_staging.specs.Keys.{log_state}
-use Rattle.lfs_staging.specs.Store.{IsStore}
-use Rattle.lfs_staging.specs.View.{record_of, tree_of}
+use Rattle.lfs_parts.specs.declared.parts.Parts.{Parts}
+use Rattle.lfs_parts.specs.Files.{content_of}
+use Rattle.lfs_parts.specs.Keys.{log_state}
+use Rattle.lfs_parts.specs.Store.{IsStore}
+use Rattle.lfs_parts.specs.View.{record_of, tree_of}
 
 -- The files are what they were: each number has its record, each block its address, its bytes and its place, and what
 -- waits is the same. No block changed in a segment that was in use, and the segments that were dirty are dirty. The log
 -- goes on where it did, or in a segment that was clean.
 pub record KeepsFiles (old new : Parts) : Type 0 where
+  pub serials : has_serials new.log.memory ≡ has_serials old.log.memory
+  pub rising : IsRising old.log.memory → IsRising new.log.memory
+  pub whole : IsRecoverable old.log.memory → IsRecoverable new.log.memory
   pub rows : new.log.tables.rows ≡ old.log.tables.rows
   pub cache : new.cache ≡ old.cache
   pub waiting : new.waiting ≡ old.waiting

@@ -8,12 +8,12 @@ ghost use Rattle.lfs_types.specs.declared.store.Change.TheVariants.{Put};
 ghost use Rattle.lfs_types.specs.declared.limits.TheConstants.{FILE_BYTES};
 ghost use Rattle.lfs_segwrite.specs.Applying.{HasRoom, HasRoomFor, HasRoomForBlocks, HasRoomToGive, HasRoomToTake, IsInReach, MakesChanges, MakesWay, StagesAll, StagesChange, frames_of_all, give_back, gives_back, may_use_reserve, needs_of, passes_limits, peak_of, peak_of_all, records_of_all, spare_of, unlock, unlocks};
 ghost use Rattle.lfs_cache.specs.declared.cache.TheConstants.{LOCKED_LIMIT};
-ghost use Rattle.lfs_staging.specs.declared.records.TheConstants.{WAITING_LIMIT};
+ghost use Rattle.lfs_parts.specs.declared.records.TheConstants.{WAITING_LIMIT};
 ghost use Rattle.lfs_staging.specs.Changing.{frames_of, frames_of_length, records_of};
 ghost use Rattle.lfs_staging.specs.Putting.{frames_of_put};
-ghost use Rattle.lfs_staging.specs.Files.{content_of};
+ghost use Rattle.lfs_parts.specs.Files.{content_of};
 ghost use Rattle.lfs_staging.specs.Staging.{IsStaged};
-ghost use Rattle.lfs_staging.specs.Store.{IsStore};
+ghost use Rattle.lfs_parts.specs.Store.{IsStore};
 ghost use Rattle.lfs_segwrite.specs.declared.applying.TheConstants.{APPLIED_FRAMES, APPLIED_RECORDS};
 
 use crate::collecting::{blocks_to_write, inode_blocks};
@@ -24,9 +24,10 @@ use lfs_bmap::blocks::FileBlock;
 use lfs_bmap::pieces::blocks_touched;
 use lfs_bmap::tables::tables_between;
 use lfs_cache::LOCKED_LIMIT;
-use lfs_staging::cutting::CUT_FRAMES;
-use lfs_staging::parts::Parts;
-use lfs_staging::records::WAITING_LIMIT;
+use lfs_parts::parts::Parts;
+use lfs_parts::records::WAITING_LIMIT;
+use lfs_staging::cutting::{self, CUT_FRAMES};
+use lfs_staging::{changing, making};
 use lfs_types::block::BLOCK_SIZE;
 use lfs_types::store::{Change, Reserve};
 
@@ -259,7 +260,7 @@ fn put_some(parts: &mut Parts, ino: u32, off: u64, bytes: &[u8])
     ensures { StagesChange (Put ino off bytes.entry) parts.old parts.new }
 {
     if !bytes.is_empty() {
-        parts.put(ino, off, bytes);
+        changing::put(parts, ino, off, bytes);
     }
 }
 
@@ -274,11 +275,11 @@ fn stage_change(parts: &mut Parts, change: &Change<'_>)
     ensures { StagesChange change.now parts.old parts.new }
 {
     match *change {
-        Change::Make { ino, attrs } => parts.make(ino, &attrs),
-        Change::Remove { ino } => parts.remove(ino),
-        Change::SetAttrs { ino, attrs } => parts.set_attrs(ino, &attrs),
+        Change::Make { ino, attrs } => making::make(parts, ino, &attrs),
+        Change::Remove { ino } => making::remove(parts, ino),
+        Change::SetAttrs { ino, attrs } => changing::set_attrs(parts, ino, &attrs),
         Change::Put { ino, off, bytes } => put_some(parts, ino, off, bytes),
-        Change::SetLength { ino, len } => parts.set_length(ino, len),
+        Change::SetLength { ino, len } => cutting::set_length(parts, ino, len),
     }
 }
 

@@ -6,19 +6,19 @@ ghost use Rattle.lfs_cache.specs.Contents.{keys_of};
 ghost use Rattle.lfs_segments.specs.Entry.{IsEntry};
 ghost use Rattle.lfs_segments.specs.declared.summary.TheConstants.{ENTRY_LIMIT};
 ghost use Rattle.lfs_segwrite.specs.Collecting.{AreLocked, blocks_of_entries, entries_of, entry_of, in_order, inode_blocks, is_of};
-ghost use Rattle.lfs_staging.specs.Opening.{inodes_entry};
-ghost use Rattle.lfs_staging.specs.Store.{AreFiles, IsBlockCode, IsSettled};
+ghost use Rattle.lfs_parts.specs.Opening.{inodes_entry};
+ghost use Rattle.lfs_parts.specs.Store.{AreFiles, IsBlockCode, IsSettled};
 ghost use Rattle.lfs_cache.specs.declared.key.Key.{Key};
-ghost use Rattle.lfs_staging.specs.declared.records.TheConstants.{WAITING_LIMIT};
+ghost use Rattle.lfs_parts.specs.declared.records.TheConstants.{WAITING_LIMIT};
 
 use arrayvec::ArrayVec;
 use lfs_bmap::blocks::FileBlock;
 use lfs_bmap::tables::{RANKS, rank};
 use lfs_cache::Key;
 use lfs_log::packing::SLOT_COUNT;
+use lfs_parts::parts::Parts;
 use lfs_segments::entry::{LogicalBlock, SummaryEntry};
 use lfs_segments::summary::ENTRY_LIMIT;
-use lfs_staging::parts::Parts;
 
 /// At most 40 entries, which lie in the value itself.
 pub type EntryList = ArrayVec<SummaryEntry, ENTRY_LIMIT>;

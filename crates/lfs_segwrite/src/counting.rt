@@ -9,7 +9,7 @@ ghost use Rattle.lfs_bmap.specs.declared.tables.TheConstants.{MOST_DEPTH};
 ghost use Rattle.lfs_segwrite.specs.Counting.{AddsKeys};
 ghost use Rattle.lfs_segwrite.specs.Marking.{blocks_to_mark, code_named, frames_to_mark, keys_to_mark, records_to_mark};
 ghost use Rattle.lfs_segwrite.specs.declared.counting.TheConstants.{KEY_LIMIT};
-ghost use Rattle.lfs_staging.specs.View.{key_of};
+ghost use Rattle.lfs_parts.specs.View.{key_of};
 
 use crate::collecting::inode_blocks;
 use lfs_bmap::blocks::{BLOCK_CODES, FileBlock};

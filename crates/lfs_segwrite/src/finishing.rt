@@ -4,11 +4,11 @@ ghost use Rattle.std.specs.Prelude.{◌⊎◌, ◌+◌, ◌<◌, ◌≤◌, ◌�
 ghost use Rattle.lfs_segwrite.specs.Finishing.{IsFinishable, LieIn, SomeIsFinishable};
 ghost use Rattle.lfs_segwrite.specs.Gaining.{pass_blocks, widest};
 ghost use Rattle.lfs_segwrite.specs.Giving.{HaveRoom};
-ghost use Rattle.lfs_staging.specs.Store.{IsStore};
+ghost use Rattle.lfs_parts.specs.Store.{IsStore};
 
 use crate::gaining::{is_dirty, pass_cost};
 use crate::giving::have_room;
-use lfs_staging::parts::Parts;
+use lfs_parts::parts::Parts;
 use lfs_types::cleaner::BlockInfo;
 use lfs_types::limits::SEGMENT_BLOCKS;
 

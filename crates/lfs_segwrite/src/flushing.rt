@@ -1,31 +1,33 @@
 //! Writing all that waits into the log.
 
-ghost use Rattle.std.specs.Prelude.{◌≡◌, ◌≢◌, ◌+◌, ◌<◌, ◌≤◌, ◌∷◌, [], ℕ, All, List, length, replicate, false};
+ghost use Rattle.std.specs.Prelude.{◌≡◌, ◌≢◌, ◌+◌, ◌<◌, ◌≤◌, ◌∷◌, [], ℕ, All, List, length, replicate, false, true, ◌-◌};
 ghost use Rattle.lfs_cache.specs.declared.key.Key.{Key};
 ghost use Rattle.lfs_cache.specs.Contents.{IsLocked};
 ghost use Rattle.lfs_cache.specs.Keys.{same_key};
 ghost use Rattle.lfs_segments.specs.declared.entry.SummaryEntry.{SummaryEntry};
 ghost use Rattle.lfs_segments.specs.declared.summary.TheConstants.{ENTRY_LIMIT};
 ghost use Rattle.lfs_segments.specs.Entry.{IsEntry};
-ghost use Rattle.lfs_segments.specs.Log.{Expects};
-ghost use Rattle.lfs_segments.specs.Memory.{next_address, room_of};
+ghost use Rattle.lfs_segments.specs.Log.{Expects, Extends};
+ghost use Rattle.lfs_segments.specs.Memory.{block_at, next_address, room_of};
+ghost use Rattle.lfs_segments.specs.Serial.{IsSummaryWith};
+ghost use Rattle.lfs_recovery.specs.Whole.{has_record};
 ghost use Rattle.lfs_bmap.specs.Blocks.{IsFileBlock, code_of, way_to};
 ghost use Rattle.lfs_bmap.specs.Ways.{way_of};
 ghost use Rattle.lfs_segwrite.specs.Collecting.{blocks_of_entries, entries_of, inode_blocks};
 ghost use Rattle.lfs_segwrite.specs.Flushing.{Flushes};
 ghost use Rattle.lfs_segwrite.specs.Landing.{ExpectsBlock};
-ghost use Rattle.lfs_staging.specs.Opening.{inodes_entry};
+ghost use Rattle.lfs_parts.specs.Opening.{inodes_entry};
 ghost use Rattle.lfs_segwrite.specs.Recording.{Advances, entry_at_version};
 ghost use Rattle.lfs_staging.specs.Staging.{IsStaged};
-ghost use Rattle.lfs_staging.specs.Store.{IsSettled};
-ghost use Rattle.lfs_staging.specs.View.{key_of, version_of};
+ghost use Rattle.lfs_parts.specs.Store.{IsSettled};
+ghost use Rattle.lfs_parts.specs.View.{key_of, version_of};
 
 use crate::collecting::{blocks_to_write, to_land};
 use crate::landing::land_block;
 use crate::records::land_records;
 use lfs_bmap::blocks::FileBlock;
+use lfs_parts::parts::Parts;
 use lfs_segments::entry::SummaryEntry;
-use lfs_staging::parts::Parts;
 
 /// Writes all that waits at the log's end, as one partial segment: the data blocks, the children of
 /// double indirect blocks, the single and the double indirect blocks, then the records, four to a
@@ -61,6 +63,10 @@ fn begin_partial(parts: &mut Parts, entries: &[SummaryEntry])
     ensures next { next_address parts.new.log.memory ≡ next_address parts.old.log.memory + 1 }
     ensures cache { parts.new.cache ≡ parts.old.cache }
     ensures waiting { parts.new.waiting ≡ parts.old.waiting }
+    ensures extends { Extends parts.old.log.memory parts.new.log.memory }
+    ensures summary { IsSummaryWith parts.old.log.memory.serial
+        (block_at parts.new.log.memory (next_address parts.old.log.memory))
+        parts.old.log.memory.active parts.old.log.memory.fill entries.now }
 {
     parts.log.begin(entries);
 }
@@ -129,6 +135,8 @@ fn land_all_records(parts: &mut Parts)
     ensures ready { Expects parts.new.log.memory [] }
     ensures next { next_address parts.new.log.memory
         ≡ next_address parts.old.log.memory + inode_blocks (length parts.old.waiting) }
+    ensures last { 0 < length parts.old.waiting
+        → has_record parts.new.log.memory (next_address parts.new.log.memory - 1) ≡ true }
 {
     while !parts.waiting.is_empty() {
         land_records(parts);

@@ -8,15 +8,15 @@ ghost use Rattle.lfs_segments.specs.Memory.{room_of};
 ghost use Rattle.lfs_bmap.specs.Moves.{DirtyIn};
 ghost use Rattle.lfs_segwrite.specs.Gaining.{Empties, IsGainful, IsWorth, MovesEights, NoneIsGainful, blocks_by_eights, eight, eights, live_infos, pass_blocks, widest, widest_eight};
 ghost use Rattle.lfs_segwrite.specs.Marking.{MarksSettled, blocks_to_mark};
-ghost use Rattle.lfs_staging.specs.Files.{content_of};
-ghost use Rattle.lfs_staging.specs.Keys.{log_state};
-ghost use Rattle.lfs_staging.specs.Store.{IsSettled, IsStore};
+ghost use Rattle.lfs_parts.specs.Files.{content_of};
+ghost use Rattle.lfs_parts.specs.Keys.{log_state};
+ghost use Rattle.lfs_parts.specs.Store.{IsSettled, IsStore};
 
 use crate::counting::blocks_to_mark;
 use crate::marking::{is_named, mark_settled};
 use crate::room::WHOLE;
 use lfs_ifile::SegState;
-use lfs_staging::parts::Parts;
+use lfs_parts::parts::Parts;
 use lfs_types::cleaner::{BlockInfo, InfoList, MARK_LIMIT};
 
 /// What it takes to clean a segment.

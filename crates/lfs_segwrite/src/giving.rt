@@ -2,11 +2,11 @@
 
 ghost use Rattle.std.specs.Prelude.{◌≡◌, ◌+◌, ◌<◌, ◌≤◌, ◌↔◌, ℕ, IsTrue};
 ghost use Rattle.lfs_segwrite.specs.Giving.{HaveRoom, LeavesFinishable, are_removing, removes, staying_blocks, staying_infos, staying_widest};
-ghost use Rattle.lfs_staging.specs.Store.{IsStore};
+ghost use Rattle.lfs_parts.specs.Store.{IsStore};
 
 use crate::gaining::{PassCost, cost_by_eights, is_dirty, live_infos};
 use crate::room::WHOLE;
-use lfs_staging::parts::Parts;
+use lfs_parts::parts::Parts;
 use lfs_types::cleaner::InfoList;
 use lfs_types::store::Change;
 

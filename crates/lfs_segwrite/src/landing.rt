@@ -10,19 +10,20 @@ ghost use Rattle.lfs_segments.specs.Log.{Expects, Extends, entry_at};
 ghost use Rattle.lfs_segments.specs.Memory.{next_address};
 ghost use Rattle.lfs_log.specs.Parts.{IsParts};
 ghost use Rattle.lfs_bmap.specs.Log.{IsLog};
-ghost use Rattle.lfs_staging.specs.Keys.{log_state};
+ghost use Rattle.lfs_parts.specs.Keys.{log_state};
 ghost use Rattle.lfs_bmap.specs.Blocks.{code_of};
-ghost use Rattle.lfs_staging.specs.Files.{content_of};
+ghost use Rattle.lfs_parts.specs.Files.{content_of};
 ghost use Rattle.lfs_staging.specs.Addressing.{StaysWaiting};
 ghost use Rattle.lfs_segwrite.specs.Landing.{ExpectsBlock, ExpectsSome, LandsBlock, MayLand, AppendsBlock, GetsPlace, entry_of};
-ghost use Rattle.lfs_staging.specs.Store.{AreFiles};
-ghost use Rattle.lfs_staging.specs.View.{key_of};
+ghost use Rattle.lfs_parts.specs.Store.{AreFiles};
+ghost use Rattle.lfs_parts.specs.View.{key_of};
 
 use lfs_bmap::blocks::FileBlock;
 use lfs_cache::{BlockCode, Key};
 use lfs_inodes::inode::Inode;
+use lfs_parts::parts::Parts;
 use lfs_segments::entry::SummaryEntry;
-use lfs_staging::parts::Parts;
+use lfs_staging::addressing::set_address;
 use lfs_types::block::Block;
 
 /// Writes a block that waits at the log's end, which expects one, and gives its address.
@@ -97,7 +98,7 @@ pub fn land_block(parts: &mut Parts, inode: &Inode, block: FileBlock) -> u32
         lbn: BlockCode(block.code()),
     };
     let to = append_waiting(parts, key);
-    parts.set_address(inode, block, to);
+    set_address(parts, inode, block, to);
     parts.log.move_live(block, from, to);
     parts.cache.settle(key);
     to

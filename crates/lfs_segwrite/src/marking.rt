@@ -4,6 +4,7 @@ ghost use Rattle.std.specs.Prelude.{◌≡◌, ◌≢◌, ◌⊎◌, ◌+◌, �
 ghost use Rattle.lfs_ifile.specs.declared.segment.SegState.TheVariants.{Clean};
 ghost use Rattle.lfs_log.specs.Parts.{state_of};
 ghost use Rattle.lfs_segments.specs.Memory.{room_of};
+ghost use Rattle.lfs_found.specs.Written.{IsRecoverable};
 ghost use Rattle.lfs_segwrite.specs.Gaining.{ExceedsRoom};
 ghost use Rattle.lfs_segwrite.specs.Room.{KeepsFiles};
 ghost use Rattle.lfs_types.specs.declared.cleaner.TheConstants.{MARK_LIMIT};
@@ -14,14 +15,14 @@ ghost use Rattle.lfs_bmap.specs.declared.tables.TheConstants.{MOST_DEPTH};
 ghost use Rattle.lfs_bmap.specs.Reading.{address, read};
 ghost use Rattle.lfs_bmap.specs.Ways.{codes_on};
 ghost use Rattle.lfs_segwrite.specs.Applying.{HasRoom, WritesWaiting};
-ghost use Rattle.lfs_staging.specs.Files.{content_of};
-ghost use Rattle.lfs_staging.specs.Keys.{log_state};
+ghost use Rattle.lfs_parts.specs.Files.{content_of};
+ghost use Rattle.lfs_parts.specs.Keys.{log_state};
 ghost use Rattle.lfs_segwrite.specs.Finishing.{HasRoomToMark, LacksRoomFor, LacksRoomToMark, MarksAgain, SomeIsFinishable};
 ghost use Rattle.lfs_segwrite.specs.Marking.{AddsNamed, AreNamed, IsNamed, MarksSettled, StagesAgain, StagesNamed, code_named};
 ghost use Rattle.lfs_staging.specs.Staging.{HasFrames, IsStaged, MayStage, StagesTable};
-ghost use Rattle.lfs_staging.specs.Store.{IsSettled, IsStore, IsWithin};
-ghost use Rattle.lfs_staging.specs.View.{blocks_of, tree_from, tree_of};
-ghost use Rattle.lfs_staging.specs.declared.records.TheConstants.{WAITING_LIMIT};
+ghost use Rattle.lfs_parts.specs.Store.{IsSettled, IsStore, IsWithin};
+ghost use Rattle.lfs_parts.specs.View.{blocks_of, tree_from, tree_of};
+ghost use Rattle.lfs_parts.specs.declared.records.TheConstants.{WAITING_LIMIT};
 
 use crate::counting::{blocks_to_mark, code_named};
 use crate::finishing::has_finishable;
@@ -31,7 +32,8 @@ use crate::writing::write_waiting;
 use lfs_bmap::blocks::FileBlock;
 use lfs_bmap::tables::MOST_DEPTH;
 use lfs_inodes::inode::Inode;
-use lfs_staging::parts::Parts;
+use lfs_parts::parts::Parts;
+use lfs_staging::staging::{stage_block, stage_parents};
 use lfs_types::block::Block;
 use lfs_types::cleaner::{BlockInfo, MarkList};
 
@@ -66,6 +68,8 @@ pub fn mark(parts: &mut Parts, marks: &[BlockInfo]) -> Result<u32, NoRoom>
     ensures refused { OnErr result (WritesWaiting parts.old parts.new) }
     ensures lacking { OnErr result (LacksRoomFor marks.now parts.new) }
     ensures reserved { OnErr result (parts.old.log.clean ≤ 1) }
+    // What recovery found it finds, and what was written too.
+    ensures whole { IsRecoverable parts.old.log.memory → IsRecoverable parts.new.log.memory }
 {
     let careful = has_few_clean(parts);
     write_waiting(parts);
@@ -212,7 +216,7 @@ fn stage_again(parts: &mut Parts, inode: &Inode, block: FileBlock, addr: u32)
     ensures again { StagesAgain inode.now.number (code_of block) parts.old parts.new }
 {
     match block {
-        FileBlock::Record => parts.stage_parents(inode, block),
+        FileBlock::Record => stage_parents(parts, inode, block),
         _ => stage_moved(parts, inode, block, addr),
     }
 }
@@ -228,8 +232,8 @@ fn stage_moved(parts: &mut Parts, inode: &Inode, block: FileBlock, addr: u32)
     ensures { StagesTable inode.now.number block parts.old parts.new }
 {
     let bytes = bytes_to_move(parts, inode, block, addr);
-    parts.stage_parents(inode, block);
-    parts.stage_block(inode, block, &bytes);
+    stage_parents(parts, inode, block);
+    stage_block(parts, inode, block, &bytes);
 }
 
 /// The present bytes of a block of a file: those that wait, else those at its address in the log.

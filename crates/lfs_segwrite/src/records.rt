@@ -1,18 +1,19 @@
 //! Writing the records that wait into the log.
 
-ghost use Rattle.std.specs.Prelude.{◌≡◌, ◌+◌, ◌-◌, ◌<◌, ◌≤◌, ◌∷◌, ◌++◌, [], ℕ, List, length, take};
+ghost use Rattle.std.specs.Prelude.{◌≡◌, ◌+◌, ◌-◌, ◌<◌, ◌≤◌, ◌∷◌, ◌++◌, [], ℕ, List, length, take, true};
 ghost use Rattle.lfs_inodes.specs.declared.inode.Inode.{Inode};
 ghost use Rattle.lfs_segments.specs.declared.entry.SummaryEntry.{SummaryEntry};
 ghost use Rattle.lfs_segments.specs.Log.{Expects};
 ghost use Rattle.lfs_segments.specs.Memory.{next_address};
+ghost use Rattle.lfs_recovery.specs.Whole.{has_record};
 ghost use Rattle.lfs_segwrite.specs.Landing.{ExpectsBlock};
-ghost use Rattle.lfs_staging.specs.Opening.{inodes_entry};
+ghost use Rattle.lfs_parts.specs.Opening.{inodes_entry};
 ghost use Rattle.lfs_segwrite.specs.Recording.{Advances, StandsAt};
 ghost use Rattle.lfs_staging.specs.Staging.{IsStaged};
 
 use crate::landing::append_block;
 use lfs_log::packing::{SLOT_COUNT, packed};
-use lfs_staging::parts::Parts;
+use lfs_parts::parts::Parts;
 
 /// Takes the last record that waits off the list. The log has it in a slot of the block at an
 /// address, and that is its place now.
@@ -48,6 +49,7 @@ pub(crate) fn land_records(parts: &mut Parts)
     ensures next { next_address parts.new.log.memory ≡ next_address parts.old.log.memory + 1 }
     ensures expects { (rest : List SummaryEntry)
         → Expects parts.old.log.memory (inodes_entry ∷ rest) → Expects parts.new.log.memory rest }
+    ensures first { has_record parts.new.log.memory (next_address parts.old.log.memory) ≡ true }
 {
     let first = parts.waiting.len().saturating_sub(SLOT_COUNT);
     let oldest = parts.waiting.oldest();

@@ -6,9 +6,9 @@ ghost use Rattle.lfs_ifile.specs.declared.segment.SegState.TheVariants.{Clean};
 ghost use Rattle.lfs_log.specs.Parts.{state_of};
 ghost use Rattle.lfs_segments.specs.Memory.{room_of};
 ghost use Rattle.lfs_segwrite.specs.Room.{KeepsFiles, OpensSegment};
-ghost use Rattle.lfs_staging.specs.Store.{IsStore};
+ghost use Rattle.lfs_parts.specs.Store.{IsStore};
 
-use lfs_staging::parts::Parts;
+use lfs_parts::parts::Parts;
 use lfs_types::limits::SEGMENT_BLOCKS;
 
 /// The blocks that a segment has behind its label at least.

@@ -1,12 +1,12 @@
 //! Writing what waits.
 
 ghost use Rattle.lfs_segwrite.specs.Applying.{HasRoom, WritesWaiting};
-ghost use Rattle.lfs_staging.specs.Store.{IsStore};
+ghost use Rattle.lfs_parts.specs.Store.{IsStore};
 
 use crate::collecting::blocks_to_write;
 use crate::flushing::flush;
 use crate::room::make_room;
-use lfs_staging::parts::Parts;
+use lfs_parts::parts::Parts;
 
 /// Writes all that waits, in a segment that is opened where the active one has too little room left.
 pub fn write_waiting(parts: &mut Parts)

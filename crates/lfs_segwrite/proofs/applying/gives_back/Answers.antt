@@ -6,7 +6,7 @@ use Rattle.lfs_types.specs.Tree.{File, attrs_of}
 use Rattle.lfs_types.specs.declared.attrs.Attrs.{Attrs}
 use Rattle.lfs_inodes.specs.Facts.{block_count}
 use Rattle.lfs_segwrite.specs.Applying.{gives_back}
-use Rattle.lfs_staging.specs.Files.{content_of}
+use Rattle.lfs_parts.specs.Files.{content_of}
 use Rattle.lfs_segwrite.proofs.applying.gives_back.Goals as goal
 
 -- the size of a file is the number of its bytes

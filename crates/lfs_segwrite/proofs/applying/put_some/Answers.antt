@@ -1,12 +1,20 @@
-use Rattle.std.proofs.Common.{◌≡◌, ◌≢◌, ℕ, ◌<◌, length, refl, sym, ◌∙◌, arith}
+use Rattle.std.proofs.Common.{◌≡◌, ◌≢◌, ℕ, ◌<◌, length, refl, sym, ap, ◌∙◌, subst, inl, inr, arith}
 use Rattle.std.proofs.lemmas.Bool.{cond-false, eqb-false, eqb-true}
 use Rattle.lfs_types.proofs.Somewhere.{some_from}
-use Rattle.lfs_staging.specs.Putting.{frames_of_put}
-use Rattle.lfs_staging.specs.Files.{content_of}
+use Rattle.lfs_cache.specs.declared.key.Key.{Key}
+use Rattle.lfs_staging.specs.Putting.{LeadsToPut, frames_of_put}
+use Rattle.lfs_parts.specs.View.{key_of, version_of}
+use Rattle.lfs_parts.specs.Files.{content_of}
 use Rattle.lfs_segwrite.proofs.AskedLemmas.{may_change, put_nothing, put_sized, shown_used}
-use Rattle.lfs_staging.proofs.StagingLemmas.{version-same}
+use Rattle.lfs_parts.proofs.SameLogLemmas.{version-same}
 use Rattle.lfs_staging.proofs.StagedLemmas.{stays-refl, stays_same}
 use Rattle.lfs_segwrite.proofs.applying.put_some.Goals as goal
+
+-- a key of one of the blocks is of the number
+its : (number version start count code : ℕ) (key : Key) → LeadsToPut start count code
+    → key ≡ key_of number version code → (key.ino ≡ number) × LeadsToPut start count key.lbn.0
+its number version start count code key leads is =
+    (ap (λ (k : Key). k.ino) is, subst (LeadsToPut start count) (sym (ap (λ (k : Key). k.lbn.0) is)) leads)
 
 pub put-requires-clause-may : goal.put-requires-clause-may
 put-requires-clause-may c =
@@ -35,14 +43,20 @@ returns-then-not-is_empty c =
     record {
       staged = c.put.ensures.kept 0 c.requires.staged;
       content_is = c.put.ensures.content;
-      versions_are = λ n. version-same c.args.parts.now c.put.new.self n c.put.ensures.log;
-      log = stays_same c.args.parts.now c.put.new.self c.put.ensures.log c.put.ensures.addresses;
+      versions_are = λ n. version-same c.args.parts.now c.put.new.parts n c.put.ensures.log;
+      log = stays_same c.args.parts.now c.put.new.parts c.put.ensures.log c.put.ensures.addresses;
       frames_more = omega (
         arith,
         cond-false {A = ℕ} _ 0 (frames_of_put c.args.off (length c.args.bytes.now)) here,
         c.put.ensures.frames,
       );
       records_more = omega (arith, cond-false {A = ℕ} _ 0 1 here, c.put.ensures.waiting);
+      frames_only = λ key locked. elim (c.put.ensures.only key locked) [
+        | inl one ↦ inl (its c.args.ino (version_of c.args.parts.now c.args.ino) c.args.off
+            (length c.args.bytes.now) one.0 key one.1 one.2)
+        | inr was ↦ inr was
+      ];
+      records_only = c.put.ensures.others;
     }
 
 pub returns-else-not-is_empty : goal.returns-else-not-is_empty
@@ -55,4 +69,6 @@ returns-else-not-is_empty c =
       log = stays-refl c.args.parts.now;
       frames_more = omega arith;
       records_more = omega arith;
+      frames_only = λ key locked. inr locked;
+      records_only = λ number other. refl;
     }

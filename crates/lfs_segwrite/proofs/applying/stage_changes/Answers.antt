@@ -1,10 +1,12 @@
-use Rattle.std.proofs.Common.{◌+◌, drop, refl, sym, ap, ◌∙◌, arith}
+use Rattle.std.proofs.Common.{◌+◌, drop, refl, sym, ap, ◌∙◌, subst, inl, inr, arith}
+use Rattle.std.specs.List.{Contains}
 use Rattle.std.proofs.lemmas.List.{drop_all, length-drop}
+use Rattle.std.proofs.lemmas.List.Elements.{Contains-get_or}
 use Rattle.lfs_types.specs.Changes.{applied}
 use Rattle.lfs_staging.specs.Changing.{frames_of, records_of}
-use Rattle.lfs_staging.specs.Files.{content_of}
+use Rattle.lfs_parts.specs.Files.{content_of}
 use Rattle.lfs_segwrite.specs.Applying.{versions_after}
-use Rattle.lfs_staging.specs.View.{version_of}
+use Rattle.lfs_parts.specs.View.{version_of}
 use Rattle.lfs_segwrite.proofs.BoundLemmas.{record_most}
 use Rattle.lfs_segwrite.proofs.StepLemmas.{next_applied, next_can, next_peak, next_sum, next_versions, rest_can}
 use Rattle.lfs_staging.proofs.StagedLemmas.{stays-refl, stays-trans}
@@ -20,6 +22,8 @@ loop-change-init c = record {
   frames = omega arith;
   peak = omega arith;
   records = omega arith;
+  blocks = λ key locked. inr locked;
+  numbers = λ number none. refl;
   left = omega arith;
 }
 
@@ -55,6 +59,7 @@ loop-change-preserved c =
     let long = length-drop i xs in
     let longer = length-drop (i + 1) xs in
     let made = c.stage_change.ensures.content_is in
+    let among = subst (Contains xs) (sym c.change-item.is) (Contains-get_or xs i d low) in
     record {
       staged = c.stage_change.ensures.staged;
       content = next_applied xs i d low c.change-item.is (content_of old) (content_of new) made
@@ -68,6 +73,14 @@ loop-change-preserved c =
       peak = omega (arith, c.loop-change.invariant.peak, c.stage_change.ensures.frames_more);
       left = omega (arith, c.loop-change.invariant.left, c.stage_change.ensures.records_more);
       records = omega (arith, c.loop-change.invariant.records, c.stage_change.ensures.records_more);
+      blocks = λ key locked. elim (c.stage_change.ensures.frames_only key locked) [
+        | inl one ↦ inl (record { change = d; among = among; its = one.0; may = one.1 })
+        | inr was ↦ c.loop-change.invariant.blocks key was
+      ];
+      numbers = λ number none.
+          c.stage_change.ensures.records_only number
+          (λ own. none (record { change = d; among = among; its = own }))
+          ∙ c.loop-change.invariant.numbers number none;
     }
 
 pub returns : goal.returns
@@ -81,4 +94,6 @@ returns c =
       log = c.loop-change.invariant.log;
       frames_more = omega (arith, c.loop-change.invariant.frames);
       records_more = omega (arith, c.loop-change.invariant.records);
+      frames_only = c.loop-change.invariant.blocks;
+      records_only = c.loop-change.invariant.numbers;
     }

@@ -1,10 +1,12 @@
-use Rattle.std.proofs.Common.{◌≡◌, ℕ, ◌+◌, ◌≤◌, drop, length}
+use Rattle.std.proofs.Common.{◌≡◌, ◌⊎◌, ℕ, ◌+◌, ◌≤◌, drop, length}
+use Rattle.lfs_cache.specs.Contents.{IsLocked}
+use Rattle.lfs_cache.specs.declared.key.Key.{Key}
 use Rattle.lfs_types.specs.Changes.{CanChangeAll, applied}
-use Rattle.lfs_segwrite.specs.Applying.{frames_of_all, peak_of_all, records_of_all, versions_after}
+use Rattle.lfs_segwrite.specs.Applying.{OneMayHaveWait, OneNames, frames_of_all, peak_of_all, records_of_all, versions_after}
 use Rattle.lfs_staging.specs.Changing.{StaysInLog}
-use Rattle.lfs_staging.specs.Files.{content_of}
+use Rattle.lfs_parts.specs.Files.{content_of}
 use Rattle.lfs_staging.specs.Staging.{IsStaged}
-use Rattle.lfs_staging.specs.View.{version_of}
+use Rattle.lfs_parts.specs.View.{version_of, waiting_in}
 use Rattle.lfs_segwrite.proofs.applying.stage_changes.Given as goal
 
 abbrev pub invariant-loop-change : goal.invariant-loop-change
@@ -21,5 +23,9 @@ invariant-loop-change l = record {
       + peak_of_all l.changes;
   records : length l.parts.waiting + records_of_all (drop l.change-index l.changes) ≤ length l.fn.parts.waiting
       + records_of_all l.changes;
+  blocks : (key : Key) → IsLocked key l.parts.cache
+      → OneMayHaveWait l.changes key.ino key.lbn.0 ⊎ IsLocked key l.fn.parts.cache;
+  numbers : (number : ℕ) → (OneNames l.changes number → ⊥)
+      → waiting_in l.parts.waiting number ≡ waiting_in l.fn.parts.waiting number;
   left : length l.parts.waiting + length (drop l.change-index l.changes) ≤ length l.fn.parts.waiting + length l.changes;
 }

@@ -1,7 +1,7 @@
 use Rattle.std.proofs.Common.{◌≡◌, drop}
 use Rattle.std.specs.List.{list_any}
 use Rattle.lfs_segwrite.specs.Applying.{unlocks}
-use Rattle.lfs_staging.specs.Files.{content_of}
+use Rattle.lfs_parts.specs.Files.{content_of}
 use Rattle.lfs_segwrite.proofs.applying.unlock.Given as goal
 
 abbrev pub invariant-loop-change : goal.invariant-loop-change

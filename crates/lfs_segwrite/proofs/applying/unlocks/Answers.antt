@@ -1,6 +1,6 @@
 use Rattle.std.proofs.Common.{ap, sym, ◌∙◌}
 use Rattle.lfs_segwrite.specs.Applying.{are_fewer, unlocks}
-use Rattle.lfs_staging.specs.Files.{content_of}
+use Rattle.lfs_parts.specs.Files.{content_of}
 use Rattle.lfs_segwrite.proofs.applying.unlocks.Goals as goal
 
 pub returns-in-Some : goal.returns-in-Some

@@ -1,5 +1,5 @@
 use Rattle.std.proofs.Common.{◌≡◌, ◌++◌, replicate}
-use Rattle.lfs_staging.specs.Opening.{inodes_entry}
+use Rattle.lfs_parts.specs.Opening.{inodes_entry}
 use Rattle.lfs_segwrite.proofs.collecting.push_inodes.Given as goal
 
 -- so many entries so far

@@ -3,7 +3,7 @@ use Rattle.std.proofs.lemmas.List.{length-map}
 use Rattle.lfs_cache.specs.declared.key.Key.{Key}
 use Rattle.lfs_cache.specs.Contents.{AreApart}
 use Rattle.lfs_segments.specs.Entry.{IsEntry}
-use Rattle.lfs_staging.specs.Store.{IsBlockCode}
+use Rattle.lfs_parts.specs.Store.{IsBlockCode}
 use Rattle.lfs_segwrite.specs.Collecting.{entry_of, in_passes}
 use Rattle.lfs_segwrite.proofs.CollectingLemmas.{all_entries, collected, collected_more, collected_none, collected_room}
 use Rattle.lfs_segwrite.proofs.CollectingLemmas.{entries_of-length, in_order-length}

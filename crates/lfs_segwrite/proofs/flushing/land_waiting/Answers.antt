@@ -7,10 +7,10 @@ use Rattle.lfs_segments.specs.Log.{Expects}
 use Rattle.lfs_bmap.specs.Blocks.{code_of}
 use Rattle.lfs_segwrite.specs.Landing.{ExpectsBlock}
 use Rattle.lfs_staging.specs.Addressing.{IsWaiting}
-use Rattle.lfs_staging.specs.View.{key_of, version_of, waiting_in}
+use Rattle.lfs_parts.specs.View.{key_of, version_of, waiting_in}
 use Rattle.lfs_segwrite.proofs.LandedKeyLemmas.{LandsKey, entry_here, found_waiting, key_here, landed_advances}
 use Rattle.lfs_segwrite.proofs.LandedKeyLemmas.{landed_count, landed_gone, landed_staged, may_land}
-use Rattle.lfs_staging.proofs.FrameLemmas.{waiting_number}
+use Rattle.lfs_parts.proofs.FrameLemmas.{waiting_number}
 use Rattle.lfs_segwrite.proofs.flushing.land_waiting.Goals as goal
 
 pub record_in_use-inode-requires-clause-in_use : goal.record_in_use-inode-requires-clause-in_use

@@ -1,6 +1,6 @@
 use Rattle.std.proofs.Common.{◌<◌, All, sym, ◌∙◌, subst}
 use Rattle.lfs_bmap.specs.Moves.{DirtyIn}
-use Rattle.lfs_staging.specs.Keys.{log_state}
+use Rattle.lfs_parts.specs.Keys.{log_state}
 use Rattle.lfs_segwrite.specs.Gaining.{MovesEights, eights}
 use Rattle.lfs_segwrite.proofs.GainLemmas.{LiesDirty, emptied}
 use Rattle.lfs_segwrite.proofs.InfoLemmas.{live_here}

@@ -5,7 +5,7 @@ use Rattle.std.proofs.lemmas.Bool.{cond-true, cond-false}
 use Rattle.std.proofs.lemmas.List.{append-nil, length-take, take_all}
 use Rattle.std.proofs.lemmas.List.Elements.{filter_more}
 use Rattle.lfs_types.specs.declared.cleaner.BlockInfo.{BlockInfo}
-use Rattle.lfs_staging.specs.Keys.{log_state}
+use Rattle.lfs_parts.specs.Keys.{log_state}
 use Rattle.lfs_segwrite.specs.Gaining.{live_infos, names_block}
 use Rattle.lfs_segwrite.proofs.GainLemmas.{length_filter}
 use Rattle.lfs_segwrite.proofs.InfoLemmas.{names_decides}

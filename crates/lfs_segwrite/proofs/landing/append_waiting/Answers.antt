@@ -1,7 +1,7 @@
 use Rattle.std.proofs.Common.{◌≡◌, Some, sym, ap, ◌∙◌, subst, arith}
 use Rattle.std.proofs.lemmas.Option.{same_Some}
 use Rattle.std.specs.Prelude.{option_copied}
-use Rattle.lfs_staging.specs.Keys.{log_state}
+use Rattle.lfs_parts.specs.Keys.{log_state}
 use Rattle.lfs_segwrite.specs.Landing.{AppendsBlock}
 use Rattle.lfs_segwrite.proofs.PutLemmas.{appends}
 use Rattle.lfs_segwrite.proofs.landing.append_waiting.Goals as goal
@@ -16,4 +16,5 @@ returns-clause-put c = λ bytes there.
     sym (ap option_copied c.in-Some.is) ∙ c.dirty.ensures.value ∙ there in
     subst (AppendsBlock p _ c.put.result) (same_Some c.in-Some.bytes.now bytes same)
     (appends p c.put.new.self c.put.result c.in-Some.bytes.now c.requires.parts c.requires.log e put.address put.block
-    put.tables put.extends put.next (put.expects e.entry e.rest e.expects) (put.step (log_state p).at))
+    put.tables put.extends (put.rising e.entry e.rest e.expects) put.next (put.expects e.entry e.rest e.expects)
+    (put.step (log_state p).at))

@@ -4,7 +4,8 @@ use Rattle.lfs_inodes.specs.declared.inode.Inode.{Inode}
 use Rattle.lfs_inodes.specs.Reading.{fields_of}
 use Rattle.lfs_ifile.specs.Tables.{Tables}
 use Rattle.lfs_segments.specs.Log.{Expects}
-use Rattle.lfs_segments.specs.Memory.{SegmentMemory, next_address}
+use Rattle.lfs_segments.specs.Memory.{SegmentMemory, has_serials, next_address}
+use Rattle.lfs_segments.specs.Rising.{IsRising}
 use Rattle.lfs_cache.specs.Contents.{Contents, IsLocked, block_in, block_of, or_else}
 use Rattle.lfs_cache.specs.Keys.{same_key}
 use Rattle.lfs_log.specs.Parts.{LogParts, live_of}
@@ -17,16 +18,17 @@ use Rattle.lfs_bmap.specs.Reading.{address, read}
 use Rattle.lfs_bmap.specs.Ways.{way_of}
 use Rattle.lfs_bmap.proofs.BlockLemmas.{code_of-below}
 use Rattle.lfs_bmap.proofs.WayLemmas.{way_of-code_of}
-use Rattle.lfs_staging.specs.declared.parts.Parts.{Parts}
-use Rattle.lfs_staging.specs.Keys.{log_state}
+use Rattle.lfs_parts.specs.declared.parts.Parts.{Parts}
+use Rattle.lfs_parts.specs.Keys.{log_state}
 use Rattle.lfs_segwrite.specs.Landing.{AppendsBlock, MayLand, entry_of}
-use Rattle.lfs_staging.specs.View.{LiesIn, blocks_of, key_of, tree_of}
-use Rattle.lfs_staging.proofs.FileLemmas.{tree_from-of}
+use Rattle.lfs_parts.specs.View.{LiesIn, blocks_of, key_of, tree_of}
+use Rattle.lfs_parts.proofs.FileLemmas.{tree_from-of}
 use Rattle.lfs_staging.proofs.HeldFrames.{KeepsFrames-same, KeepsFrames-trans, settled_frames}
-use Rattle.lfs_staging.proofs.HeldLemmas.{clean_was, keeps_gains, settled_own}
-use Rattle.lfs_staging.proofs.KeyLemmas.{lies_in, place-block}
+use Rattle.lfs_parts.proofs.HeldLemmas.{clean_was, keeps_gains, settled_own}
+use Rattle.lfs_parts.proofs.KeyLemmas.{lies_in, place-block}
 use Rattle.lfs_segwrite.proofs.KeepingLemmas.{content_kept, files_kept, frames_kept, frames_only}
-use Rattle.lfs_staging.proofs.ForgettingLemmas.{live_had, stays_landed, used_low, waited_parent, way_some}
+use Rattle.lfs_staging.proofs.ForgettingLemmas.{live_had, stays_landed, waited_parent, way_some}
+use Rattle.lfs_parts.proofs.SameLogLemmas.{used_low}
 use Rattle.lfs_segwrite.proofs.LandedLemmas.{Steps, block_other, data_same, lands, live_fits, log_after, others_same}
 use Rattle.lfs_segwrite.proofs.LandedLemmas.{parent_kept, place_after, record_other, waits_read, waits_set}
 use Rattle.lfs_staging.proofs.SettingLemmas.{some_there, waiting_record}
@@ -113,10 +115,10 @@ move_live-requires c = record {
 }
 
 after : goal.After-settle → Parts
-after c = record { log = c.move_live.new.self; cache = c.settle.new.self; waiting = c.set_address.new.self.waiting }
+after c = record { log = c.move_live.new.self; cache = c.settle.new.self; waiting = c.set_address.new.parts.waiting }
 
 steps : (c : goal.After-settle) (i : ℕ) (up : List ℕ) → way_to c.args.block ≡ i ∷ up
-    → Steps c.args.parts.now c.append_waiting-to.new.parts c.set_address.new.self
+    → Steps c.args.parts.now c.append_waiting-to.new.parts c.set_address.new.parts
     (after c) c.args.inode.now c.args.block c.append_waiting-to.result i up
 unfolding after
 steps c i up way =
@@ -142,20 +144,20 @@ steps c i up way =
           ≡ None) c.code.ensures c.settle.ensures.clean;
       kept = λ key apart. c.settle.ensures.others.dirty key
           (subst (λ k. same_key (key_of v.number v.version k) key ≡ false) (sym c.code.ensures) apart);
-      clean = λ key bytes apart. clean_was c.set_address.new.self.cache c.settle.new.self
+      clean = λ key bytes apart. clean_was c.set_address.new.parts.cache c.settle.new.self
           (key_of v.number v.version c.code.result) key bytes c.settle.ensures.formed
-          (keeps_gains c.set_address.new.self.cache c.settle.new.self
+          (keeps_gains c.set_address.new.parts.cache c.settle.new.self
           (key_of v.number v.version c.code.result) c.settle.ensures.others)
           (subst (λ k. same_key (key_of v.number v.version k) key ≡ false) (sym c.code.ensures) apart);
       own = λ bytes there.
           let k = key_of v.number v.version (code_of c.args.block) in
           let waits = some_there (block_in k p.cache.locked) may.waits in
-          let set_waits = waits_set p c.append_waiting-to.new.parts c.set_address.new.self v c.args.block
+          let set_waits = waits_set p c.append_waiting-to.new.parts c.set_address.new.parts v c.args.block
           c.append_waiting-to.result i up (read (tree_of p v.number) (i ∷ up)) may.can way put set in
           let held = subst (λ n. block_of (key_of v.number v.version n) c.settle.new.self
-          ≡ block_of (key_of v.number v.version n) c.set_address.new.self.cache) c.code.ensures
+          ≡ block_of (key_of v.number v.version n) c.set_address.new.parts.cache) c.code.ensures
           c.settle.ensures.kept in
-          settled_own c.set_address.new.self.cache c.settle.new.self k waits.0 bytes c.settle.ensures.formed held
+          settled_own c.set_address.new.parts.cache c.settle.new.self k waits.0 bytes c.settle.ensures.formed held
           (set_waits ∙ waits.1) there
           ∙ waits_read p v c.args.block i up waits.0 may.is way waits.1;
     }
@@ -168,10 +170,10 @@ own_clean : (c : goal.After-settle) (i : ℕ) (up : List ℕ) → way_to c.args.
 unfolding after
 own_clean c i up way =
     let p = c.args.parts.now in let v = c.args.inode.now in let may = c.requires.may_land in
-    let s = c.set_address.new.self.cache in let q = c.settle.new.self in
+    let s = c.set_address.new.parts.cache in let q = c.settle.new.self in
     let k = key_of v.number v.version (code_of c.args.block) in
     let waits = some_there (block_in k p.cache.locked) may.waits in
-    let set_waits = waits_set p c.append_waiting-to.new.parts c.set_address.new.self v c.args.block
+    let set_waits = waits_set p c.append_waiting-to.new.parts c.set_address.new.parts v c.args.block
     c.append_waiting-to.result i up (read (tree_of p v.number) (i ∷ up)) may.can way (steps c i up way).put
     (c.set_address.ensures.set i up way) in
     let held = subst (λ n. block_of (key_of v.number v.version n) q
@@ -183,7 +185,7 @@ pub returns-clause-landed : goal.returns-clause-landed
 unfolding after
 returns-clause-landed c =
     let p = c.args.parts.now in let v = c.args.inode.now in let may = c.requires.may_land in let b = c.args.block in
-    let r = c.append_waiting-to.new.parts in let s = c.set_address.new.self in let q = after c in let a =
+    let r = c.append_waiting-to.new.parts in let s = c.set_address.new.parts in let q = after c in let a =
     c.append_waiting-to.result in
     let w = way_some b may.can may.other in
     let st = steps c w.0 w.1 w.2 in
@@ -208,7 +210,7 @@ pub returns-clause-log : goal.returns-clause-log
 unfolding after
 returns-clause-log c =
     let p = c.args.parts.now in let v = c.args.inode.now in let may = c.requires.may_land in let b = c.args.block in
-    let r = c.append_waiting-to.new.parts in let s = c.set_address.new.self in let q = after c in let a =
+    let r = c.append_waiting-to.new.parts in let s = c.set_address.new.parts in let q = after c in let a =
     c.append_waiting-to.result in
     let has = waiting_record p v may.is in
     let same = tree_from-of p v.number v has (c.requires.files.files v.number (fields_of v) has) in
@@ -237,7 +239,7 @@ pub returns-clause-waiting : goal.returns-clause-waiting
 unfolding after
 returns-clause-waiting c =
     let p = c.args.parts.now in let v = c.args.inode.now in
-    let r = c.append_waiting-to.new.parts in let s = c.set_address.new.self in
+    let r = c.append_waiting-to.new.parts in let s = c.set_address.new.parts in
     let may = c.requires.may_land in
     let w = way_some c.args.block may.can may.other in
     let stays = c.set_address.ensures.waiting in
@@ -248,7 +250,7 @@ pub returns-clause-files : goal.returns-clause-files
 unfolding after
 returns-clause-files c =
     let p = c.args.parts.now in let v = c.args.inode.now in let may = c.requires.may_land in let b = c.args.block in
-    let r = c.append_waiting-to.new.parts in let s = c.set_address.new.self in let q = after c in let a =
+    let r = c.append_waiting-to.new.parts in let s = c.set_address.new.parts in let q = after c in let a =
     c.append_waiting-to.result in
     let w = way_some b may.can may.other in
     let stays = stays_landed p r s q v c.set_address.ensures.waiting (steps c w.0 w.1 w.2).put.waiting refl
@@ -261,7 +263,7 @@ pub returns-clause-content : goal.returns-clause-content
 unfolding after
 returns-clause-content c =
     let p = c.args.parts.now in let v = c.args.inode.now in let may = c.requires.may_land in let b = c.args.block in
-    let r = c.append_waiting-to.new.parts in let s = c.set_address.new.self in let q = after c in let a =
+    let r = c.append_waiting-to.new.parts in let s = c.set_address.new.parts in let q = after c in let a =
     c.append_waiting-to.result in
     let w = way_some b may.can may.other in
     let stays = stays_landed p r s q v c.set_address.ensures.waiting (steps c w.0 w.1 w.2).put.waiting refl
@@ -274,7 +276,7 @@ pub returns-clause-frames : goal.returns-clause-frames
 unfolding after
 returns-clause-frames c =
     let p = c.args.parts.now in let v = c.args.inode.now in let may = c.requires.may_land in let b = c.args.block in
-    let r = c.append_waiting-to.new.parts in let s = c.set_address.new.self in let q = after c in let a =
+    let r = c.append_waiting-to.new.parts in let s = c.set_address.new.parts in let q = after c in let a =
     c.append_waiting-to.result in
     let w = way_some b may.can may.other in
     let stays = stays_landed p r s q v c.set_address.ensures.waiting (steps c w.0 w.1 w.2).put.waiting refl
@@ -287,7 +289,7 @@ pub returns-clause-only : goal.returns-clause-only
 unfolding after
 returns-clause-only c =
     let p = c.args.parts.now in let v = c.args.inode.now in let may = c.requires.may_land in let b = c.args.block in
-    let r = c.append_waiting-to.new.parts in let s = c.set_address.new.self in let q = after c in let a =
+    let r = c.append_waiting-to.new.parts in let s = c.set_address.new.parts in let q = after c in let a =
     c.append_waiting-to.result in
     let w = way_some b may.can may.other in
     let stays = stays_landed p r s q v c.set_address.ensures.waiting (steps c w.0 w.1 w.2).put.waiting refl
@@ -300,7 +302,7 @@ pub returns-clause-place : goal.returns-clause-place
 unfolding after
 returns-clause-place c =
     let p = c.args.parts.now in let v = c.args.inode.now in let may = c.requires.may_land in let b = c.args.block in
-    let r = c.append_waiting-to.new.parts in let s = c.set_address.new.self in let q = after c in let a =
+    let r = c.append_waiting-to.new.parts in let s = c.set_address.new.parts in let q = after c in let a =
     c.append_waiting-to.result in
     let w = way_some b may.can may.other in
     let st = steps c w.0 w.1 w.2 in
@@ -309,6 +311,8 @@ returns-clause-place c =
       end = st.put.end;
       next = ap next_address st.memory ∙ put.next;
       segments = ap (λ (m : SegmentMemory). m.segments) st.memory ∙ put.extends.segments;
+      serials = ap has_serials st.memory ∙ put.extends.serials;
+      rising = λ r. subst IsRising (sym st.memory) (st.put.rising r);
       active = ap (λ (m : SegmentMemory). m.active) st.memory ∙ put.extends.active;
       states = c.move_live.ensures.others.states ∙ ap (λ (l : LogParts). l.tables.states) st.set.log
           ∙ ap (λ (t : Tables). t.states) st.put.tables;
@@ -322,7 +326,7 @@ returns-clause-fewer c =
     let may = c.requires.may_land in
     let w = way_some c.args.block may.can may.other in
     let st = steps c w.0 w.1 w.2 in
-    let same : length c.set_address.new.self.cache.locked ≡ length c.args.parts.now.cache.locked = st.set.many
+    let same : length c.set_address.new.parts.cache.locked ≡ length c.args.parts.now.cache.locked = st.set.many
     ∙ ap (λ (s : Contents). length s.locked) st.put.cache in
     let one = c.settle.ensures.one_less in
     omega arith
@@ -334,9 +338,9 @@ settle-requires c =
     let set = c.set_address.ensures.set w.0 w.1 w.2 in
     let put = put_read p c.append_waiting-to.new.parts v c.args.block c.append_waiting-to.result c.code.result w.0 w.1
     may c.code.ensures w.2 c.append_waiting-to.ensures.put in
-    let waits = waits_set p c.append_waiting-to.new.parts c.set_address.new.self v c.args.block
+    let waits = waits_set p c.append_waiting-to.new.parts c.set_address.new.parts v c.args.block
     c.append_waiting-to.result w.0 w.1 (read (tree_of p v.number) (w.0 ∷ w.1)) may.can w.2 put set in
-    subst (λ k. IsLocked (key_of v.number v.version k) c.set_address.new.self.cache) (sym c.code.ensures)
+    subst (λ k. IsLocked (key_of v.number v.version k) c.set_address.new.parts.cache) (sym c.code.ensures)
     (ap is_some waits ∙ may.waits)
 
 pub set_address-requires-clause-in_volume : goal.set_address-requires-clause-in_volume

@@ -2,7 +2,7 @@ use Rattle.std.proofs.Common.{sym, ap, ◌∙◌}
 use Rattle.lfs_bmap.specs.Blocks.{way_to}
 use Rattle.lfs_bmap.specs.Reading.{bytes_via}
 use Rattle.lfs_bmap.proofs.ReadingLemmas.{read-via}
-use Rattle.lfs_staging.specs.View.{tree_from}
+use Rattle.lfs_parts.specs.View.{tree_from}
 use Rattle.lfs_segwrite.proofs.marking.bytes_to_move.Goals as goal
 
 pub returns : goal.returns

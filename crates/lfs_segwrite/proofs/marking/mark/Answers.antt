@@ -1,5 +1,10 @@
-use Rattle.std.proofs.Common.{ℕ, Result, Ok, Err, IfOk, OnErr, inl, inr, sym, subst, arith}
+use Rattle.std.proofs.Common.{◌≡◌, ℕ, List, Result, Ok, Err, IfOk, OnErr, inl, inr, sym, subst, arith}
+use Rattle.lfs_types.specs.declared.cleaner.BlockInfo.{BlockInfo}
+use Rattle.lfs_found.specs.Written.{IsRecoverable}
+use Rattle.lfs_parts.specs.declared.parts.Parts.{Parts}
+use Rattle.lfs_segwrite.specs.Applying.{WritesWaiting}
 use Rattle.lfs_segwrite.specs.Finishing.{LacksRoomFor}
+use Rattle.lfs_segwrite.specs.Marking.{MarksSettled}
 use Rattle.lfs_segwrite.proofs.MarkedLemmas.{marks_after}
 use Rattle.lfs_segwrite.proofs.marking.mark.Goals as goal
 
@@ -36,3 +41,16 @@ returns-clause-reserved c =
         | inr opened ↦ let clean = opened.1 in omega arith
       ]
     ]) c.mark_settled.ensures.refused c.mark_settled.ensures.reserved
+
+-- what was found is found where blocks were written again, and where none was
+whole_after : {E : Type 0} (r : Result ℕ E) (marks : List BlockInfo) (old between new : Parts) → WritesWaiting old between
+    → IfOk r (λ count. MarksSettled marks count between new) → OnErr r (new ≡ between)
+    → IsRecoverable old.log.memory → IsRecoverable new.log.memory
+whole_after (Ok count) marks old between new written again same was = again.log.whole (written.log.whole was)
+whole_after (Err e) marks old between new written again same was =
+    subst (λ (p : Parts). IsRecoverable p.log.memory) (sym same) (written.log.whole was)
+
+pub returns-clause-whole : goal.returns-clause-whole
+returns-clause-whole c =
+    whole_after c.mark_settled.result c.args.marks.now c.args.parts.now c.write_waiting.new.parts c.mark_settled.new.parts
+    c.write_waiting.ensures c.mark_settled.ensures.marked c.mark_settled.ensures.refused

@@ -2,8 +2,8 @@ use Rattle.std.proofs.Common.{Result, Ok, Err, OnErr, ◌≡◌, ◌≢◌, ◌+
 use Rattle.std.proofs.Common.{arith}
 use Rattle.std.proofs.lemmas.Bool.{cases_lt, eqb-false}
 use Rattle.lfs_segments.specs.Memory.{room_of}
-use Rattle.lfs_staging.specs.declared.parts.Parts.{Parts}
-use Rattle.lfs_staging.specs.Keys.{log_state}
+use Rattle.lfs_parts.specs.declared.parts.Parts.{Parts}
+use Rattle.lfs_parts.specs.Keys.{log_state}
 use Rattle.lfs_segwrite.specs.Finishing.{LacksRoomToMark, SomeIsFinishable}
 use Rattle.lfs_segwrite.specs.Marking.{AreNamed}
 use Rattle.lfs_staging.proofs.KeptLemmas.{store_staged}

@@ -1,6 +1,6 @@
 use Rattle.std.proofs.Common.{sym, ap, subst, length, arith}
 use Rattle.std.proofs.lemmas.List.{take_all}
-use Rattle.lfs_staging.specs.Keys.{log_state}
+use Rattle.lfs_parts.specs.Keys.{log_state}
 use Rattle.lfs_segwrite.specs.Marking.{AreNamed}
 use Rattle.lfs_segwrite.proofs.ListedLemmas.{AreNamed-none, named_length, named_more}
 use Rattle.lfs_segwrite.proofs.marking.named.Goals as goal

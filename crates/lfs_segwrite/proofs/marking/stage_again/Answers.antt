@@ -18,16 +18,16 @@ stage_parents-requires-clause-room c =
 
 pub returns-in-Record-clause-staged : goal.returns-in-Record-clause-staged
 returns-in-Record-clause-staged c =
-    record_staged c.args.parts.now c.stage_parents.new.self c.args.inode.now c.requires.may
-    (subst (λ b. StagesParents c.args.inode.now.number b c.args.parts.now c.stage_parents.new.self) c.in-Record.is
+    record_staged c.args.parts.now c.stage_parents.new.parts c.args.inode.now c.requires.may
+    (subst (λ b. StagesParents c.args.inode.now.number b c.args.parts.now c.stage_parents.new.parts) c.in-Record.is
     c.stage_parents.ensures) c.requires.staged
 
 pub returns-in-Record-clause-again : goal.returns-in-Record-clause-again
 returns-in-Record-clause-again c =
-    subst (λ b. StagesAgain c.args.inode.now.number (code_of b) c.args.parts.now c.stage_parents.new.self)
+    subst (λ b. StagesAgain c.args.inode.now.number (code_of b) c.args.parts.now c.stage_parents.new.parts)
     (sym c.in-Record.is)
-    (record_again c.args.parts.now c.stage_parents.new.self c.args.inode.now
-    (subst (λ b. StagesParents c.args.inode.now.number b c.args.parts.now c.stage_parents.new.self) c.in-Record.is
+    (record_again c.args.parts.now c.stage_parents.new.parts c.args.inode.now
+    (subst (λ b. StagesParents c.args.inode.now.number b c.args.parts.now c.stage_parents.new.parts) c.in-Record.is
     c.stage_parents.ensures))
 
 pub stage_moved-requires-clause-other : goal.stage_moved-requires-clause-other

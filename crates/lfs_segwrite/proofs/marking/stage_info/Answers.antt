@@ -2,7 +2,7 @@ use Rattle.std.proofs.Common.{sym, ◌∙◌, subst}
 use Rattle.std.proofs.lemmas.Option.{none-some}
 use Rattle.lfs_inodes.specs.Reading.{fields_of}
 use Rattle.lfs_bmap.specs.Blocks.{code_of}
-use Rattle.lfs_staging.specs.Keys.{log_state}
+use Rattle.lfs_parts.specs.Keys.{log_state}
 use Rattle.lfs_segwrite.specs.Marking.{StagesAgain, code_named}
 use Rattle.lfs_segwrite.proofs.AgainLemmas.{place_address, place_may, place_used, place_within}
 use Rattle.lfs_segwrite.proofs.NamedLemmas.{named_block, named_place, named_there}

@@ -1,7 +1,14 @@
-use Rattle.std.proofs.Common.{◌≡◌, ◌-◌, length, drop, ap, ◌∙◌, arith}
-use Rattle.lfs_segments.specs.Memory.{SegmentMemory, next_address}
+use Rattle.std.proofs.Common.{◌≡◌, ℕ, ◌-◌, ◌<◌, List, [], ◌∷◌, Some, true, option_map, length, drop, refl, sym, ap, subst, ◌∙◌, arith}
+use Rattle.lfs_segments.specs.Memory.{SegmentMemory, block_at, next_address}
+use Rattle.lfs_recovery.specs.Whole.{has_record}
+use Rattle.lfs_found.proofs.RecoverableLemmas.{has_record-some}
 use Rattle.lfs_segwrite.proofs.RecordsLemmas.{recording_begins, recording_more, record_stands}
 use Rattle.lfs_segwrite.proofs.records.land_records.Goals as goal
+use Rattle.std.specs.List.{slice_get}
+use Rattle.std.proofs.lemmas.List.{length-drop}
+use Rattle.lfs_inodes.specs.declared.inode.Inode.{Inode}
+use Rattle.lfs_inodes.specs.Reading.{fields_in, fields_of}
+use Rattle.lfs_inodes.specs.Slots.{slot_of}
 
 pub loop-parts-init : goal.loop-parts-init
 loop-parts-init c =
@@ -39,3 +46,27 @@ returns-clause-advances c = λ from low. c.loop-parts.invariant.advances from
 pub returns-clause-next : goal.returns-clause-next
 returns-clause-next c = ap (λ (m : SegmentMemory). next_address m) c.loop-parts.invariant.memory
     ∙ c.append_block-address.ensures.next
+
+first_some : (vs : List Inode) → 0 < length vs → (v : Inode) × (option_map fields_of (slice_get vs 0) ≡ Some (fields_of v))
+first_some [] some = absurd (omega arith)
+first_some (v ∷ vs) some = (v, refl)
+
+pub returns-clause-first : goal.returns-clause-first
+returns-clause-first c =
+    let p = c.args.parts.now in
+    let mid = c.append_block-address.new.parts in
+    let put = c.append_block-address.ensures.put in
+    let waiting = p.waiting in
+    let inodes = c.as_slice.result.now in
+    let some = c.requires.some in
+    let same : inodes ≡ drop (length waiting - 4) waiting = c.as_slice.ensures.value ∙ c.oldest-oldest.ensures in
+    let long : length inodes ≡ length waiting - (length waiting - 4) = ap (λ (vs : List Inode). length vs) same
+    ∙ length-drop (length waiting - 4) waiting in
+    let first = first_some inodes (omega arith) in
+    let read : fields_in (slot_of (block_at mid.log.memory c.append_block-address.result) 0) ≡ Some (fields_of first.0) =
+    ap (λ (b : List ℕ). fields_in (slot_of b 0)) put.written ∙ c.packed-block.ensures.reading 0 (omega arith) ∙ first.1 in
+    let stands : has_record mid.log.memory c.append_block-address.result ≡ true =
+    has_record-some mid.log.memory c.append_block-address.result (fields_of first.0) read in
+    let there : has_record mid.log.memory (next_address p.log.memory) ≡ true =
+    subst (λ (a : ℕ). has_record mid.log.memory a ≡ true) put.end stands in
+    subst (λ (m : SegmentMemory). has_record m (next_address p.log.memory) ≡ true) (sym c.loop-parts.invariant.memory) there

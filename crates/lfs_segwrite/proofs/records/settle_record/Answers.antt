@@ -1,5 +1,5 @@
 use Rattle.std.proofs.Common.{◌≡◌, ◌++◌, ◌∷◌, [], refl}
-use Rattle.lfs_staging.specs.declared.parts.Parts.{Parts}
+use Rattle.lfs_parts.specs.declared.parts.Parts.{Parts}
 use Rattle.lfs_segwrite.proofs.SettleLemmas.{Settles, last_low, last_move, last_present, settled_advances}
 use Rattle.lfs_segwrite.proofs.SettleLemmas.{settled_staged}
 use Rattle.lfs_segwrite.proofs.records.settle_record.Goals as goal

@@ -2,7 +2,7 @@ use Rattle.std.proofs.Common.{◌≡◌, ◌≢◌, [], ◌∷◌, List, ℕ, ma
 use Rattle.lfs_bmap.specs.Blocks.{code_of, way_to}
 use Rattle.lfs_bmap.specs.Ways.{codes_on}
 use Rattle.lfs_bmap.proofs.HolderLemmas.{codes_on-block, codes_on-none}
-use Rattle.lfs_staging.specs.View.{key_of}
+use Rattle.lfs_parts.specs.View.{key_of}
 use Rattle.lfs_segwrite.specs.Counting.{AddsKeys}
 use Rattle.lfs_segwrite.proofs.CountingLemmas.{adds_both, adds_none}
 use Rattle.lfs_segwrite.proofs.counting.KeyList.+add_way.Goals as goal

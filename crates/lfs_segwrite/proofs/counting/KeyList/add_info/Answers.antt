@@ -1,7 +1,7 @@
 use Rattle.std.proofs.Common.{◌≡◌, [], List, ℕ, map, sym, ap, ◌∙◌, subst, inl, inr, arith}
 use Rattle.lfs_bmap.specs.Blocks.{file_block_of}
 use Rattle.lfs_bmap.proofs.BlockLemmas.{file_block_of-is}
-use Rattle.lfs_staging.specs.View.{key_of}
+use Rattle.lfs_parts.specs.View.{key_of}
 use Rattle.lfs_segwrite.specs.Counting.{AddsKeys}
 use Rattle.lfs_segwrite.specs.Marking.{code_named, codes_to_mark}
 use Rattle.lfs_segwrite.proofs.CountingLemmas.{adds_none}
