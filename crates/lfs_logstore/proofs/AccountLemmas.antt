@@ -17,9 +17,9 @@ use Rattle.lfs_bmap.proofs.MoveLemmas.{present_address-key, present_address-othe
 use Rattle.lfs_log.specs.Infos.{HasInfo, infos_of}
 use Rattle.lfs_log.specs.Parts.{state_of}
 use Rattle.lfs_log.proofs.FoundLemmas.{infos_of-named}
-use Rattle.lfs_staging.specs.declared.parts.Parts.{Parts}
-use Rattle.lfs_staging.specs.Keys.{log_state}
-use Rattle.lfs_staging.specs.Store.{IsStore}
+use Rattle.lfs_parts.specs.declared.parts.Parts.{Parts}
+use Rattle.lfs_parts.specs.Keys.{log_state}
+use Rattle.lfs_parts.specs.Store.{IsStore}
 use Rattle.lfs_logstore.specs.States as state
 use Rattle.lfs_logstore.specs.Cleaning.{IsAccounted, address_of}
 

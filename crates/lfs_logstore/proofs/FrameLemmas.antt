@@ -3,7 +3,7 @@
 use Rattle.std.proofs.Common.{◌≡◌, ℕ, List, is_some, sym, ap, ◌∙◌}
 use Rattle.lfs_cache.specs.declared.key.Key.{Key}
 use Rattle.lfs_cache.specs.Contents.{block_in, block_of, or_else}
-use Rattle.lfs_staging.specs.declared.parts.Parts.{Parts}
+use Rattle.lfs_parts.specs.declared.parts.Parts.{Parts}
 use Rattle.lfs_segwrite.specs.Applying.{WritesWaiting}
 use Rattle.lfs_logstore.specs.Frames.{KeepsCached}
 

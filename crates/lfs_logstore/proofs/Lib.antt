@@ -4,3 +4,4 @@ pub mod ReclaimLemmas
 pub mod OpeningLemmas
 pub mod RoomLemmas
 pub mod FrameLemmas
+pub mod RecoverableLemmas

@@ -1,17 +1,17 @@
 -- A store that was just laid out, and the faults of laying one out.
-use Rattle.std.proofs.Common.{◌≡◌, ◌↔◌, ℕ, ◌-◌, Result, Ok, Err, refl, ap, arith}
+use Rattle.std.proofs.Common.{◌≡◌, ◌↔◌, ℕ, ◌-◌, Option, Result, Ok, Err, refl, ap, arith}
 use Rattle.std.specs.Prelude.{IsErrAnd, IsErrOf}
 use Rattle.std.proofs.lemmas.Result.{err_from_is_err_and}
 use Rattle.lfs_types.specs.Tree.{opening_content}
-use Rattle.lfs_staging.specs.declared.parts.Parts.{Parts}
-use Rattle.lfs_staging.specs.Files.{content_of}
-use Rattle.lfs_staging.specs.Opening.{IsOpening}
+use Rattle.lfs_parts.specs.declared.parts.Parts.{Parts}
+use Rattle.lfs_parts.specs.Files.{content_of}
+use Rattle.lfs_parts.specs.Opening.{IsOpeningWith}
 use Rattle.lfs_logstore.specs.States.{opening_state, state_of}
 
 -- the parts of a volume that was just laid out show the opening state
-pub opened_state : (p : Parts) (segments numbers frames : ℕ) → IsOpening segments numbers frames p → content_of p
-    ≡ opening_content → state_of p ≡ opening_state segments numbers
-opened_state p segments numbers frames h content =
+pub opened_state : (serial : Option ℕ) (p : Parts) (segments numbers frames : ℕ)
+    → IsOpeningWith serial segments numbers frames p → content_of p ≡ opening_content → state_of p ≡ opening_state segments numbers
+opened_state serial p segments numbers frames h content =
     let clean : p.log.clean ≡ segments - 1 = omega (arith, h.clean) in
     rw (content, clean, h.tables.inodes, h.size) refl
 

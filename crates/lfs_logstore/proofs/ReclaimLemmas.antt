@@ -12,11 +12,11 @@ use Rattle.lfs_bmap.proofs.SegmentLemmas.{cleaned_log, empty_has_none}
 use Rattle.lfs_log.specs.Parts.{IsParts, LogParts, record_place}
 use Rattle.lfs_log.specs.Parts as log
 use Rattle.lfs_inodes.specs.Reading.{Fields}
-use Rattle.lfs_staging.specs.declared.parts.Parts.{Parts}
-use Rattle.lfs_staging.specs.Files.{content_of, file_at}
-use Rattle.lfs_staging.specs.Keys.{log_state}
-use Rattle.lfs_staging.specs.Store.{AreFiles, IsFile, IsStore}
-use Rattle.lfs_staging.specs.View.{record_of}
+use Rattle.lfs_parts.specs.declared.parts.Parts.{Parts}
+use Rattle.lfs_parts.specs.Files.{content_of, file_at}
+use Rattle.lfs_parts.specs.Keys.{log_state}
+use Rattle.lfs_parts.specs.Store.{AreFiles, IsFile, IsStore}
+use Rattle.lfs_parts.specs.View.{record_of}
 use Rattle.lfs_segments.specs.Memory.{room_of}
 use Rattle.lfs_segwrite.specs.Applying.{HasRoom, waiting_blocks}
 use Rattle.lfs_segwrite.specs.Collecting.{entries_of}

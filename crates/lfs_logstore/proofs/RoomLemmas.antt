@@ -9,10 +9,10 @@ use Rattle.lfs_log.specs.Parts.{LogParts}
 use Rattle.lfs_segwrite.specs.Collecting.{entries_of, inode_blocks}
 use Rattle.lfs_segwrite.proofs.CollectingLemmas.{entries_of-length}
 use Rattle.lfs_logstore.specs.States.{shape_of, state_of}
-use Rattle.lfs_staging.specs.declared.parts.Parts.{Parts}
-use Rattle.lfs_staging.proofs.FilledLemmas.{same_content}
-use Rattle.lfs_staging.specs.Filling.{SameButClean}
-use Rattle.lfs_staging.specs.Store.{IsSettled}
+use Rattle.lfs_parts.specs.declared.parts.Parts.{Parts}
+use Rattle.lfs_parts.proofs.FilledLemmas.{same_content}
+use Rattle.lfs_parts.specs.Filling.{SameButClean}
+use Rattle.lfs_parts.specs.Store.{IsSettled}
 
 pub settled_room : (p : Parts) → IsSettled p → HasRoom p
 settled_room p settled =

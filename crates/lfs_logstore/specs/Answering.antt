@@ -4,7 +4,7 @@ use Rattle.lfs_types.specs.declared.store.Change.{Change}
 use Rattle.lfs_types.specs.declared.store.Reserve.{Reserve}
 use Rattle.lfs_types.specs.declared.store.StoreRefusal.{StoreRefusal}
 use Rattle.lfs_segwrite.specs.Applying.{HasRoomFor, MakesChanges}
-use Rattle.lfs_staging.specs.declared.parts.Parts.{Parts}
+use Rattle.lfs_parts.specs.declared.parts.Parts.{Parts}
 
 -- Changes on somebody's behalf came to this: they are made where the log had room for them, as it stood; else all is as
 -- it was.

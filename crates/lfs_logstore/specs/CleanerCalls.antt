@@ -1,6 +1,6 @@
 -- What the calls of the log store's cleaner may answer.
 use Rattle.lfs_types.specs.Cleaned.{CleanerCalls}
-use Rattle.lfs_staging.specs.declared.parts.Parts.{Parts}
+use Rattle.lfs_parts.specs.declared.parts.Parts.{Parts}
 use Rattle.lfs_logstore.specs.Cleaning.{GivesAddresses, GivesIfile, GivesInfos, Reclaims}
 use Rattle.lfs_logstore.specs.Marking.{WritesAgain}
 

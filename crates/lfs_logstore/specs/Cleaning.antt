@@ -12,9 +12,9 @@ use Rattle.lfs_bmap.specs.Counting.{live_bytes}
 use Rattle.lfs_bmap.specs.Moves.{present_address}
 use Rattle.lfs_log.specs.Infos.{HasInfo, infos_of}
 use Rattle.lfs_log.specs.Parts.{live_of, state_of}
-use Rattle.lfs_staging.specs.declared.parts.Parts.{Parts}
-use Rattle.lfs_staging.specs.Files.{content_of}
-use Rattle.lfs_staging.specs.Keys.{log_state}
+use Rattle.lfs_parts.specs.declared.parts.Parts.{Parts}
+use Rattle.lfs_parts.specs.Files.{content_of}
+use Rattle.lfs_parts.specs.Keys.{log_state}
 use Rattle.lfs_segwrite.specs.Marking.{code_named}
 
 -- the present address of a key: a number, a version and the code of a block

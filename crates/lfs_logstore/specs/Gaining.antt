@@ -1,6 +1,6 @@
 -- A segment is cleaned for a gain of room.
 use Rattle.std.specs.Prelude.{ℕ, ◌<◌}
-use Rattle.lfs_staging.specs.declared.parts.Parts.{Parts}
+use Rattle.lfs_parts.specs.declared.parts.Parts.{Parts}
 use Rattle.lfs_segwrite.specs.Applying.{WritesWaiting}
 use Rattle.lfs_segwrite.specs.Gaining.{Empties, IsGainful, space}
 use Rattle.lfs_logstore.specs.Cleaning.{IsReclaimed}

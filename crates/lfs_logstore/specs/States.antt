@@ -2,12 +2,12 @@
 use Rattle.std.specs.Prelude.{ℕ, ◌-◌, false, length}
 use Rattle.lfs_types.specs.StoreStates.{Shape, StoreState}
 use Rattle.lfs_types.specs.Tree.{opening_content}
-use Rattle.lfs_staging.specs.declared.parts.Parts.{Parts}
-use Rattle.lfs_staging.specs.Files.{content_of}
+use Rattle.lfs_parts.specs.declared.parts.Parts.{Parts}
+use Rattle.lfs_parts.specs.Files.{content_of}
 
 -- so many inode numbers and segments; no change takes memory
 abbrev pub shape_of : ℕ → ℕ → Shape
-shape_of numbers segments = record { numbers = numbers; segments = segments; can_lack_memory = false }
+shape_of numbers segments = record { numbers = numbers; segments = segments; can_lack_memory = false; has_share = false }
 
 -- what the parts contain, how many segments are clean, and how many numbers and segments there are
 abbrev pub state_of : Parts → StoreState

@@ -6,10 +6,11 @@ ghost use Rattle.lfs_types.specs.declared.block.TheConstants.{BLOCK_SIZE};
 ghost use Rattle.lfs_types.specs.Changes.{CanApply};
 ghost use Rattle.lfs_types.specs.StoreStates.{Applies};
 ghost use Rattle.lfs_types.specs.Stored.{Reads, bytes_of, slice_of};
-ghost use Rattle.lfs_staging.specs.Filling.{IsCached, SameButClean};
-ghost use Rattle.lfs_staging.specs.View.{version_of};
+ghost use Rattle.lfs_found.specs.Written.{IsRecoverable};
+ghost use Rattle.lfs_parts.specs.Filling.{IsCached, SameButClean};
+ghost use Rattle.lfs_parts.specs.View.{version_of};
 ghost use Rattle.lfs_segwrite.specs.Applying.{HasRoomFor, MakesChanges, WritesWaiting};
-ghost use Rattle.lfs_staging.specs.Store.{IsSettled};
+ghost use Rattle.lfs_parts.specs.Store.{IsSettled};
 ghost use Rattle.lfs_logstore.specs.Answering.{ComesTo};
 ghost use Rattle.lfs_logstore.specs.Frames.{KeepsCached};
 ghost use Rattle.lfs_logstore.specs.States.{state_of};
@@ -22,7 +23,7 @@ use lfs_types::store::{Change, FileStore, Reserve, StoreRefusal};
 
 impl FileStore for LogStore {
     ghost use Rattle.lfs_logstore.specs.States.{state_of};
-    ghost use Rattle.lfs_staging.specs.Store.{IsSettled};
+    ghost use Rattle.lfs_parts.specs.Store.{IsSettled};
     ghost use Rattle.lfs_logstore.specs.Answering.{ComesTo};
 
     ghost state = { state_of };
@@ -68,6 +69,8 @@ impl FileStore for LogStore {
         ensures refused { OnErr result (self.new ≡ self.old) }
         // There is no room, as the log stands.
         ensures lacking { OnErr result (HasRoomFor by changes.now self.old → ⊥) }
+        // What recovery found it finds, and what was written too.
+        ensures whole { IsRecoverable self.old.log.memory → IsRecoverable self.new.log.memory }
     {
         apply(&mut self.parts, changes, by).map_err(|_| StoreRefusal::NoSpace)
     }
@@ -79,6 +82,7 @@ impl FileStore for LogStore {
         ensures settled { OnOk result (IsSettled self.new) }
         ensures written { WritesWaiting self.old self.new }
         ensures held { KeepsCached self.old self.new }
+        ensures whole { IsRecoverable self.old.log.memory → IsRecoverable self.new.log.memory }
         ensures never { OnErr result ⊥ }
     {
         write_waiting(&mut self.parts);

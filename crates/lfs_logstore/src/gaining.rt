@@ -1,10 +1,11 @@
 //! A segment is cleaned where that gains room.
 
 ghost use Rattle.std.specs.Prelude.{◌≡◌, IfOk, OnErr, OnOk};
+ghost use Rattle.lfs_found.specs.Written.{IsRecoverable};
 ghost use Rattle.lfs_segwrite.specs.Applying.{WritesWaiting};
 ghost use Rattle.lfs_segwrite.specs.Gaining.{NoneIsGainful};
-ghost use Rattle.lfs_staging.specs.Files.{content_of};
-ghost use Rattle.lfs_staging.specs.Store.{IsSettled};
+ghost use Rattle.lfs_parts.specs.Files.{content_of};
+ghost use Rattle.lfs_parts.specs.Store.{IsSettled};
 ghost use Rattle.lfs_logstore.specs.Gaining.{GainsSpace};
 ghost use Rattle.lfs_logstore.specs.States.{state_of};
 
@@ -27,6 +28,7 @@ impl LogStore {
         ensures settled { IsSettled self.new }
         ensures content { content_of self.new ≡ content_of self.old }
         ensures shape { (state_of self.new).shape ≡ (state_of self.old).shape }
+        ensures whole { IsRecoverable self.old.log.memory → IsRecoverable self.new.log.memory }
     {
         write_waiting(&mut self.parts);
         match gainful(&self.parts) {

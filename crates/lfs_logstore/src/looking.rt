@@ -1,10 +1,10 @@
 //! The parts of a store, for one who looks at its log.
 
 ghost use Rattle.std.specs.Prelude.{◌≡◌};
-ghost use Rattle.lfs_staging.specs.Store.{IsStore};
+ghost use Rattle.lfs_parts.specs.Store.{IsStore};
 
 use crate::store::LogStore;
-use lfs_staging::parts::Parts;
+use lfs_parts::parts::Parts;
 
 impl LogStore {
     /// The parts of the store, to be read.

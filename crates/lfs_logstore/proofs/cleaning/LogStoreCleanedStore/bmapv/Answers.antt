@@ -1,7 +1,7 @@
 use Rattle.std.proofs.Common.{◌≡◌, ◌<◌, ◌∙◌, ap, arith, get_or, length, subst}
 use Rattle.std.proofs.Math.ListN.{set}
 use Rattle.lfs_types.specs.declared.cleaner.BlockInfo.{BlockInfo}
-use Rattle.lfs_staging.specs.Keys.{log_state}
+use Rattle.lfs_parts.specs.Keys.{log_state}
 use Rattle.lfs_segwrite.proofs.NamedLemmas.{named_address}
 use Rattle.lfs_logstore.specs.Cleaning.{with_address}
 use Rattle.lfs_logstore.proofs.AddressLemmas.{mapped_all, mapped_more, mapped_none}

@@ -1,7 +1,7 @@
 use Rattle.std.proofs.Common.{length, subst}
 use Rattle.std.specs.Prelude.{IfOk, ◌≡◌}
 use Rattle.lfs_types.specs.Cleaned.{ifile_size}
-use Rattle.lfs_staging.specs.Store.{IsStore}
+use Rattle.lfs_parts.specs.Store.{IsStore}
 use Rattle.lfs_logstore.specs.States.{state_of}
 use Rattle.lfs_logstore.proofs.AccountLemmas.{accounted, sized}
 use Rattle.lfs_logstore.proofs.cleaning.LogStoreCleanedStore.ifile_bytes.Goals as goal

@@ -2,10 +2,10 @@ use Rattle.std.proofs.Common.{◌+◌, ◌-◌, ◌/◌, ◌<◌, rules, ap, ◌
 use Rattle.lfs_types.specs.declared.block.TheConstants.{BLOCK_SIZE}
 use Rattle.lfs_logstore.specs.States.{state_of}
 use Rattle.lfs_logstore.proofs.RoomLemmas.{same_room, same_state}
-use Rattle.lfs_staging.specs.declared.parts.Parts.{Parts}
-use Rattle.lfs_staging.specs.Filling.{IsCached}
-use Rattle.lfs_staging.specs.View.{version_of}
-use Rattle.lfs_staging.proofs.FilledLemmas.{same_store}
+use Rattle.lfs_parts.specs.declared.parts.Parts.{Parts}
+use Rattle.lfs_parts.specs.Filling.{IsCached}
+use Rattle.lfs_parts.specs.View.{version_of}
+use Rattle.lfs_parts.proofs.FilledLemmas.{same_store}
 use Rattle.lfs_logstore.proofs.files.LogStoreFileStore.read.Goals as goal
 
 pub returns-clause-reads : goal.returns-clause-reads

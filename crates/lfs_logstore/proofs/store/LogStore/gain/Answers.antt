@@ -1,3 +1,6 @@
+use Rattle.std.proofs.Common.{subst, sym}
+use Rattle.lfs_found.specs.Written.{IsRecoverable}
+use Rattle.lfs_parts.specs.declared.parts.Parts.{Parts}
 use Rattle.lfs_logstore.proofs.RoomLemmas.{settled_room}
 use Rattle.lfs_logstore.proofs.store.LogStore.gain.Goals as goal
 
@@ -12,3 +15,14 @@ invariant_of-self-in-None c = (
   c.write_waiting.ensures.store,
   settled_room c.write_waiting.new.parts c.write_waiting.ensures.settled,
 )
+
+pub returns-in-Some-clause-whole : goal.returns-in-Some-clause-whole
+returns-in-Some-clause-whole c =
+    subst (λ (p : Parts). IsRecoverable p.log.memory → IsRecoverable c.reclaim.new.self.log.memory) c.self.view_is
+    (λ was. subst IsRecoverable (sym c.reclaim.ensures.memory)
+    (c.empty_segment.ensures.moved.whole (c.write_waiting.ensures.log.whole was)))
+
+pub returns-in-None-clause-whole : goal.returns-in-None-clause-whole
+returns-in-None-clause-whole c =
+    subst (λ (p : Parts). IsRecoverable p.log.memory → IsRecoverable c.write_waiting.new.parts.log.memory) c.self.view_is
+    c.write_waiting.ensures.log.whole

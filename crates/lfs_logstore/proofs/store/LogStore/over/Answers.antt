@@ -2,8 +2,8 @@ use Rattle.std.proofs.Common.{◌≡◌, ◌+◌, ℕ, List, length, inl, sym, a
 use Rattle.std.specs.Prelude.{◌≤◌, if◌then◌else◌, ◌==◌}
 use Rattle.lfs_inodes.specs.declared.inode.Inode.{Inode}
 use Rattle.lfs_segments.specs.Memory.{room_of}
-use Rattle.lfs_staging.specs.declared.parts.Parts.{Parts}
-use Rattle.lfs_staging.specs.Store.{IsSettled}
+use Rattle.lfs_parts.specs.declared.parts.Parts.{Parts}
+use Rattle.lfs_parts.specs.Store.{IsSettled}
 use Rattle.lfs_segwrite.specs.Applying.{waiting_blocks}
 use Rattle.lfs_segwrite.specs.Collecting.{entries_of}
 use Rattle.lfs_segwrite.proofs.CollectingLemmas.{entries_of-length}
