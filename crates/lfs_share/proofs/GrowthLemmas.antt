@@ -21,11 +21,11 @@ use Rattle.lfs_inodes.specs.Reading.{Fields}
 use Rattle.lfs_bmap.specs.Counting.{total}
 use Rattle.lfs_bmap.specs.Reading.{data_block}
 use Rattle.lfs_bmap.proofs.PieceLemmas.{file_bytes-length}
-use Rattle.lfs_staging.specs.declared.parts.Parts.{Parts}
-use Rattle.lfs_staging.specs.Files.{content_of, file_with}
-use Rattle.lfs_staging.specs.Store.{IsStore}
-use Rattle.lfs_staging.specs.View.{record_of, tree_of}
-use Rattle.lfs_staging.proofs.FileLemmas.{file_at-none, file_at-some, get-content_of}
+use Rattle.lfs_parts.specs.declared.parts.Parts.{Parts}
+use Rattle.lfs_parts.specs.Files.{content_of, file_with}
+use Rattle.lfs_parts.specs.Store.{IsStore}
+use Rattle.lfs_parts.specs.View.{record_of, tree_of}
+use Rattle.lfs_parts.proofs.FileLemmas.{file_at-none, file_at-some, get-content_of}
 use Rattle.lfs_logstore.specs.States.{state_of}
 use Rattle.lfs_segwrite.specs.Applying.{IsInReach}
 use Rattle.lfs_share.specs.Growing.{IsEven, growth_of, growth_of_all, growth_to}

@@ -3,3 +3,7 @@ pub mod LiveLemmas
 pub mod TakenLemmas
 pub mod ShareLemmas
 pub mod GrowthLemmas
+pub mod MarkLemmas
+pub mod OpeningLemmas
+pub mod WorldLemmas
+pub mod FullLemmas

@@ -27,9 +27,9 @@ use Rattle.lfs_bmap.proofs.CountingLemmas.{live-placed, placed-cases, weight-her
 use Rattle.lfs_log.specs.Infos.{block_infos, entry_infos, info_of, infos_from, infos_of, slot_info}
 use Rattle.lfs_log.specs.Parts.{live_of}
 use Rattle.lfs_log.proofs.ScanLemmas.{length-filter_map}
-use Rattle.lfs_staging.specs.declared.parts.Parts.{Parts}
-use Rattle.lfs_staging.specs.Keys.{log_state}
-use Rattle.lfs_staging.specs.Store.{IsStore}
+use Rattle.lfs_parts.specs.declared.parts.Parts.{Parts}
+use Rattle.lfs_parts.specs.Keys.{log_state}
+use Rattle.lfs_parts.specs.Store.{IsStore}
 use Rattle.lfs_segwrite.specs.Gaining.{live_infos, names_block}
 use Rattle.lfs_segwrite.specs.Marking.{IsNamed, code_named}
 use Rattle.lfs_segwrite.proofs.GainLemmas.{length_filter}

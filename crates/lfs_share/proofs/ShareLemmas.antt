@@ -12,8 +12,8 @@ use Rattle.lfs_segments.specs.Memory.{room_of}
 use Rattle.lfs_log.specs.Parts.{LogParts, live_of, state_of}
 use Rattle.lfs_bmap.specs.Counting.{total}
 use Rattle.lfs_bmap.specs.Log.{clean_unit}
-use Rattle.lfs_staging.specs.declared.parts.Parts.{Parts}
-use Rattle.lfs_staging.specs.Store.{IsSettled, IsStore}
+use Rattle.lfs_parts.specs.declared.parts.Parts.{Parts}
+use Rattle.lfs_parts.specs.Store.{IsSettled, IsStore}
 use Rattle.lfs_segwrite.specs.Applying.{WritesWaiting, waiting_blocks}
 use Rattle.lfs_segwrite.specs.Collecting.{entries_of}
 use Rattle.lfs_segwrite.proofs.CollectingLemmas.{entries_of-length}
@@ -24,9 +24,9 @@ use Rattle.lfs_share.proofs.LiveLemmas.{live_weighs}
 use Rattle.lfs_share.proofs.TakenLemmas.{live_few}
 use Rattle.lfs_logstore.specs.States as state
 use Rattle.lfs_logstore.proofs.RoomLemmas.{same_waiting}
-use Rattle.lfs_staging.specs.Filling.{SameButClean}
+use Rattle.lfs_parts.specs.Filling.{SameButClean}
 use Rattle.lfs_types.specs.StoreStates.{Shape}
-use Rattle.lfs_staging.specs.Files.{content_of}
+use Rattle.lfs_parts.specs.Files.{content_of}
 use Rattle.lfs_share.proofs.PassLemmas.{blocks_bound, widest_bound}
 
 pub worth : (p : Parts) (segment : ℕ) → IsStore p → segment < p.log.memory.segments

@@ -20,13 +20,13 @@ use Rattle.lfs_bmap.specs.Ways.{way_of}
 use Rattle.lfs_bmap.proofs.CountingLemmas.{total-same, total-zero, weight-elsewhere, weight-here, weight-none}
 use Rattle.lfs_bmap.proofs.PieceLemmas.{file_bytes-length}
 use Rattle.lfs_bmap.proofs.WayLemmas.{way_of-code_of}
-use Rattle.lfs_staging.specs.declared.parts.Parts.{Parts}
-use Rattle.lfs_staging.specs.Files.{content_of, file_with}
-use Rattle.lfs_staging.specs.Keys.{log_state}
-use Rattle.lfs_staging.specs.Store.{IsFile, IsStore}
-use Rattle.lfs_staging.specs.View.{record_of, tree_of}
-use Rattle.lfs_staging.proofs.FileLemmas.{file_at-some, free_place, get-content_of}
-use Rattle.lfs_staging.proofs.KeyLemmas.{place-block, unused_nowhere}
+use Rattle.lfs_parts.specs.declared.parts.Parts.{Parts}
+use Rattle.lfs_parts.specs.Files.{content_of, file_with}
+use Rattle.lfs_parts.specs.Keys.{log_state}
+use Rattle.lfs_parts.specs.Store.{IsFile, IsStore}
+use Rattle.lfs_parts.specs.View.{record_of, tree_of}
+use Rattle.lfs_parts.proofs.FileLemmas.{file_at-some, free_place, get-content_of}
+use Rattle.lfs_parts.proofs.KeyLemmas.{place-block, unused_nowhere}
 use Rattle.lfs_segwrite.proofs.GainLemmas.{total_more}
 use Rattle.lfs_share.specs.Share.{live_total, taken, tables_of, units_of_file, units_of_length}
 

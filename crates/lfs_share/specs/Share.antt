@@ -10,7 +10,7 @@ use Rattle.lfs_segments.specs.Memory.{room_of}
 use Rattle.lfs_log.specs.Parts.{live_of}
 use Rattle.lfs_bmap.specs.Counting.{total}
 use Rattle.lfs_bmap.specs.declared.blocks.TheConstants.{DIRECT_BLOCKS, TABLE_CELLS}
-use Rattle.lfs_staging.specs.declared.parts.Parts.{Parts}
+use Rattle.lfs_parts.specs.declared.parts.Parts.{Parts}
 use Rattle.lfs_segwrite.specs.Applying.{waiting_blocks}
 use Rattle.lfs_share.specs.declared.taking.TheConstants.{LOW_UNITS}
 

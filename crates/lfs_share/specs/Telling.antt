@@ -5,7 +5,7 @@ use Rattle.lfs_types.specs.declared.store.Reserve.{Reserve}
 use Rattle.lfs_ifile.specs.declared.segment.SegState.TheVariants.{Dirty}
 use Rattle.lfs_segments.specs.Memory.{room_of}
 use Rattle.lfs_log.specs.Parts.{state_of}
-use Rattle.lfs_staging.specs.declared.parts.Parts.{Parts}
+use Rattle.lfs_parts.specs.declared.parts.Parts.{Parts}
 use Rattle.lfs_segwrite.specs.Applying.{needs_of, spare_of, waiting_blocks}
 use Rattle.lfs_segwrite.specs.Gaining.{pass_blocks, widest}
 use Rattle.lfs_segwrite.specs.Giving.{LeavesFinishable}

@@ -1,8 +1,11 @@
 //! A log store that always comes back: where its files take no more than a share of the volume, cleaning makes room again.
 #![tactic(auto)]
 
+mod cleaning;
+mod files;
 mod growing;
 mod restoring;
+mod showing;
 mod store;
 mod taking;
 mod telling;

@@ -2,7 +2,7 @@
 
 ghost use Rattle.std.specs.Prelude.{◌≡◌, ◌≤◌, OnErr, OnOk};
 ghost use Rattle.lfs_segwrite.specs.Applying.{WritesWaiting};
-ghost use Rattle.lfs_staging.specs.Store.{IsSettled};
+ghost use Rattle.lfs_parts.specs.Store.{IsSettled};
 ghost use Rattle.lfs_logstore.specs.States.{state_of};
 ghost use Rattle.lfs_share.specs.Share.{IsWithinShare, KeepsOne, LacksShare};
 

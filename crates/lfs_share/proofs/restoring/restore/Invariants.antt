@@ -1,6 +1,6 @@
 use Rattle.std.proofs.Common.{◌≡◌, ◌+◌, ◌-◌, ◌*◌, ◌<◌}
 use Rattle.lfs_segwrite.specs.Gaining.{space}
-use Rattle.lfs_staging.specs.Store.{IsSettled}
+use Rattle.lfs_parts.specs.Store.{IsSettled}
 use Rattle.lfs_logstore.specs.States.{state_of}
 use Rattle.lfs_share.specs.Share.{KeepsOne}
 use Rattle.lfs_share.proofs.restoring.restore.Given as goal

@@ -1,11 +1,13 @@
-use Rattle.std.proofs.Common.{◌+◌, ◌≤◌, All, subst, sym, arith}
-use Rattle.lfs_staging.specs.declared.parts.Parts.{Parts}
+use Rattle.std.proofs.Common.{◌+◌, ◌≤◌, All, Result, Ok, subst, sym, arith}
+use Rattle.lfs_types.specs.declared.store.StoreRefusal.{StoreRefusal}
+use Rattle.lfs_parts.specs.declared.parts.Parts.{Parts}
+use Rattle.lfs_share.specs.Answering.{ComesTo}
 use Rattle.lfs_share.specs.Growing.{IsEven}
 use Rattle.lfs_logstore.specs.States.{state_of}
 use Rattle.lfs_segwrite.proofs.BoundLemmas.{all_in_reach}
 use Rattle.lfs_share.proofs.GrowthLemmas.{even_growth, grown_share, growth_most}
 use Rattle.lfs_share.specs.Share.{share_of, taken}
-use Rattle.lfs_share.proofs.store.SharedStore.apply.Goals as goal
+use Rattle.lfs_share.proofs.files.SharedStoreFileStore.apply.Goals as goal
 
 pub growth_of_all-growth-requires-clause-reach : goal.growth_of_all-growth-requires-clause-reach
 growth_of_all-growth-requires-clause-reach c =
@@ -40,6 +42,26 @@ invariant_of-self-2 c = (c.apply_behind.ensures.kept, (held c).0, (held c).1)
 
 pub returns-clause-within : goal.returns-clause-within
 returns-clause-within c = omega (arith, (held c).0, (held c).1)
+
+pub returns-clause-made : goal.returns-clause-made
+returns-clause-made c =
+    let result : Result (Unit {0}) StoreRefusal = Ok tt in
+    let few = c.may_grow.ensures.least in
+    let may = c.may_grow.ensures.may c.if-not-may_grow.false in
+    let growth = c.growth_of_all-growth.ensures in
+    let both = held c in
+    subst (λ (p : Parts). ComesTo p c.args.changes.now c.args.by result c.apply_behind.new.store) c.self.view_is (record {
+      makes = record {
+        between = c.make_way.new.store;
+        room = c.make_way.ensures;
+        makes = c.apply_behind.ensures.makes;
+      };
+      fits = λ passes. let past = passes.past in omega (arith, past, few, may, growth);
+      refused = tt;
+      past = tt;
+      cause = tt;
+      within = omega (arith, both.0, both.1);
+    })
 
 pub returns-then-not-may_grow-clause-even : goal.returns-then-not-may_grow-clause-even
 returns-then-not-may_grow-clause-even c even =

@@ -3,7 +3,7 @@ use Rattle.lfs_types.specs.StoreStates.{StoreState}
 use Rattle.lfs_logstore.proofs.RoomLemmas.{same_state}
 use Rattle.lfs_share.proofs.GrowthLemmas.{same_share}
 use Rattle.lfs_share.proofs.ShareLemmas.{kept_read}
-use Rattle.lfs_share.proofs.store.SharedStore.read.Goals as goal
+use Rattle.lfs_share.proofs.files.SharedStoreFileStore.read.Goals as goal
 
 pub invariant_of-self : goal.invariant_of-self
 invariant_of-self c =
