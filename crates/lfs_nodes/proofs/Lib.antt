@@ -6,6 +6,7 @@ pub mod MovedLemmas
 pub mod NamesLemmas
 pub mod NodesLemmas
 pub mod PlaceLemmas
+pub mod StayingLemmas
 pub mod TableLemmas
 pub mod WayLemmas
 pub mod WholeLemmas

@@ -1,10 +1,12 @@
 pub mod Borrowed
 pub mod Changes
 pub mod Holds
+pub mod LookUps
 pub mod Maps
 pub mod Moves
 pub mod Nodes
 pub mod Places
 pub mod Reads
+pub mod Staying
 pub mod Ways
 pub mod Whole

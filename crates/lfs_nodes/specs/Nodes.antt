@@ -6,7 +6,7 @@ use Rattle.lfs_nodes.specs.declared.node.Hang.{Hang}
 use Rattle.lfs_nodes.specs.declared.node.Hang.TheVariants.{Root, At, Gone}
 use Rattle.lfs_nodes.specs.declared.node.Node.{Node}
 use Rattle.lfs_nodes.specs.declared.parts.Parts.{Parts}
-use Rattle.lfs_nodes.specs.Maps.{node_at, id_at}
+use Rattle.lfs_nodes.specs.Maps.{node_at, id_at, same_place}
 use Rattle.lfs_nodes.specs.Reads.{hang_in, number_in}
 use Rattle.lfs_nodes.specs.Places.{place_of}
 use Rattle.lfs_model.specs.World.{Rows, IsChild}
@@ -22,6 +22,11 @@ shown n = record n { children = 0 }
 -- the node of an id, as callers see it
 abbrev pub known : Parts → ℕ → Option Node
 known parts id = option_map shown (node_at parts.table id)
+
+-- whether what hangs so hangs at a place
+abbrev pub is_at : Place → Option Hang → Bool
+is_at place (Some (At own)) = same_place own place
+is_at place hang = false
 
 abbrev pub is_live : Hang → Bool
 is_live Root = true

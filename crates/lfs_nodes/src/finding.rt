@@ -1,17 +1,20 @@
 //! Look-ups.
 
-ghost use Rattle.std.specs.Prelude.{◌≡◌, ◌≢◌, ℕ, ◌+◌, ◌<◌, Some, None, true, false, IsSome, IfOk, OnOk, OnErr, IfSome, IfNone};
+ghost use Rattle.std.specs.Prelude.{◌≡◌, ◌≢◌, ℕ, ◌+◌, ◌<◌, Some, None, true, false, IsSome, IfErr, IfOk, OnOk, OnErr, IfSome, IfNone};
 ghost use Rattle.lfs_types.specs.Tree.{Row};
 ghost use Rattle.lfs_model.specs.World.{Rows, IsChild, IsTree};
 ghost use Rattle.lfs_nodes.specs.declared.place.Place.{Place};
 ghost use Rattle.lfs_nodes.specs.declared.node.Hang.TheVariants.{At};
+ghost use Rattle.lfs_nodes.specs.LookUps.{IsLookUpFault, IsLookedUp};
 ghost use Rattle.lfs_nodes.specs.Maps.{node_at, id_at, room_in, spare_in, changed_at};
+ghost use Rattle.lfs_nodes.specs.Moves.{gone_at};
 ghost use Rattle.lfs_nodes.specs.Changes.{one_look_up_more, forgotten, one_handle_more, one_handle_fewer};
 ghost use Rattle.lfs_nodes.specs.Holds.{fresh, is_known_held};
 ghost use Rattle.lfs_nodes.specs.Reads.{children_in};
 ghost use Rattle.lfs_nodes.specs.declared.node.Node.{Node};
 ghost use Rattle.lfs_nodes.specs.Whole.{IsWhole};
 ghost use Rattle.lfs_nodes.specs.Nodes.{known, live_row, IsKnownAs, AreNodes};
+ghost use Rattle.lfs_nodes.specs.Staying.{IdsStay};
 
 use crate::fault::LookUpFault;
 use crate::parts::Parts;
@@ -39,6 +42,7 @@ impl Parts {
         ensures next { self.new.next ≡ self.old.next }
         ensures room { OnOk result (0 < room_in self.new.index) }
         ensures spare { OnOk result (0 < spare_in self.new.table) }
+        ensures ids { IdsStay self.old self.new }
     {
         self.index.reserve()?;
         self.table.reserve()
@@ -57,8 +61,9 @@ impl Parts {
         ensures id { result ≡ self.old.next }
         ensures next { self.new.next ≡ self.old.next + 1 }
         ensures there { known self.new result ≡ Some (fresh (At place) row) }
-        ensures others { id_at self.old.index place ≡ None → (q : ℕ) → q ≢ result
-            → known self.new q ≡ known self.old q }
+        ensures others { (q : ℕ) → q ≢ result
+            → known self.new q ≡ gone_at (id_at self.old.index place) (known self.old) q }
+        ensures ids { IdsStay self.old self.new }
     {
         let _ = self.unhang(&place);
         let id = self.add(row);
@@ -73,6 +78,7 @@ impl Parts {
         ensures changed { (q : ℕ)
             → known self.new q ≡ changed_at id one_look_up_more (known self.old) q }
         ensures next { self.new.next ≡ self.old.next }
+        ensures ids { IdsStay self.old self.new }
     {
         if let Some(node) = self.table.get(id) {
             let look_ups = node.look_ups.saturating_add(1);
@@ -91,7 +97,10 @@ impl Parts {
             × (known self.new id ≡ Some (fresh (At place) row))) }
         ensures others { id_at self.old.index place ≡ None
             → IfOk result (λ id. (q : ℕ) → q ≢ id → known self.new q ≡ known self.old q) }
+        ensures found { IfOk result (λ id. IsLookedUp self.old place row id self.new) }
+        ensures fault { IfErr result (IsLookUpFault self.old place.parent) }
         ensures failed { OnErr result ((q : ℕ) → known self.new q ≡ known self.old q) }
+        ensures ids { IdsStay self.old self.new }
     {
         if let Some(id) = self.known_as(&place, row) {
             self.count(id);
@@ -125,6 +134,7 @@ impl Parts {
         ensures nodes { (rows : Rows) → AreNodes rows (known self.old)
             → AreNodes rows (known self.new) }
         ensures next { self.new.next ≡ self.old.next }
+        ensures ids { IdsStay self.old self.new }
     {
         if let Some(node) = self.table.get(id) {
             let look_ups = node.look_ups.saturating_sub(count);
@@ -142,6 +152,7 @@ impl Parts {
         ensures nodes { (rows : Rows) → AreNodes rows (known self.old)
             → AreNodes rows (known self.new) }
         ensures next { self.new.next ≡ self.old.next }
+        ensures ids { IdsStay self.old self.new }
     {
         if let Some(node) = self.table.get(id) {
             let handles = node.handles.saturating_add(1);
@@ -166,6 +177,7 @@ impl Parts {
         ensures nodes { (rows : Rows) → AreNodes rows (known self.old)
             → AreNodes rows (known self.new) }
         ensures next { self.new.next ≡ self.old.next }
+        ensures ids { IdsStay self.old self.new }
     {
         if let Some(node) = self.table.get(id) {
             let handles = node.handles.saturating_sub(1);

@@ -5,6 +5,7 @@ ghost use Rattle.lfs_nodes.specs.Maps.{node_at, id_at, room_in};
 ghost use Rattle.lfs_nodes.specs.Whole.{IsWhole};
 ghost use Rattle.lfs_nodes.specs.Nodes.{known};
 ghost use Rattle.lfs_nodes.specs.Moves.{moved_at};
+ghost use Rattle.lfs_nodes.specs.Staying.{IdsStay};
 
 use crate::parts::Parts;
 use crate::place::Place;
@@ -22,6 +23,7 @@ impl Parts {
             → known self.new q ≡ moved_at (id_at self.old.index from.now)
             (id_at self.old.index to) to (known self.old) q }
         ensures next { self.new.next ≡ self.old.next }
+        ensures ids { IdsStay self.old self.new }
     {
         if *from == to {
             return;

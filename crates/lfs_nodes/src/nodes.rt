@@ -1,11 +1,12 @@
 //! The nodes of a mount.
 
-ghost use Rattle.std.specs.Prelude.{◌≡◌, ◌≢◌, ℕ, ◌+◌, ◌-◌, ◌≤◌, List, [], Some, None, true, false, Option, IfOk, OnOk, OnErr, ◌<◌, length, IsTrue, IsSome, ◌↔◌};
+ghost use Rattle.std.specs.Prelude.{◌≡◌, ◌≢◌, ℕ, ◌+◌, ◌-◌, ◌≤◌, List, [], Some, None, true, false, Option, IfErr, IfOk, OnOk, OnErr, ◌<◌, length, IsTrue, IsSome, ◌↔◌};
 ghost use Rattle.std.specs.FinMap as map;
 ghost use Rattle.lfs_model.specs.World.{Rows, IsChild, IsTree, child, children};
 ghost use Rattle.lfs_model.specs.Effects.{after_rename};
 ghost use Rattle.lfs_nodes.specs.declared.node.Hang.TheVariants.{At, Gone};
 ghost use Rattle.lfs_nodes.specs.declared.node.Node.{Node};
+ghost use Rattle.lfs_nodes.specs.LookUps.{IsLookUpFault, IsLookedUp};
 ghost use Rattle.lfs_nodes.specs.Maps.{node_at, id_at, room_in, changed_at};
 ghost use Rattle.lfs_nodes.specs.declared.place.Place.{Place};
 ghost use Rattle.lfs_nodes.specs.Changes.{hung, one_look_up_more, counted, forgotten, one_handle_more, one_handle_fewer};
@@ -16,7 +17,8 @@ ghost use Rattle.lfs_types.specs.Paths.{items_of};
 ghost use Rattle.lfs_types.specs.Tree.{World, root as root_row};
 ghost use Rattle.lfs_nodes.specs.Ways.{NamesDown};
 ghost use Rattle.lfs_nodes.specs.Moves.{moved_at};
-ghost use Rattle.lfs_nodes.specs.Nodes.{place_at, known, live_row, IsKnownAs, AreNodes};
+ghost use Rattle.lfs_nodes.specs.Nodes.{place_at, known, live_row, is_at, IsKnownAs, AreNodes};
+ghost use Rattle.lfs_nodes.specs.Staying.{IdsStay};
 
 use crate::fault::{LookUpFault, PathFault};
 use crate::index::Index;
@@ -72,7 +74,11 @@ impl Nodes {
             → AreNodes rows (known self.new) }
         ensures others { id_at self.old.index (place_at parent.0 name) ≡ None
             → IfOk result (λ id. (q : ℕ) → q ≢ id.0 → known self.new q ≡ known self.old q) }
+        ensures found { IfOk result (λ id.
+            IsLookedUp self.old (place_at parent.0 name) row id.0 self.new) }
+        ensures fault { IfErr result (IsLookUpFault self.old parent.0) }
         ensures failed { OnErr result ((q : ℕ) → known self.new q ≡ known self.old q) }
+        ensures ids { IdsStay self.old self.new }
     {
         let place = Place {
             parent: parent.0,
@@ -99,6 +105,7 @@ impl Nodes {
         ensures nodes { (rows : Rows) → AreNodes rows (known self.old)
             → AreNodes rows (known self.new) }
         ensures next { self.new.next ≡ self.old.next }
+        ensures ids { IdsStay self.old self.new }
     {
         self.parts.forget(node.0, count);
     }
@@ -113,6 +120,7 @@ impl Nodes {
             → live_row (known self.old parent.0) ≡ Some p → IsChild rows p name n
             → children rows n ≡ [] → AreNodes (map.remove rows n) (known self.new) }
         ensures next { self.new.next ≡ self.old.next }
+        ensures ids { IdsStay self.old self.new }
     {
         let place = Place {
             parent: parent.0,
@@ -145,6 +153,7 @@ impl Nodes {
         ensures nodes { (rows : Rows) → AreNodes rows (known self.old)
             → AreNodes rows (known self.new) }
         ensures next { self.new.next ≡ self.old.next }
+        ensures ids { IdsStay self.old self.new }
     {
         self.parts.open(node.0);
     }
@@ -164,6 +173,7 @@ impl Nodes {
         ensures nodes { (rows : Rows) → AreNodes rows (known self.old)
             → AreNodes rows (known self.new) }
         ensures next { self.new.next ≡ self.old.next }
+        ensures ids { IdsStay self.old self.new }
     {
         self.parts.close(node.0);
     }
@@ -184,6 +194,19 @@ impl Nodes {
     {
         match self.parts.table.get(node.0) {
             Some(node) => matches!(&node.hang, Hang::Gone),
+            None => false,
+        }
+    }
+
+    /// Whether a node hangs at this name in the directory of another.
+    pub fn is_at(&self, node: NodeId, parent: NodeId, name: &[u8]) -> bool
+        ensures { result ≡ is_at (place_at parent.0 name.now) (hang_in (known self.now node.0)) }
+    {
+        match self.parts.table.get(node.0) {
+            Some(node) => match &node.hang {
+                Hang::At(place) => place.parent == parent.0 && place.name.as_bytes() == name,
+                _ => false,
+            },
             None => false,
         }
     }
@@ -210,6 +233,7 @@ impl Nodes {
         ensures index { (q : Place) → id_at self.new.index q ≡ id_at self.old.index q }
         ensures next { self.new.next ≡ self.old.next }
         ensures room { OnOk result (0 < room_in self.new.index) }
+        ensures ids { IdsStay self.old self.new }
     {
         self.parts.make_room()
     }
@@ -234,6 +258,7 @@ impl Nodes {
             → AreNodes (after_rename w n (child w.rows t new_name) t new_name).rows
             (known self.new) }
         ensures next { self.new.next ≡ self.old.next }
+        ensures ids { IdsStay self.old self.new }
     {
         let old = Place {
             parent: from.0,
