@@ -1,10 +1,11 @@
 //! The paths of nodes, and of names in them.
 
-ghost use Rattle.std.specs.Prelude.{◌≡◌, IfOk, option_copied};
+ghost use Rattle.std.specs.Prelude.{◌≡◌, IfErr, IfOk, Some, option_copied};
+ghost use Rattle.lfs_nodes.specs.declared.node.Hang.TheVariants.{Gone};
 ghost use Rattle.lfs_nodes.specs.Maps.{node_at};
 ghost use Rattle.lfs_nodes.specs.Nodes.{known};
 ghost use Rattle.lfs_nodes.specs.Reads.{hang_in};
-ghost use Rattle.lfs_fuse_calls.specs.Paths.{IsPathOf, LeadsToRow};
+ghost use Rattle.lfs_fuse_calls.specs.Paths.{IsPathError, IsPathOf, IsStale, LeadsToRow};
 
 use lfs_fuse_reply::errno::Errno;
 use lfs_nodes::{NodeId, Nodes, PathFault};
@@ -13,7 +14,11 @@ use lfs_types::path::Path;
 use std::alloc::Global;
 
 /// The error of a node that has no path: it is gone, or the path is too long.
-fn error_of_node(fault: PathFault) -> Errno {
+fn error_of_node(fault: PathFault) -> Errno
+    ensures error { IsPathError result }
+    ensures stale { fault ≡ PathFault.Stale → result ≡ Errno.ESTALE }
+    ensures memory { fault ≡ PathFault.Memory → result ≡ Errno.ENOMEM }
+{
     match fault {
         PathFault::Unknown | PathFault::Stale => Errno::ESTALE,
         PathFault::Long => Errno::ENAMETOOLONG,
@@ -23,7 +28,9 @@ fn error_of_node(fault: PathFault) -> Errno {
 }
 
 /// The error of bytes that are no name.
-fn error_of_name(fault: BadName) -> Errno {
+fn error_of_name(fault: BadName) -> Errno
+    ensures { IsPathError result }
+{
     match fault {
         BadName::Empty => Errno::ENOENT,
         BadName::Long => Errno::ENAMETOOLONG,
@@ -34,7 +41,8 @@ fn error_of_name(fault: BadName) -> Errno {
 
 /// The name that these bytes are.
 pub fn name_of(alloc: Global, bytes: &[u8]) -> Result<Name, Errno>
-    ensures { IfOk result (λ name. name ≡ bytes.now) }
+    ensures name { IfOk result (λ name. name ≡ bytes.now) }
+    ensures error { IfErr result IsPathError }
 {
     match Name::parse(alloc, bytes) {
         Ok(name) => Ok(name),
@@ -42,6 +50,7 @@ pub fn name_of(alloc: Global, bytes: &[u8]) -> Result<Name, Errno>
     }
 }
 
+#[tactic(auto, using(crate::proofs::PathLemmas::gone_names))]
 /// The names from the root to a node, and then a name in it, if one is asked for.
 fn names_of(
     alloc: Global,
@@ -53,6 +62,8 @@ fn names_of(
         (option_copied name.entry) names.items) }
     ensures row { IfOk result (λ names. LeadsToRow (known nodes.now) node
         (option_copied name.entry) names.items) }
+    ensures error { IfErr result IsPathError }
+    ensures gone { hang_in (node_at nodes.now.table node) ≡ Some Gone → IsStale result }
 {
     let mut names = match nodes.names(alloc, NodeId(node)) {
         Ok(names) => names,
@@ -73,6 +84,8 @@ pub fn path_of(alloc: Global, nodes: &Nodes, node: u64, name: Option<&[u8]>) -> 
         (option_copied name.entry) path) }
     ensures row { IfOk result (λ path. LeadsToRow (known nodes.now) node
         (option_copied name.entry) path) }
+    ensures error { IfErr result IsPathError }
+    ensures gone { hang_in (node_at nodes.now.table node) ≡ Some Gone → IsStale result }
 {
     match Path::from_names(names_of(alloc, nodes, node, name)?) {
         Some(path) => Ok(path),
