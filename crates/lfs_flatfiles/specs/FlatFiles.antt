@@ -1,5 +1,5 @@
 -- The plain store: a list of places, one for each inode number, seen as a finite map.
-use Rattle.std.specs.Prelude.{ℕ, true, zero, suc, ◌+◌, ◌<◌, ◌≤◌, List, [], ◌∷◌, length, Option, None, IsSome}
+use Rattle.std.specs.Prelude.{ℕ, true, false, zero, suc, ◌+◌, ◌<◌, ◌≤◌, List, [], ◌∷◌, length, Option, None, IsSome}
 use Rattle.std.specs.Prelude.{option_map}
 use Rattle.std.specs.FinMap as map
 use Rattle.lfs_types.specs.Tree.{File, Content, content_with, file_of, opening_content}
@@ -27,7 +27,7 @@ content_of ps = content_from 0 ps
 
 -- the shape of a store of so many places, which has as many segments as a volume may have; its changes take memory
 abbrev pub shape_of : ℕ → Shape
-shape_of numbers = record { numbers = numbers; segments = most_segments; can_lack_memory = true }
+shape_of numbers = record { numbers = numbers; segments = most_segments; can_lack_memory = true; has_share = false }
 
 -- a store of so many places, all of whose segments are clean
 abbrev pub state_of : ℕ → List Place → StoreState
