@@ -5,8 +5,7 @@
 -- it was is read off the request (`looks_same`), so a new request needs its line there.
 use Rattle.std.proofs.Common.{◌≡◌, None, Some, Ok, Err, inl, sym, subst, ◌∙◌}
 use Rattle.lfs_types.specs.Caller.{Caller}
-use Rattle.lfs_types.specs.StoreStates.{Follows, StoreState}
-use Rattle.lfs_types.specs.Stored.{MayRefuse}
+use Rattle.lfs_types.specs.StoreStates.{Follows, StoreState, MayRefuse}
 use Rattle.lfs_types.specs.Tree.{Content, World}
 use Rattle.lfs_types.specs.declared.answer.Answer.TheVariants as answers
 use Rattle.lfs_types.specs.declared.answer.Resource.{Resource}
@@ -123,7 +122,7 @@ module _ (level : Level) {s : StoreState} {caller : Caller} {request : Request} 
     follows = follows_itself same;
   }
 
-  refused_as : (refusal : StoreRefusal) → MayRefuse s.clean s.shape.can_lack_memory refusal → IsChanging request
+  refused_as : (refusal : StoreRefusal) → MayRefuse s refusal → IsChanging request
       → (w : World) → IsToServe s caller request w
       → IsOutcome s w caller request (answers.Refused (resource_of refusal))
   refused_as NoSpace may changing w serve = ((serve.allowed, (serve.numbered, changing)), serve.roomy, may)
@@ -152,7 +151,7 @@ module _ (level : Level) {s : StoreState} {caller : Caller} {request : Request} 
       → InWorld s (λ w. w.level ≡ level → IsToServe s caller request w)
       → ChangesTo mid P (Err refusal) new → IsCallAt level s new caller request (Err (Refused (resource_of refusal)))
   refused same refusal changing serve change =
-      let may = subst (λ (x : StoreState). MayRefuse x.clean x.shape.can_lack_memory refusal) same change.refused in
+      let may = subst (λ (x : StoreState). MayRefuse x refusal) same change.refused in
       refused_so same refusal changing (λ w v at. refused_as refusal may changing w (serve w v at)) change
 
   -- a call that changes nothing and shows something

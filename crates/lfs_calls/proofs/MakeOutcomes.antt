@@ -4,8 +4,8 @@
 -- store; a third kind of file needs a line in each.
 use Rattle.std.proofs.Common.{◌≡◌, ℕ, ◌≤◌, List, length, None, Some, refl}
 use Rattle.lfs_types.specs.Caller.{Caller}
-use Rattle.lfs_types.specs.Stored.{bytes_of, MayRefuse}
-use Rattle.lfs_types.specs.StoreStates.{StoreState}
+use Rattle.lfs_types.specs.Stored.{bytes_of}
+use Rattle.lfs_types.specs.StoreStates.{StoreState, MayRefuse}
 use Rattle.lfs_types.specs.Tree.{World, Content, root}
 use Rattle.lfs_types.specs.declared.answer.Answer.{Answer}
 use Rattle.lfs_types.specs.declared.answer.Answer.TheVariants.{Served, Denied, Refused}
@@ -81,7 +81,7 @@ module _ (s : StoreState) (w : World) (caller : Caller) (path : List (List ℕ))
         make_done Directory = ((allowed, numbered, refl), roomy)
 
         -- a call whose changes the store refused
-        pub make_refused : (kind : Kind) (refusal : StoreRefusal) → MayRefuse s.clean s.shape.can_lack_memory refusal
+        pub make_refused : (kind : Kind) (refusal : StoreRefusal) → MayRefuse s refusal
             → may_be kind (Refused (resource_of refusal))
         make_refused Regular refusal may = refused_outcome s w caller
             (request_for Regular path mode) refusal may allowed numbered tt roomy

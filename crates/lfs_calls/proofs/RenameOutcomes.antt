@@ -6,7 +6,7 @@
 use Rattle.std.proofs.Common.{◌≡◌, ◌≢◌, ℕ, ◌≤◌, ◌==◌, Bool, true, false, List, length, Option, None, Some, Result, Ok}
 use Rattle.std.proofs.Common.{Err, inl, refl, sym, ap, subst, ◌∙◌, arith, eq-eqb, ne_eqb}
 use Rattle.lfs_types.specs.Caller.{Caller}
-use Rattle.lfs_types.specs.StoreStates.{Follows, StoreState}
+use Rattle.lfs_types.specs.StoreStates.{Follows, StoreState, MayRefuse}
 use Rattle.lfs_types.specs.Tree.{Content, World, root}
 use Rattle.lfs_types.specs.declared.answer.Answer.TheVariants as answers
 use Rattle.lfs_types.specs.declared.answer.Resource.TheVariants as resources
@@ -26,7 +26,6 @@ use Rattle.lfs_model.proofs.Allowed.{may_go}
 use Rattle.lfs_model.proofs.Children.{child-answer}
 use Rattle.lfs_model.proofs.Deciding.{passes-append}
 use Rattle.lfs_model.proofs.EffectTree.{childless, effect_tree}
-use Rattle.lfs_types.specs.Stored.{MayRefuse}
 use Rattle.lfs_types.specs.declared.store.StoreRefusal.{StoreRefusal}
 use Rattle.lfs_types.specs.declared.store.StoreRefusal.TheVariants.{NoSpace, NoMemory}
 use Rattle.lfs_calls.specs.Calls.{OnUnasked, answered, resource_of}
@@ -45,7 +44,7 @@ use Rattle.lfs_calls.proofs.StateLemmas.{follows_itself, same_content}
 
 -- a store's refusal has its cause, where there is room
 pub refused_for : (s : StoreState) (full : Type 0) (refusal : StoreRefusal)
-    → MayRefuse s.clean s.shape.can_lack_memory refusal → (full → ⊥)
+    → MayRefuse s refusal → (full → ⊥)
     → IsCauseOf s full (reasons.Refused (resource_of refusal))
 refused_for s full NoSpace may room = (may, room)
 refused_for s full NoMemory may room = (may, room)
@@ -259,6 +258,6 @@ pub placed_at : (s : StoreState) (move : Move) (old new : List ℕ) (t : Target)
     → PlacedAt s.content move old new t c → PlacesRow s move old new t (Ok tt) (record s { content = c })
 placed_at s move old new targets.Itself c h = (refl, ap (λ (x : Content). record s { content = x }) h)
 placed_at s move old new targets.Free c h =
-    record { ok = h; err = tt; refused = tt; roomless = tt; follows = record { clean = omega arith; shape = refl } }
+    record { ok = h; err = tt; refused = tt; roomless = tt; follows = record { clean = λ none. omega arith; shape = refl } }
 placed_at s move old new (targets.Taken there) c h =
-    record { ok = h; err = tt; refused = tt; roomless = tt; follows = record { clean = omega arith; shape = refl } }
+    record { ok = h; err = tt; refused = tt; roomless = tt; follows = record { clean = λ none. omega arith; shape = refl } }

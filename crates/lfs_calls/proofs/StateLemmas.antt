@@ -15,4 +15,4 @@ follows_same {new = new} e f = subst (λ (x : StoreState). Follows x new) e f
 -- a state follows itself
 pub follows_itself : {s new : StoreState} → new ≡ s → Follows s new
 follows_itself {s} {new} e = subst (λ (x : StoreState). Follows s x) (sym e)
-    (record { clean = omega arith; shape = refl })
+    (record { clean = λ none. omega arith; shape = refl })

@@ -11,8 +11,8 @@ use Rattle.lfs_types.specs.Caller.{Caller}
 use Rattle.lfs_types.specs.Changes.{CanApply, IsLength}
 use Rattle.lfs_types.specs.Kinds.{is_directory_kind}
 use Rattle.lfs_types.specs.Splicing.{splice}
-use Rattle.lfs_types.specs.StoreStates.{StoreState}
-use Rattle.lfs_types.specs.Stored.{shown_attrs, MayRefuse}
+use Rattle.lfs_types.specs.StoreStates.{StoreState, MayRefuse}
+use Rattle.lfs_types.specs.Stored.{shown_attrs}
 use Rattle.lfs_types.specs.Tree.{World, Content, root}
 use Rattle.lfs_types.specs.declared.attrs.Attrs.{Attrs}
 use Rattle.lfs_types.specs.declared.request.Place.{Place}
@@ -120,7 +120,7 @@ write_nothing w caller path place (b ∷ bs) none = let some = eqb-true (length 
 
 -- what a call lacks whose changes the store refused
 pub refused_outcome : (s : StoreState) (w : World) (caller : Caller) (request : Request) (refusal : StoreRefusal)
-    → MayRefuse s.clean s.shape.can_lack_memory refusal → decide w caller request ≡ None
+    → MayRefuse s refusal → decide w caller request ≡ None
     → (LacksInodes s.shape.numbers w request → ⊥) → IsChanging request → (FillsDirectory s.content w request → ⊥)
     → IsOutcome s w caller request (Refused (resource_of refusal))
 refused_outcome s w caller request NoSpace may allowed numbered changing roomy =

@@ -2,8 +2,7 @@
 use Rattle.std.specs.Prelude.{◌≡◌, Result, Ok, Err, IfErr, OnOk, OnErr}
 use Rattle.lfs_types.specs.Caller.{Caller}
 use Rattle.lfs_types.specs.Shown.{ServesList}
-use Rattle.lfs_types.specs.StoreStates.{Follows, StoreState}
-use Rattle.lfs_types.specs.Stored.{MayRefuse}
+use Rattle.lfs_types.specs.StoreStates.{Follows, StoreState, MayRefuse}
 use Rattle.lfs_types.specs.Tree.{Content}
 use Rattle.lfs_types.specs.declared.answer.Answer.{Answer}
 use Rattle.lfs_types.specs.declared.answer.Answer.TheVariants as answers
@@ -38,7 +37,7 @@ pub record ChangesTo (old : StoreState) (P : Content → Type 0) (result : Resul
     (new : StoreState) : Type 0 where
   pub ok : OnOk result (P new.content)
   pub err : OnErr result (new.content ≡ old.content)
-  pub refused : IfErr result (MayRefuse old.clean old.shape.can_lack_memory)
+  pub refused : IfErr result (MayRefuse old)
   pub follows : Follows old new
 
 -- what a call leaves that only looks, or that sets the level: the state as it was; and of a Sync the content
@@ -64,7 +63,7 @@ OnUnasked (answers.Refused resources.JournalFull) P = P
 -- A caller made a call of a store at this securelevel, and it came to this: the answer has its cause, the store shows
 -- the world that the answer leaves, a served call leaves the entries of directories in their places, a call that halts
 -- or lists changes no content, one that looks, that a rule denies or that wants a number or room for a name leaves the
--- whole state as it was, and no more segments are clean.
+-- whole state as it was, and the state that is left is a later one (`Follows`).
 pub record IsCallAt (level : Level) (old new : StoreState) (caller : Caller) (request : Request)
     (result : Result Served NotServed) : Type 0 where
   pub outcome : InWorld old (λ w. w.level ≡ level → IsOutcome old w caller request (answered result))

@@ -1,7 +1,7 @@
 -- What a user's call may be answered over a store, with the cause of each refusal.
 use Rattle.std.specs.Prelude.{◌≡◌, ℕ, ◌≤◌, ◌==◌, List, Option, None, Some, if◌then◌else◌}
 use Rattle.lfs_types.specs.Caller.{Caller}
-use Rattle.lfs_types.specs.StoreStates.{StoreState}
+use Rattle.lfs_types.specs.StoreStates.{MayLackSpace, StoreState}
 use Rattle.lfs_types.specs.Stored.{bytes_of}
 use Rattle.lfs_types.specs.Tree.{World, Content, root}
 use Rattle.lfs_types.specs.declared.answer.Answer.{Answer}
@@ -32,7 +32,7 @@ FillsDirectory c w (Rename from to) =
 FillsDirectory c w request = ⊥
 
 -- A call may be answered so over a store in this state that shows this world: by a step of the volume, NoSpace only
--- with at most two clean segments, DirectoryFull exactly where the directory is full, NoMemory only where the call
+-- where a change may lack space, DirectoryFull exactly where the directory is full, NoMemory only where the call
 -- would be served and may lack memory.
 abbrev pub IsOutcome : StoreState → World → Caller → Request → Answer → Type 0
 IsOutcome s w caller request (Served shown) =
@@ -46,7 +46,7 @@ IsOutcome s w caller request (Refused NoMemory) =
 IsOutcome s w caller request (Refused NoSpace) =
     IsAnswer s.shape.numbers w caller request (Refused NoSpace)
     × (FillsDirectory s.content w request → ⊥)
-    × (s.clean ≤ 2)
+    × MayLackSpace s
 IsOutcome s w caller request (Refused NoInodes) = IsAnswer s.shape.numbers w caller request (Refused NoInodes)
 IsOutcome s w caller request (Refused DirectoryFull) =
     IsAnswer s.shape.numbers w caller request (Refused DirectoryFull) × FillsDirectory s.content w request

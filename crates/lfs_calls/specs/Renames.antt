@@ -25,8 +25,7 @@ use Rattle.lfs_model.specs.Rules.{decide, front, last, reached}
 use Rattle.lfs_calls.specs.Arrivals.{IsArrival}
 use Rattle.lfs_calls.specs.Makes.{IsRoom, StandsIn, with_block}
 use Rattle.std.specs.Borrow.{Bor}
-use Rattle.lfs_types.specs.StoreStates.{Follows, StoreState}
-use Rattle.lfs_types.specs.Stored.{MayRefuse}
+use Rattle.lfs_types.specs.StoreStates.{Follows, StoreState, MayRefuse}
 use Rattle.lfs_types.specs.declared.answer.Resource.TheVariants as resources
 use Rattle.lfs_types.specs.declared.limits.TheConstants.{FILE_BYTES}
 use Rattle.lfs_types.specs.declared.store.StoreRefusal.TheVariants.{NoSpace, NoMemory}
@@ -168,9 +167,9 @@ pub record CanSwap (c : Content) (dir size : ℕ) (taken : Option (Bor Room)) (n
 abbrev pub IsCauseOf : StoreState → Type 0 → NotServed → Type 0
 IsCauseOf old full (reasons.Denied denial) = ⊥
 IsCauseOf old full (reasons.Refused resources.DirectoryFull) = full
-IsCauseOf old full (reasons.Refused resources.NoSpace) = MayRefuse old.clean old.shape.can_lack_memory NoSpace
+IsCauseOf old full (reasons.Refused resources.NoSpace) = MayRefuse old NoSpace
     × (full → ⊥)
-IsCauseOf old full (reasons.Refused resources.NoMemory) = MayRefuse old.clean old.shape.can_lack_memory NoMemory
+IsCauseOf old full (reasons.Refused resources.NoMemory) = MayRefuse old NoMemory
     × (full → ⊥)
 IsCauseOf old full (reasons.Refused resource) = ⊥
 

@@ -1,8 +1,8 @@
 use Rattle.std.proofs.Common.{◌≡◌, ◌≤◌, ◌/◌, ℕ, List, [], length, None, Some, Ok, refl, sym, ap, subst, ◌∙◌, arith}
 use Rattle.lfs_calls.specs.Volumes.{IsVolume}
 use Rattle.lfs_calls.proofs.StateLemmas.{same_content, same_numbers}
-use Rattle.lfs_types.specs.StoreStates.{StoreState}
-use Rattle.lfs_types.specs.Stored.{bytes_of, IsUsedBelow, IsLeastFree, MayRefuse}
+use Rattle.lfs_types.specs.StoreStates.{StoreState, MayRefuse}
+use Rattle.lfs_types.specs.Stored.{bytes_of, IsUsedBelow, IsLeastFree}
 use Rattle.lfs_types.specs.declared.answer.Resource.TheVariants.{NoInodes, DirectoryFull}
 use Rattle.std.proofs.lemmas.Result.{err_from_is_err_and}
 use Rattle.lfs_model.specs.Effects.{effect}
@@ -174,7 +174,7 @@ returns-in_err-put_new-clause-call g c level =
     make_refused (g.F.FileStore.state c.args.store.now) w c.args.cred.now c.args.path.now c.args.mode
     (judged_so g k w v).0 (numbered g k w v)
     (roomy v.shows is (room_is g k c.in-Some-find_room.room found.0 found.1)) c.args.kind c.in_err-put_new.field-0.0
-    (subst (λ s. MayRefuse s.clean s.shape.can_lack_memory c.in_err-put_new.field-0.0) (c.find_room.ensures.state
+    (subst (λ s. MayRefuse s c.in_err-put_new.field-0.0) (c.find_room.ensures.state
     ∙ c.judge_make.ensures.state) c.in_err-put_new.ensures.changes.refused)) c.in_err-put_new.ensures.changes)
 
 pub returns-clause-call : goal.returns-clause-call

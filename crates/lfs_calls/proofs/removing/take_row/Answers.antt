@@ -1,9 +1,9 @@
 use Rattle.std.proofs.Common.{◌≡◌, refl, sym, subst}
 use Rattle.lfs_calls.proofs.StateLemmas.{follows_same, same_content}
-use Rattle.lfs_types.specs.StoreStates.{StoreState}
+use Rattle.lfs_types.specs.StoreStates.{StoreState, MayRefuse}
 use Rattle.std.specs.Prelude.{IfErr, OnErr}
 use Rattle.std.proofs.lemmas.Result.{IfOk-weaker}
-use Rattle.lfs_types.specs.Stored.{bytes_of, MayRefuse}
+use Rattle.lfs_types.specs.Stored.{bytes_of}
 use Rattle.lfs_types.specs.Tree.{Content, World}
 use Rattle.lfs_calls.specs.Removes.{HangsAs, IsTaking, TakesFile}
 use Rattle.lfs_calls.proofs.Directories.{lists_name}
@@ -91,7 +91,7 @@ returns-clause-changes g c =
       ))
           c.apply_naming.ensures.applies.ok;
       err = onerr g c;
-      refused = subst (λ (s : StoreState). IfErr c.apply_naming.result (MayRefuse s.clean s.shape.can_lack_memory)) same
+      refused = subst (λ (s : StoreState). IfErr c.apply_naming.result (MayRefuse s)) same
           c.apply_naming.ensures.applies.refused;
       follows = follows_same same c.apply_naming.ensures.applies.follows;
     }

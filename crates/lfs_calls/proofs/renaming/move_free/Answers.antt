@@ -1,7 +1,6 @@
 use Rattle.std.proofs.Common.{◌/◌, Err, sym, ap, subst, ◌∙◌}
 use Rattle.std.proofs.lemmas.Result.{err_from_is_err_and}
-use Rattle.lfs_types.specs.StoreStates.{StoreState}
-use Rattle.lfs_types.specs.Stored.{MayRefuse}
+use Rattle.lfs_types.specs.StoreStates.{StoreState, MayRefuse}
 use Rattle.lfs_calls.specs.Makes.{IsBlockOf}
 use Rattle.lfs_calls.specs.Names.{MovesName}
 use Rattle.lfs_calls.specs.Renames.{HasNoRoom, MovesTo, PutsRow, WritesBlocks}
@@ -53,7 +52,7 @@ returns-in_err-put_blocks-clause-puts g c =
       ok = tt;
       err = c.in_err-put_blocks.ensures.changes.err ∙ same_content c.find_places.ensures.state;
       refused = refused_for s full c.in_err-put_blocks.field-0.0
-          (subst (λ (x : StoreState). MayRefuse x.clean x.shape.can_lack_memory c.in_err-put_blocks.field-0.0)
+          (subst (λ (x : StoreState). MayRefuse x c.in_err-put_blocks.field-0.0)
           c.find_places.ensures.state c.in_err-put_blocks.ensures.changes.refused)
           (somewhere t.1.0.shows t.1.0.tree t.1.1.leaves c.in-Some.ensures.places.taking.1
           c.in-Some.ensures.places.room.1);
