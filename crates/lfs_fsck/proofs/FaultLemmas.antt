@@ -3,7 +3,7 @@ use Rattle.std.proofs.Common.{◌≡◌, ℕ, is_some, refl, sym, ap, ◌∙◌,
 use Rattle.std.proofs.lemmas.Bool.{false≢true}
 use Rattle.lfs_types.specs.Ranges.{least_frames}
 use Rattle.lfs_log.specs.Parts.{LogParts}
-use Rattle.lfs_staging.specs.Store.{IsStore}
+use Rattle.lfs_parts.specs.Store.{IsStore}
 use Rattle.lfs_fsck.specs.declared.fault.LogFault.{LogFault}
 use Rattle.lfs_fsck.specs.declared.fault.LogFault.TheVariants.{Unfinished, NotZeros, Reserved, NoRecord, OtherRecord}
 use Rattle.lfs_fsck.specs.declared.fault.LogFault.TheVariants.{Outside, Misnamed, InClean, Unwritten, PastSize, Tail}

@@ -30,9 +30,9 @@ use Rattle.lfs_bmap.proofs.CountingLemmas.{weight-none, weight-here, weight-else
 use Rattle.lfs_bmap.proofs.ReadingLemmas.{address-root, via-none}
 use Rattle.lfs_bmap.proofs.WayLemmas.{data_way-double, way_of-code_of, way_of-data, way_of-zero}
 use Rattle.lfs_log.specs.Parts.{IsParts, LogParts}
-use Rattle.lfs_staging.specs.View.{root_in, tree_of}
-use Rattle.lfs_staging.proofs.KeyLemmas.{place-block, place-record, placed_at, unplaced}
-use Rattle.lfs_staging.proofs.ViewLemmas.{held_cell, nowhere, record_of-unused}
+use Rattle.lfs_parts.specs.View.{root_in, tree_of}
+use Rattle.lfs_parts.proofs.KeyLemmas.{place-block, place-record, placed_at, unplaced}
+use Rattle.lfs_parts.proofs.ViewLemmas.{held_cell, nowhere, record_of-unused}
 use Rattle.lfs_fsck.specs.Checks.{IsCounted, IsKept, IsKey, LieBelow, live_before}
 use Rattle.lfs_fsck.specs.Stored.{keys_of, settled}
 use Rattle.lfs_fsck.proofs.SettledLemmas.{used_row}

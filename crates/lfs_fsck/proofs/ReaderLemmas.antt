@@ -13,8 +13,9 @@ use Rattle.lfs_segments.specs.declared.entry.SummaryEntry.{SummaryEntry}
 use Rattle.lfs_segments.specs.declared.summary.Summary.{Summary}
 use Rattle.lfs_segments.specs.Entry.{unused}
 use Rattle.lfs_segments.specs.Log.{after_block, entry_at, expected, first_of, log_block}
-use Rattle.lfs_segments.specs.Memory.{SegmentMemory, block_at}
-use Rattle.lfs_segments.specs.Reading.{named_by, summary_entries}
+use Rattle.lfs_segments.specs.Memory.{SegmentMemory, block_at, has_serials}
+use Rattle.lfs_segments.specs.Reading.{named_by}
+use Rattle.lfs_segments.specs.Serial.{entries_in}
 use Rattle.lfs_segments.proofs.LogLemmas.{entry_at-in}
 use Rattle.lfs_log.proofs.ScanLemmas.{expected_more, expected_none}
 use Rattle.lfs_fsck.specs.Names.{AreNames, first_name, name_in}
@@ -37,13 +38,13 @@ named_next entries next count ended now is off below fits =
     ap (λ (es : List SummaryEntry). Some es) (sym (expected_more entries next count below fits))
     ∙ sym (going entries next count ended off) ∙ is
 
-pub passed_named : (entries : List SummaryEntry) (next count : ℕ) (ended : Bool) (block : List ℕ)
+pub passed_named : (kind : Bool) (entries : List SummaryEntry) (next count : ℕ) (ended : Bool) (block : List ℕ)
     (now : Option (List SummaryEntry))
     → held entries next count ended ≡ now → ended ≡ false → next < count → count ≤ length entries
-    → held entries (next + 1) count ended ≡ option_and_then (λ es. after_block es block) now
-passed_named entries next count ended block now is off below fits =
+    → held entries (next + 1) count ended ≡ option_and_then (λ es. after_block kind es block) now
+passed_named kind entries next count ended block now is off below fits =
     going entries (next + 1) count ended off
-    ∙ ap (λ (o : Option (List SummaryEntry)). option_and_then (λ es. after_block es block) o)
+    ∙ ap (λ (o : Option (List SummaryEntry)). option_and_then (λ es. after_block kind es block) o)
     (named_next entries next count ended now is off below fits)
 
 -- behind the last one a summary is read
@@ -60,13 +61,13 @@ pub something : (entries : List SummaryEntry) (next count : ℕ) (ended : Bool) 
 something entries next count ended now is off below fits none =
     let e = named_next entries next count ended now is off below fits ∙ none in cc
 
-pub passed_summary : (entries : List SummaryEntry) (next count : ℕ) (ended : Bool) (block : List ℕ)
+pub passed_summary : (kind : Bool) (entries : List SummaryEntry) (next count : ℕ) (ended : Bool) (block : List ℕ)
     (now : Option (List SummaryEntry)) (s : Summary)
-    → held entries next count ended ≡ now → ended ≡ false → count ≤ next → Some (named_by s) ≡ summary_entries block
-    → held s.entries 0 s.count ended ≡ option_and_then (λ es. after_block es block) now
-passed_summary entries next count ended block now s is off past read =
+    → held entries next count ended ≡ now → ended ≡ false → count ≤ next → Some (named_by s) ≡ entries_in kind block
+    → held s.entries 0 s.count ended ≡ option_and_then (λ es. after_block kind es block) now
+passed_summary kind entries next count ended block now s is off past read =
     going s.entries 0 s.count ended off ∙ read
-    ∙ ap (λ (o : Option (List SummaryEntry)). option_and_then (λ es. after_block es block) o)
+    ∙ ap (λ (o : Option (List SummaryEntry)). option_and_then (λ es. after_block kind es block) o)
     (nothing entries next count ended now is off past)
 
 -- at a summary, and behind the end, nothing is named
@@ -74,20 +75,22 @@ pub first_none : (now : Option (List SummaryEntry)) → Some [] ≡ now → None
 first_none now is = ap (λ (o : Option (List SummaryEntry)). first_name o) is
 
 -- the reader of a segment expects what the log expects at the next address
-pub read_on : (m : SegmentMemory) (segment address : ℕ) (old new : Option (List SummaryEntry)) (block : List ℕ)
-    → first_of segment ≤ address
-    → old ≡ expected (log_block m segment) (address - first_of segment) → block ≡ block_at m address → new
-    ≡ option_and_then (λ es. after_block es block) old
-    → new ≡ expected (log_block m segment) (address + 1 - first_of segment)
+pub read_on : (m : SegmentMemory) (segment address : ℕ) (kind : Bool) (old new : Option (List SummaryEntry))
+    (block : List ℕ) → kind ≡ has_serials m → first_of segment ≤ address
+    → old ≡ expected (has_serials m) (log_block m segment) (address - first_of segment) → block ≡ block_at m address → new
+    ≡ option_and_then (λ es. after_block kind es block) old
+    → new ≡ expected (has_serials m) (log_block m segment) (address + 1 - first_of segment)
 unfolding expected
-read_on m segment address old new block from was at passed =
+read_on m segment address kind old new block same from was at passed =
     let k : ℕ = address - first_of segment in
     let one : address + 1 - first_of segment ≡ suc k = omega arith in
     let here : first_of segment + k ≡ address = omega arith in
     passed
-    ∙ ap (λ (b : List ℕ). option_and_then (λ es. after_block es b) old) (at ∙ ap (block_at m) (sym here))
-    ∙ ap (λ (o : Option (List SummaryEntry)). option_and_then (λ es. after_block es (log_block m segment k)) o) was
-    ∙ ap (expected (log_block m segment)) (sym one)
+    ∙ ap (λ (s : Bool). option_and_then (λ es. after_block s es block) old) same
+    ∙ ap (λ (b : List ℕ). option_and_then (λ es. after_block (has_serials m) es b) old) (at ∙ ap (block_at m) (sym here))
+    ∙ ap (λ (o : Option (List SummaryEntry)). option_and_then (λ es. after_block (has_serials m) es
+    (log_block m segment k)) o) was
+    ∙ ap (expected (has_serials m) (log_block m segment)) (sym one)
 
 -- behind the label, and where a segment has none, the log begins
 pub first_below : (segment address : ℕ) → segment * 64 ≤ address → (address ≡ 0 → ⊥) → first_of segment ≤ address
@@ -96,19 +99,19 @@ first_below (suc segment) address from some = omega arith
 
 -- where a segment begins, a summary is expected
 pub read_begins : (m : SegmentMemory) (segment : ℕ) → Some []
-    ≡ expected (log_block m segment) (segment * 64 - first_of segment)
+    ≡ expected (has_serials m) (log_block m segment) (segment * 64 - first_of segment)
 unfolding expected
 read_begins m segment = let none : segment * 64 - first_of segment ≡ 0 = omega arith in rw none refl
 
 pub read_first : (m : SegmentMemory) (segment address : ℕ) → address ≡ first_of segment → Some []
-    ≡ expected (log_block m segment) (address - first_of segment)
+    ≡ expected (has_serials m) (log_block m segment) (address - first_of segment)
 unfolding expected
 read_first m segment address first = let none : address - first_of segment ≡ 0 = omega arith in rw none refl
 
 -- what is named at an address of a segment
 pub named_here : (m : SegmentMemory) (segment address : ℕ) (now : Option (List SummaryEntry))
     (name : Option SummaryEntry) → segment * 64 ≤ address → address < segment * 64 + 64
-    → now ≡ expected (log_block m segment) (address - first_of segment) → name ≡ first_name now → name
+    → now ≡ expected (has_serials m) (log_block m segment) (address - first_of segment) → name ≡ first_name now → name
     ≡ entry_at m address
 named_here m segment address now name from below read is =
     let here : address / 64 ≡ segment = omega arith in
@@ -117,23 +120,23 @@ named_here m segment address now name from below read is =
 -- at the label nothing is, and it is no block of the log
 pub label_named : (m : SegmentMemory) (segment address : ℕ) (now : Option (List SummaryEntry)) → segment * 64 ≤ address
     → address ≡ 0
-    → now ≡ expected (log_block m segment) (address - first_of segment) → None ≡ entry_at m address
+    → now ≡ expected (has_serials m) (log_block m segment) (address - first_of segment) → None ≡ entry_at m address
 unfolding expected
 label_named m segment address now from zero_ read =
     let none : address - first_of segment ≡ 0 = omega arith in
     let here : address / 64 ≡ segment = omega arith in
-    let begins : Some [] ≡ expected (log_block m segment) (address - first_of segment) = rw none refl in
+    let begins : Some [] ≡ expected (has_serials m) (log_block m segment) (address - first_of segment) = rw none refl in
     ap (λ (o : Option (List SummaryEntry)). first_name o) begins ∙ sym (entry_at-in m segment address here)
 
 pub label_read : (m : SegmentMemory) (segment address : ℕ) (now : Option (List SummaryEntry)) → segment * 64 ≤ address
     → address ≡ 0
-    → now ≡ expected (log_block m segment) (address - first_of segment) → now
-    ≡ expected (log_block m segment) (address + 1 - first_of segment)
+    → now ≡ expected (has_serials m) (log_block m segment) (address - first_of segment) → now
+    ≡ expected (has_serials m) (log_block m segment) (address + 1 - first_of segment)
 label_read m segment address now from zero_ read =
     let is_zero : segment ≡ 0 = omega arith in
     let first : first_of segment ≡ 1 = ap first_of is_zero in
     let same : address - first_of segment ≡ address + 1 - first_of segment = omega arith in
-    read ∙ ap (expected (log_block m segment)) same
+    read ∙ ap (expected (has_serials m) (log_block m segment)) same
 
 -- names that are known, and one more
 pub no_names : (m : SegmentMemory) (names : List (Option SummaryEntry)) → names ≡ [] → AreNames m 0 names

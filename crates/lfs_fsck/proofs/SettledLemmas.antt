@@ -14,8 +14,8 @@ use Rattle.lfs_segments.specs.Memory.{block_at}
 use Rattle.lfs_bmap.specs.Reading.{address, bytes_via}
 use Rattle.lfs_bmap.proofs.ReadingLemmas.{address-cell, table-root, via-log, via-none}
 use Rattle.lfs_log.specs.Parts.{LogParts}
-use Rattle.lfs_staging.specs.View.{fields_at, record_of, root_in, tree_of}
-use Rattle.lfs_staging.proofs.ViewLemmas.{record_of-logged}
+use Rattle.lfs_parts.specs.View.{fields_at, record_of, root_in, tree_of}
+use Rattle.lfs_parts.proofs.ViewLemmas.{record_of-logged}
 use Rattle.lfs_fsck.specs.Checks.{IsRecordOf}
 use Rattle.lfs_fsck.specs.Stored.{settled}
 

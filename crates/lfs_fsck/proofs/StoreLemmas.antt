@@ -37,14 +37,14 @@ use Rattle.lfs_bmap.proofs.WayLemmas.{way_of-code_of, way_of-zero}
 use Rattle.lfs_log.specs.Parts.{IsParts, LogParts, live_of, record_place}
 use Rattle.lfs_log.specs.Parts as log
 use Rattle.lfs_log.proofs.PartsLemmas.{AreSegments-kept}
-use Rattle.lfs_staging.specs.declared.parts.Parts.{Parts}
-use Rattle.lfs_staging.specs.Keys.{log_state}
-use Rattle.lfs_staging.specs.Store.{AreFiles, IsFile, IsPresent, IsStore, IsWithin}
-use Rattle.lfs_staging.specs.View.{record_of, root_in, tree_of, tree_with, version_of}
-use Rattle.lfs_staging.proofs.CleanLemmas.{mirrors_none}
-use Rattle.lfs_staging.proofs.FileLemmas.{record_used}
-use Rattle.lfs_staging.proofs.ViewLemmas.{record_like}
-use Rattle.lfs_staging.proofs.WaitingLemmas.{none_once}
+use Rattle.lfs_parts.specs.declared.parts.Parts.{Parts}
+use Rattle.lfs_parts.specs.Keys.{log_state}
+use Rattle.lfs_parts.specs.Store.{AreFiles, IsFile, IsPresent, IsStore, IsWithin}
+use Rattle.lfs_parts.specs.View.{record_of, root_in, tree_of, tree_with, version_of}
+use Rattle.lfs_parts.proofs.CleanLemmas.{mirrors_none}
+use Rattle.lfs_parts.proofs.FileLemmas.{record_used}
+use Rattle.lfs_parts.proofs.ViewLemmas.{record_like}
+use Rattle.lfs_parts.proofs.WaitingLemmas.{none_once}
 use Rattle.lfs_fsck.specs.Checks.{AreChecked, IsChecked, IsCounted, IsKept, IsRecordOf}
 use Rattle.lfs_fsck.specs.Stored.{IsStored, keys_of, settled, stored}
 use Rattle.lfs_fsck.proofs.KeyLemmas.{at_block}

@@ -24,9 +24,9 @@ use Rattle.lfs_bmap.proofs.PieceLemmas.{zero_block-at}
 use Rattle.lfs_bmap.proofs.PlaceLemmas.{data_block-past}
 use Rattle.lfs_bmap.proofs.ReadingLemmas.{read-via}
 use Rattle.lfs_log.specs.Parts.{IsParts, LogParts}
-use Rattle.lfs_staging.specs.Store.{IsWithin}
-use Rattle.lfs_staging.specs.View.{tree_of}
-use Rattle.lfs_staging.proofs.ReadLemmas.{data_block-read}
+use Rattle.lfs_parts.specs.Store.{IsWithin}
+use Rattle.lfs_parts.specs.View.{tree_of}
+use Rattle.lfs_parts.proofs.ReadLemmas.{data_block-read}
 use Rattle.lfs_fsck.specs.Checks.{IsKept, IsRecordOf}
 use Rattle.lfs_fsck.specs.Stored.{settled}
 use Rattle.lfs_fsck.proofs.KeyLemmas.{at_block}

@@ -12,8 +12,8 @@ use Rattle.lfs_bmap.specs.Counting.{live_bytes, seg_of, total, weight_of}
 use Rattle.lfs_bmap.specs.Log.{IsPlace, LogState, owner_of}
 use Rattle.lfs_bmap.specs.Reading.{address}
 use Rattle.lfs_log.specs.Parts.{LogParts, live_of}
-use Rattle.lfs_staging.specs.Store.{IsFile, IsWithin}
-use Rattle.lfs_staging.specs.View.{blocks_of, record_of, tree_of, version_of}
+use Rattle.lfs_parts.specs.Store.{IsFile, IsWithin}
+use Rattle.lfs_parts.specs.View.{blocks_of, record_of, tree_of, version_of}
 use Rattle.lfs_fsck.specs.Stored.{keys_of, settled}
 
 -- an inode is the record that the log has of its number, which is in use

@@ -16,7 +16,7 @@ use Rattle.lfs_bmap.specs.Log.{IsPlaced, owner_of}
 use Rattle.lfs_bmap.specs.Pieces.{IsPadded}
 use Rattle.lfs_bmap.specs.Reading.{address, data_block}
 use Rattle.lfs_log.specs.Parts.{LogParts, live_of}
-use Rattle.lfs_staging.specs.View.{record_of, tree_of, version_of}
+use Rattle.lfs_parts.specs.View.{record_of, tree_of, version_of}
 use Rattle.lfs_fsck.specs.declared.fault.LogFault.{LogFault}
 use Rattle.lfs_fsck.specs.declared.fault.LogFault.TheVariants.{Unfinished, NotZeros, Reserved, NoRecord, OtherRecord}
 use Rattle.lfs_fsck.specs.declared.fault.LogFault.TheVariants.{Outside, Misnamed, InClean, Unwritten, PastSize, Tail}

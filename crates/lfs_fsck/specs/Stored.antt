@@ -4,9 +4,9 @@ use Rattle.lfs_types.specs.Ranges.{least_frames}
 use Rattle.lfs_cache.specs.Contents.{nothing_in}
 use Rattle.lfs_bmap.specs.Log.{LogState}
 use Rattle.lfs_log.specs.Parts.{LogParts}
-use Rattle.lfs_staging.specs.declared.parts.Parts.{Parts}
-use Rattle.lfs_staging.specs.Keys.{log_state}
-use Rattle.lfs_staging.specs.Store.{IsStore}
+use Rattle.lfs_parts.specs.declared.parts.Parts.{Parts}
+use Rattle.lfs_parts.specs.Keys.{log_state}
+use Rattle.lfs_parts.specs.Store.{IsStore}
 
 -- the parts over a log: so many frames, all empty, and nothing waits
 abbrev pub stored : ℕ → LogParts → Parts

@@ -5,8 +5,8 @@ ghost use Rattle.lfs_types.specs.declared.limits.TheConstants.{FILE_BYTES};
 ghost use Rattle.lfs_bmap.specs.declared.blocks.TheConstants.{BLOCK_CODES};
 ghost use Rattle.lfs_bmap.specs.Blocks.{IsFileBlock, code_of, way_to};
 ghost use Rattle.lfs_bmap.specs.Reading.{address, bytes_via};
-ghost use Rattle.lfs_staging.specs.Store.{IsWithin};
-ghost use Rattle.lfs_staging.specs.View.{tree_of};
+ghost use Rattle.lfs_parts.specs.Store.{IsWithin};
+ghost use Rattle.lfs_parts.specs.View.{tree_of};
 ghost use Rattle.lfs_fsck.specs.Checks.{IsRecordOf, LieBelow};
 ghost use Rattle.lfs_fsck.specs.Stored.{settled};
 

@@ -5,7 +5,7 @@ ghost use Rattle.lfs_types.specs.declared.limits.TheConstants.{SEGMENT_BLOCKS};
 ghost use Rattle.lfs_segments.specs.Memory.{next_address};
 ghost use Rattle.lfs_bmap.specs.declared.blocks.TheConstants.{BLOCK_CODES};
 ghost use Rattle.lfs_log.specs.Parts.{IsParts, live_of};
-ghost use Rattle.lfs_staging.specs.Store.{IsStore};
+ghost use Rattle.lfs_parts.specs.Store.{IsStore};
 ghost use Rattle.lfs_fsck.specs.declared.fault.LogFault.TheVariants.{Memory};
 ghost use Rattle.lfs_fsck.specs.Checks.{AreChecked, IsCounted, IsFine, IsLive, IsRecordOf};
 ghost use Rattle.lfs_fsck.specs.Faults.{IsLogFaultOf};

@@ -10,8 +10,8 @@ ghost use Rattle.lfs_fsck.specs.Names.{AreNames, IsNameOf, IsOfRecords};
 ghost use Rattle.lfs_fsck.specs.Stored.{keys_of, settled};
 ghost use Rattle.lfs_bmap.specs.Reading.{address};
 ghost use Rattle.lfs_log.specs.Parts.{IsParts};
-ghost use Rattle.lfs_staging.specs.Store.{IsWithin};
-ghost use Rattle.lfs_staging.specs.View.{tree_of};
+ghost use Rattle.lfs_parts.specs.Store.{IsWithin};
+ghost use Rattle.lfs_parts.specs.View.{tree_of};
 
 use crate::blocks::{address_of, within};
 use crate::fault::LogFault;

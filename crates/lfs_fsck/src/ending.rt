@@ -34,7 +34,7 @@ fn goes_on(log: &Log) -> bool
     let mut reader = Reader::start();
     let active = log.active();
     for address in active * SEGMENT_BLOCKS + log_start(active)..log.next_address() {
-        reader.pass(log.block(address));
+        reader.pass(log.block(address), log.has_serials());
     }
     reader.is_ready()
 }

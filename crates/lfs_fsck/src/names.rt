@@ -2,7 +2,7 @@
 
 ghost use Rattle.std.specs.Prelude.{◌≡◌, ◌+◌, ◌*◌, ◌-◌, ◌<◌, ◌≤◌, OnOk, IfOk};
 ghost use Rattle.lfs_segments.specs.Log.{entry_at, expected, first_of, log_block};
-ghost use Rattle.lfs_segments.specs.Memory.{IsLaidOut};
+ghost use Rattle.lfs_segments.specs.Memory.{IsLaidOut, has_serials};
 ghost use Rattle.lfs_fsck.specs.Names.{AreNames};
 
 use crate::reader::Reader;
@@ -47,14 +47,14 @@ fn name_at(log: &Log, reader: &mut Reader, segment: u32, address: u32) -> Option
     requires from { segment * 64 ≤ address }
     requires below { address < segment * 64 + 64 }
     requires inside { segment < log.now.memory.segments }
-    requires read { reader.old
-        ≡ expected (log_block log.now.memory segment) (address - first_of segment) }
+    requires read { reader.old ≡ expected (has_serials log.now.memory)
+        (log_block log.now.memory segment) (address - first_of segment) }
     ensures named { result ≡ entry_at log.now.memory address }
-    ensures read { reader.new
-        ≡ expected (log_block log.now.memory segment) (address + 1 - first_of segment) }
+    ensures read { reader.new ≡ expected (has_serials log.now.memory)
+        (log_block log.now.memory segment) (address + 1 - first_of segment) }
 {
     if address == 0 {
         return None;
     }
-    reader.pass(log.block(address))
+    reader.pass(log.block(address), log.has_serials())
 }

@@ -5,7 +5,8 @@ ghost use Rattle.lfs_segments.specs.Log.{after_block};
 ghost use Rattle.lfs_fsck.specs.Names.{first_name};
 
 use lfs_segments::entry::SummaryEntry;
-use lfs_segments::summary::{ENTRY_LIMIT, Summary};
+use lfs_segments::log_summary::summary_in;
+use lfs_segments::summary::ENTRY_LIMIT;
 use lfs_types::block::Block;
 use std::marker::Model;
 
@@ -49,11 +50,12 @@ impl Reader {
         !self.is_ended && self.next >= self.count
     }
 
-    /// The entry that the log has for its next block: none for a summary, and behind its end.
-    pub(crate) fn pass(&mut self, block: &Block) -> Option<SummaryEntry>
+    /// The entry that the log, whose summaries have serials or have none, has for its next block: none
+    /// for a summary, and behind its end.
+    pub(crate) fn pass(&mut self, block: &Block, has_serials: bool) -> Option<SummaryEntry>
         ensures named { result ≡ first_name self.old }
         ensures next { self.new
-            ≡ option_and_then (λ entries. after_block entries block.now) self.old }
+            ≡ option_and_then (λ entries. after_block has_serials entries block.now) self.old }
     {
         if self.is_ended {
             return None;
@@ -63,7 +65,7 @@ impl Reader {
             self.next += 1;
             return Some(entry);
         }
-        match Summary::decode(block) {
+        match summary_in(block, has_serials) {
             Some(summary) => {
                 let entries = summary.entries;
                 self.entries = entries;

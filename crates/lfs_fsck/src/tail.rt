@@ -4,7 +4,7 @@ ghost use Rattle.std.specs.Prelude.{◌<◌, ℕ, IfErr, OnOk};
 ghost use Rattle.lfs_bmap.specs.Pieces.{IsPadded};
 ghost use Rattle.lfs_bmap.specs.Reading.{data_block};
 ghost use Rattle.lfs_log.specs.Parts.{IsParts};
-ghost use Rattle.lfs_staging.specs.View.{tree_of};
+ghost use Rattle.lfs_parts.specs.View.{tree_of};
 ghost use Rattle.lfs_fsck.specs.Checks.{IsKept, IsRecordOf};
 ghost use Rattle.lfs_fsck.specs.Faults.{IsLogFaultOf};
 ghost use Rattle.lfs_fsck.specs.Stored.{settled};

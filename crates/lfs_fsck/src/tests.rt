@@ -2,7 +2,7 @@
 
 use crate::{LogFault, check_log};
 use lfs_log::Log;
-use lfs_staging::parts::Parts;
+use lfs_parts::parts::Parts;
 use std::alloc::Global;
 use std::process::Abort;
 

@@ -2,9 +2,9 @@ use Rattle.std.proofs.Common.{◌≡◌, ◌∷◌, [], sym, ap, ◌∙◌}
 use Rattle.lfs_bmap.specs.Blocks.{way_to}
 use Rattle.lfs_bmap.specs.Reading.{address}
 use Rattle.lfs_bmap.proofs.ReadingLemmas.{address-root}
-use Rattle.lfs_staging.specs.View.{tree_of}
-use Rattle.lfs_staging.proofs.KeyLemmas.{code-other}
-use Rattle.lfs_staging.proofs.ViewLemmas.{held_cell, way_to-some}
+use Rattle.lfs_parts.specs.View.{tree_of}
+use Rattle.lfs_parts.proofs.KeyLemmas.{code-other}
+use Rattle.lfs_parts.proofs.ViewLemmas.{held_cell, way_to-some}
 use Rattle.lfs_fsck.specs.Stored.{settled}
 use Rattle.lfs_fsck.proofs.SettledLemmas.{root_at}
 use Rattle.lfs_fsck.proofs.blocks.+address_of.Goals as goal

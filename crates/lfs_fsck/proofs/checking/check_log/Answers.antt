@@ -1,6 +1,6 @@
 use Rattle.std.proofs.Common.{◌≡◌, ℕ}
 use Rattle.std.proofs.lemmas.Result.{IfErr-weaker}
-use Rattle.lfs_staging.specs.Store.{IsStore}
+use Rattle.lfs_parts.specs.Store.{IsStore}
 use Rattle.lfs_fsck.specs.declared.fault.LogFault.TheVariants.{Memory}
 use Rattle.lfs_fsck.specs.Faults.{IsLogFaultOf}
 use Rattle.lfs_fsck.specs.Stored.{stored}

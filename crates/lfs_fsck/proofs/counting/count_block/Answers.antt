@@ -3,7 +3,7 @@ use Rattle.std.proofs.lemmas.Option.{same_Some}
 use Rattle.lfs_inodes.specs.Reading.{Fields, fields_of}
 use Rattle.lfs_bmap.specs.Blocks.{block_with, code_of}
 use Rattle.lfs_bmap.proofs.BlockLemmas.{block_with-code_of, code_of-below}
-use Rattle.lfs_staging.specs.Store.{IsWithin}
+use Rattle.lfs_parts.specs.Store.{IsWithin}
 use Rattle.lfs_fsck.specs.Checks.{IsKey, IsLaid, IsOwned}
 use Rattle.lfs_fsck.specs.Stored.{keys_of}
 use Rattle.lfs_fsck.proofs.KeyLemmas.{count_none, count_one, counts_small, key_at, key_placed, lie_below, same_units}

@@ -22,6 +22,6 @@ loop-address-preserved c =
     let l = c.loop-address in
     record {
       from = let low = l.invariant.from in omega arith;
-      read = read_on m m.active l.address l.reader c.pass.new.self c.block.result.now l.invariant.from l.invariant.read
-          c.block.ensures.block c.pass.ensures.next;
+      read = read_on m m.active l.address c.has_serials.result l.reader c.pass.new.self c.block.result.now
+          c.has_serials.ensures.serials l.invariant.from l.invariant.read c.block.ensures.block c.pass.ensures.next;
     }

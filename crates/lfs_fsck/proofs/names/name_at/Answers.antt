@@ -18,6 +18,7 @@ returns-clause-named c =
 
 pub returns-clause-read : goal.returns-clause-read
 returns-clause-read c =
-    read_on c.args.log.now.memory c.args.segment c.args.address c.args.reader.now c.pass.new.self c.block.result.now
+    read_on c.args.log.now.memory c.args.segment c.args.address c.has_serials.result c.args.reader.now c.pass.new.self
+    c.block.result.now c.has_serials.ensures.serials
     (first_below c.args.segment c.args.address c.requires.from c.if-address-eq0.false) c.requires.read
     c.block.ensures.block c.pass.ensures.next

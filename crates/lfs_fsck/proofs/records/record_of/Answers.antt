@@ -3,7 +3,7 @@ use Rattle.std.proofs.lemmas.Bool.{false≢true}
 use Rattle.lfs_inodes.specs.Reading.{fields_in, fields_of}
 use Rattle.lfs_inodes.specs.Slots.{slot_of}
 use Rattle.lfs_ifile.specs.Tables.{row_of}
-use Rattle.lfs_staging.specs.View.{record_of, version_of}
+use Rattle.lfs_parts.specs.View.{record_of, version_of}
 use Rattle.lfs_fsck.specs.Stored.{settled}
 use Rattle.lfs_fsck.proofs.KeyLemmas.{slot_low}
 use Rattle.lfs_fsck.proofs.SettledLemmas.{settled_record, used_row}

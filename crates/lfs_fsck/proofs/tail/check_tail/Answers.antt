@@ -5,7 +5,7 @@ use Rattle.lfs_inodes.specs.Reading.{fields_of}
 use Rattle.lfs_bmap.specs.declared.blocks.FileBlock.TheVariants.{Data}
 use Rattle.lfs_bmap.specs.Blocks.{way_to}
 use Rattle.lfs_bmap.specs.Reading.{bytes_via, data_block}
-use Rattle.lfs_staging.specs.View.{tree_of}
+use Rattle.lfs_parts.specs.View.{tree_of}
 use Rattle.lfs_fsck.specs.Stored.{settled}
 use Rattle.lfs_fsck.proofs.KeyLemmas.{lie_below}
 use Rattle.lfs_fsck.proofs.TailLemmas.{data_logged, is_padded, last_zeros}

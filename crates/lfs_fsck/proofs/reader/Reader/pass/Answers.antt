@@ -6,7 +6,7 @@ pub returns-then-self-2-clause-next : goal.returns-then-self-2-clause-next
 returns-then-self-2-clause-next c =
     let r = c.self.inside in
     let held = c.self.invariant in
-    passed_named r.entries r.next r.count r.is_ended c.args.block.now c.args.self.now c.self.view_is c.if-self.false
+    passed_named c.args.has_serials r.entries r.next r.count r.is_ended c.args.block.now c.args.self.now c.self.view_is c.if-self.false
     c.if-self-2.true (omega arith)
 
 pub returns-in-Some-clause-named : goal.returns-in-Some-clause-named
@@ -18,6 +18,6 @@ returns-in-Some-clause-named c =
 pub returns-in-Some-clause-next : goal.returns-in-Some-clause-next
 returns-in-Some-clause-next c =
     let r = c.self.inside in
-    passed_summary r.entries r.next r.count r.is_ended c.args.block.now c.args.self.now c.in-Some.summary c.self.view_is
+    passed_summary c.args.has_serials r.entries r.next r.count r.is_ended c.args.block.now c.args.self.now c.in-Some.summary c.self.view_is
     c.if-self.false c.if-self-2.false
-    c.in-Some.ensures.entries
+    c.in-Some.ensures
