@@ -1,16 +1,17 @@
 -- The numbers of a head are read off its bytes, and bytes have one head: `head_told` and `same_level` for ImageLemmas,
--- `no_head` for `Head::read`. Each number is below 2^32 by its range (MayHead), so four bytes spell it, and the seven
+-- `no_head` for `Head::read`. Each number is below 2^32 by its range (MayHead), so four bytes spell it, and the eight
 -- stand one behind the other from the first byte on. Bytes behind them must be those of the head with these numbers, or
 -- the fault Gap is told (`no_head`); a number more takes its place before the zeros.
-use Rattle.std.proofs.Common.{◌≡◌, ℕ, ◌^◌, ◌<◌, List, ◌++◌, take, drop, refl, sym, ap, subst, ◌∙◌, arith}
+use Rattle.std.proofs.Common.{◌≡◌, ℕ, ◌^◌, ◌<◌, List, ◌++◌, Option, None, Some, take, drop, refl, sym, ap, subst, ◌∙◌, arith}
 use Rattle.std.proofs.lemmas.List.{take-append-drop}
 use Rattle.std.proofs.lemmas.Nat.{from_be_bytes-to_be_bytes_4}
 use Rattle.lfs_types.specs.declared.level.Level.{Level}
 use Rattle.lfs_types.specs.declared.level.Level.TheVariants.{PermanentlyInsecure, Insecure, Secure, HighlySecure}
+use Rattle.lfs_segments.specs.Memory.{IsNextSerial}
 use Rattle.lfs_ifile.specs.Layout.{number_at, u32_bytes}
 use Rattle.lfs_image.specs.declared.head.Head.{Head}
 use Rattle.lfs_image.specs.Heads.{MayHead, ReadsHead}
-use Rattle.lfs_image.specs.Image.{head_bytes, level_word}
+use Rattle.lfs_image.specs.Image.{head_bytes, level_word, serial_word}
 
 level-fits : (level : Level) → level_word level < 2 ^ 32
 level-fits PermanentlyInsecure = omega arith
@@ -36,6 +37,17 @@ same_level HighlySecure Insecure e = absurd (omega arith)
 same_level HighlySecure Secure e = absurd (omega arith)
 same_level HighlySecure HighlySecure e = refl
 
+serial-fits : (serial : Option ℕ) → IsNextSerial serial → serial_word serial < 2 ^ 32
+serial-fits None told = omega arith
+serial-fits (Some serial) told = let below = told.1 in omega arith
+
+-- a serial is no 0
+pub same_serial : (a b : Option ℕ) → IsNextSerial a → IsNextSerial b → serial_word a ≡ serial_word b → a ≡ b
+same_serial None None p q e = refl
+same_serial None (Some b) p q e = let some = q.0 in absurd (omega arith)
+same_serial (Some a) None p q e = let some = p.0 in absurd (omega arith)
+same_serial (Some a) (Some b) p q e = ap Some e
+
 -- the bytes of a head say its numbers
 pub head_told : (h : Head) (rest : List ℕ) → MayHead h → ReadsHead (head_bytes h ++ rest) h
 unfolding head_bytes u32_bytes number_at
@@ -52,6 +64,8 @@ head_told h rest is =
       active = from_be_bytes-to_be_bytes_4 h.active active;
       used = from_be_bytes-to_be_bytes_4 h.used used;
       level = from_be_bytes-to_be_bytes_4 (level_word h.level) (level-fits h.level);
+      serial = from_be_bytes-to_be_bytes_4 (serial_word h.serial) (serial-fits h.serial is.told);
+      told = is.told;
     }
 
 -- so do bytes that begin with them
@@ -69,7 +83,15 @@ one_head bytes a b p q =
     let active : a.active ≡ b.active = sym p.active ∙ q.active in
     let used : a.used ≡ b.used = sym p.used ∙ q.used in
     let level : a.level ≡ b.level = same_level a.level b.level (sym p.level ∙ q.level) in
-    λ i. record { segments = segments i; inodes = inodes i; active = active i; used = used i; level = level i }
+    let serial : a.serial ≡ b.serial = same_serial a.serial b.serial p.told q.told (sym p.serial ∙ q.serial) in
+    λ i. record {
+      segments = segments i;
+      inodes = inodes i;
+      active = active i;
+      used = used i;
+      level = level i;
+      serial = serial i;
+    }
 
 -- a head that isn't the one whose numbers the bytes say isn't theirs
 pub no_head : (bytes : List ℕ) (a : Head) → ReadsHead bytes a → (take 512 bytes ≡ head_bytes a → ⊥)

@@ -30,7 +30,7 @@ use Rattle.lfs_image.specs.declared.head.Head.{Head}
 use Rattle.lfs_image.specs.Faults.{IsApart, IsImageFaultOf}
 use Rattle.lfs_image.specs.Heads.{MayHead, ReadsHead, ifile_place, length_told}
 use Rattle.lfs_image.specs.Image.{IsImageOf, IsLabelled, body_bytes, head_bytes, head_of, image_bytes, level_word}
-use Rattle.lfs_image.proofs.HeadLemmas.{head_told, same_level}
+use Rattle.lfs_image.proofs.HeadLemmas.{head_told, same_level, same_serial}
 
 -- ---- blocks behind one another
 front : (x y p q : List ℕ) → length x ≡ length y → x ++ p ≡ y ++ q → x ≡ y
@@ -82,6 +82,7 @@ may_head l level is = record {
   active_inside = is.laid_out.active;
   begun = is.laid_out.begun;
   within = is.laid_out.within;
+  told = is.laid_out.told;
 }
 
 reads_head : (bytes : List ℕ) (l : LogParts) (level : Level) → IsImageOf bytes l level
@@ -148,6 +149,9 @@ one_image bytes l m a b p q =
     let segments : l.memory.segments ≡ m.memory.segments = sym one.segments ∙ other.segments in
     let active : l.memory.active ≡ m.memory.active = sym one.active ∙ other.active in
     let fill : l.memory.fill ≡ m.memory.fill = sym one.used ∙ other.used in
+    let serial : l.memory.serial ≡ m.memory.serial =
+    same_serial l.memory.serial m.memory.serial p.parts.laid_out.told q.parts.laid_out.told
+    (sym one.serial ∙ other.serial) in
     let blocks : l.memory.blocks ≡ m.memory.blocks =
     same_blocks l.memory.blocks m.memory.blocks (ifile_bytes l.tables)
     (ifile_bytes m.tables) p.parts.laid_out.each q.parts.laid_out.each
@@ -160,6 +164,7 @@ one_image bytes l m a b p q =
       segments = segments i;
       active = active i;
       fill = fill i;
+      serial = serial i;
       blocks = blocks i;
     } in (
       λ i. record { memory = memory i; tables = tables i; clean = clean i },

@@ -1,16 +1,16 @@
 -- An image from its pieces.
 use Rattle.std.proofs.Common.{◌≡◌, ℕ, ◌+◌, ◌*◌, List, [], ◌∷◌, ◌++◌, length, take, drop, refl, sym, ap, subst, ◌∙◌}
-use Rattle.std.proofs.Common.{◌-◌, arith, append_assoc}
+use Rattle.std.proofs.Common.{◌-◌, Option, arith, append_assoc}
 use Rattle.std.specs.List.{flat_map}
 use Rattle.std.proofs.lemmas.List.{drop-drop, take-append-drop, take_rest}
 use Rattle.std.proofs.lemmas.List.Concat.{flat_map-append}
 use Rattle.lfs_types.specs.declared.level.Level.{Level}
 use Rattle.lfs_cache.specs.Contents.{nothing_in}
-use Rattle.lfs_segments.specs.Memory.{seen}
+use Rattle.lfs_segments.specs.Memory.{seen_with}
 use Rattle.lfs_ifile.specs.Layout.{ifile_bytes}
 use Rattle.lfs_ifile.specs.Tables.{Tables}
 use Rattle.lfs_log.specs.Parts.{IsParts, LogParts}
-use Rattle.lfs_staging.specs.declared.parts.Parts.{Parts}
+use Rattle.lfs_parts.specs.declared.parts.Parts.{Parts}
 use Rattle.lfs_fsck.specs.Stored.{stored}
 use Rattle.lfs_image.specs.declared.head.Head.{Head}
 use Rattle.lfs_image.specs.Image.{IsImageOf, body_bytes, head_bytes, head_of, image_bytes}
@@ -35,10 +35,10 @@ block_more blocks bytes block k is whole =
     (drop (512 * k) bytes) bytes split whole)
 
 -- what stands behind the head is the blocks and the ifile
-pub same_body : (l : LogParts) (tables : Tables) (blocks : List (List ℕ)) (active used : ℕ) (rest body : List ℕ)
-    → l.memory ≡ seen blocks active used → l.tables ≡ tables → ifile_bytes tables ≡ rest
+pub same_body : (serial : Option ℕ) (l : LogParts) (tables : Tables) (blocks : List (List ℕ)) (active used : ℕ) (rest body : List ℕ)
+    → l.memory ≡ seen_with serial blocks active used → l.tables ≡ tables → ifile_bytes tables ≡ rest
     → flat_map (λ block. block) blocks ++ rest ≡ body → body_bytes l ≡ body
-same_body l tables blocks active used rest body memory is file whole = rw (memory, is, file) whole
+same_body serial l tables blocks active used rest body memory is file whole = rw (memory, is, file) whole
 
 -- blocks and what stands behind them are the bytes behind the head, which are read as some of the bytes
 pub blocks_whole : (bytes : List ℕ) (blocks : List (List ℕ)) (count : ℕ)

@@ -1,12 +1,12 @@
 -- What the numbers of a head say, and which of them a volume may have.
-use Rattle.std.specs.Prelude.{◌≡◌, ℕ, ◌+◌, ◌*◌, ◌<◌, ◌≤◌, List}
+use Rattle.std.specs.Prelude.{◌≡◌, ℕ, ◌+◌, ◌*◌, ◌<◌, ◌≤◌, List, Option}
 use Rattle.lfs_types.specs.declared.block.TheConstants.{BLOCK_SIZE}
 use Rattle.lfs_types.specs.declared.limits.TheConstants.{SEGMENT_BLOCKS}
 use Rattle.lfs_types.specs.Ranges.{least_inodes, least_segments, most_inodes, most_segments}
 use Rattle.lfs_ifile.specs.Layout.{number_at}
-use Rattle.lfs_segments.specs.Memory.{log_start}
+use Rattle.lfs_segments.specs.Memory.{IsNextSerial, log_start}
 use Rattle.lfs_image.specs.declared.head.Head.{Head}
-use Rattle.lfs_image.specs.Image.{level_word}
+use Rattle.lfs_image.specs.Image.{level_word, serial_word}
 
 -- bytes begin with the mark, the form and the numbers of a head
 pub record ReadsHead (bytes : List ℕ) (h : Head) : Type 0 where
@@ -17,9 +17,12 @@ pub record ReadsHead (bytes : List ℕ) (h : Head) : Type 0 where
   pub active : number_at bytes 16 ≡ h.active
   pub used : number_at bytes 20 ≡ h.used
   pub level : number_at bytes 24 ≡ level_word h.level
+  pub serial : number_at bytes 28 ≡ serial_word h.serial
+  pub told : IsNextSerial h.serial
 
--- a volume may have so many segments and inode numbers, and this segment active with so many of its blocks used
-pub record IsInRange (segments inodes active used : ℕ) : Type 0 where
+-- a volume may have so many segments and inode numbers, this segment active with so many of its blocks used, and this
+-- serial for the next summary
+pub record IsInRange (segments inodes active used : ℕ) (serial : Option ℕ) : Type 0 where
   pub segments_least : least_segments ≤ segments
   pub segments_most : segments ≤ most_segments
   pub inodes_least : least_inodes ≤ inodes
@@ -27,10 +30,11 @@ pub record IsInRange (segments inodes active used : ℕ) : Type 0 where
   pub active_inside : active < segments
   pub begun : log_start active ≤ used
   pub within : used ≤ SEGMENT_BLOCKS
+  pub told : IsNextSerial serial
 
 -- such a head
 abbrev pub MayHead : Head → Type 0
-MayHead h = IsInRange h.segments h.inodes h.active h.used
+MayHead h = IsInRange h.segments h.inodes h.active h.used h.serial
 
 -- where the ifile begins behind the blocks, by the head's number of segments
 abbrev pub ifile_place : List ℕ → ℕ

@@ -1,5 +1,5 @@
 -- The bytes of an image.
-use Rattle.std.specs.Prelude.{◌≡◌, ℕ, List, ◌++◌, length, replicate}
+use Rattle.std.specs.Prelude.{◌≡◌, ℕ, List, ◌++◌, Option, None, Some, length, replicate}
 use Rattle.std.specs.List.{flat_map}
 use Rattle.lfs_types.specs.declared.level.Level.{Level}
 use Rattle.lfs_types.specs.declared.level.Level.TheVariants.{PermanentlyInsecure, Insecure, Secure, HighlySecure}
@@ -15,12 +15,18 @@ level_word Insecure = 1
 level_word Secure = 2
 level_word HighlySecure = 3
 
+-- the serial of the next summary as a number: 0 where summaries have none
+abbrev pub serial_word : Option ℕ → ℕ
+serial_word None = 0
+serial_word (Some serial) = serial
+
 -- The head, one block: LFSI, the form, how many segments and inode numbers there are, the active segment and how many
--- of its blocks are used, and the securelevel; zeros fill it up.
+-- of its blocks are used, the securelevel, and the serial of the next summary; zeros fill it up.
 unfoldable pub head_bytes : Head → List ℕ
 head_bytes h =
     u32_bytes 0x4c46_5349 ++ u32_bytes 1 ++ u32_bytes h.segments ++ u32_bytes h.inodes
-    ++ u32_bytes h.active ++ u32_bytes h.used ++ u32_bytes (level_word h.level) ++ replicate 484 0
+    ++ u32_bytes h.active ++ u32_bytes h.used ++ u32_bytes (level_word h.level) ++ u32_bytes (serial_word h.serial)
+    ++ replicate 480 0
 
 -- what the head tells of a log and a securelevel
 abbrev pub head_of : LogParts → Level → Head
@@ -30,6 +36,7 @@ head_of l level = record {
   active = l.memory.active;
   used = l.memory.fill;
   level = level;
+  serial = l.memory.serial;
 }
 
 -- what stands behind the head: each block from address 0 on, the ifile

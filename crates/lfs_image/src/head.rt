@@ -4,11 +4,11 @@ ghost use Rattle.std.specs.Prelude.{◌≡◌, ◌+◌, ◌<◌, ◌≤◌, ◌�
 ghost use Rattle.lfs_types.specs.declared.block.TheConstants.{BLOCK_SIZE};
 ghost use Rattle.lfs_types.specs.declared.limits.TheConstants.{SEGMENT_BLOCKS};
 ghost use Rattle.lfs_types.specs.Ranges.{least_inodes, least_segments, most_inodes, most_segments};
-ghost use Rattle.lfs_segments.specs.Memory.{log_start};
+ghost use Rattle.lfs_segments.specs.Memory.{IsNextSerial, log_start};
 ghost use Rattle.lfs_ifile.specs.Layout.{number_at};
 ghost use Rattle.lfs_image.specs.Faults.{IsImageFaultOf};
 ghost use Rattle.lfs_image.specs.Heads.{MayHead, ReadsHead};
-ghost use Rattle.lfs_image.specs.Image.{head_bytes, head_of, level_word};
+ghost use Rattle.lfs_image.specs.Image.{head_bytes, head_of, level_word, serial_word};
 
 use crate::fault::ImageFault;
 use byteorder::{BigEndian, ByteOrder};
@@ -37,6 +37,8 @@ pub(crate) struct Head {
     pub(crate) used: u32,
     /// The securelevel.
     pub(crate) level: Level,
+    /// The serial that the next summary gets, where summaries have serials.
+    pub(crate) serial: Option<u32>,
 }
 
 impl Head {
@@ -50,6 +52,7 @@ impl Head {
             active: log.active(),
             used: log.next_address() - log.active() * SEGMENT_BLOCKS,
             level,
+            serial: log.serial(),
         }
     }
 
@@ -65,6 +68,7 @@ impl Head {
         BigEndian::write_u32(&mut block[16..20], self.active);
         BigEndian::write_u32(&mut block[20..24], self.used);
         BigEndian::write_u32(&mut block[24..28], level_word(self.level));
+        BigEndian::write_u32(&mut block[28..32], serial_word(self.serial));
         block
     }
 
@@ -122,6 +126,7 @@ fn numbers_of(bytes: &[u8]) -> Result<Head, ImageFault>
         active: word(bytes, 16),
         used: word(bytes, 20),
         level,
+        serial: serial_from(word(bytes, 28)),
     })
 }
 
@@ -213,4 +218,22 @@ fn level_from(word: u32) -> Option<Level>
         3 => Some(Level::HighlySecure),
         _ => None,
     }
+}
+
+/// The serial as a number, 0 where there is none.
+fn serial_word(serial: Option<u32>) -> u32
+    ensures { result ≡ serial_word serial }
+{
+    match serial {
+        Some(serial) => serial,
+        None => 0,
+    }
+}
+
+/// The serial of a number.
+fn serial_from(word: u32) -> Option<u32>
+    ensures word { serial_word result ≡ word }
+    ensures told { IsNextSerial result }
+{
+    if word == 0 { None } else { Some(word) }
 }

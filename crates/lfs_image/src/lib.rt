@@ -10,5 +10,5 @@ mod saving;
 mod tests;
 
 pub use fault::ImageFault;
-pub use loading::load;
+pub use loading::{load, read_blocks};
 pub use saving::save;

@@ -21,8 +21,8 @@ use lfs_fsck::{LogFault, check_log};
 use lfs_ifile::{Ifile, IfileFault};
 use lfs_log::Log;
 use lfs_logstore::LogStore;
+use lfs_parts::parts::Parts;
 use lfs_segments::segments::{SEGMENT_BLOCKS, Segments};
-use lfs_staging::parts::Parts;
 use lfs_types::block::{BLOCK_SIZE, Block, ZERO_BLOCK};
 use lfs_types::level::Level;
 use std::alloc::{AllocError, Global};
@@ -120,7 +120,7 @@ fn read_log(alloc: Global, head: &Head, bytes: &[u8]) -> Result<Log, ImageFault>
     check_length(head, bytes)?;
     let count = head.segments * SEGMENT_BLOCKS;
     let blocks = read_blocks(alloc, &bytes[BLOCK_SIZE..], count)?;
-    let Some(segments) = Segments::over(blocks, head.active, head.used) else {
+    let Some(segments) = Segments::over_as(blocks, head.active, head.used, head.serial) else {
         unreachable!()
     };
     let ifile = read_ifile(alloc, BLOCK_SIZE + BLOCK_SIZE * count as usize, bytes)?;
@@ -147,7 +147,11 @@ fn check_length(head: &Head, bytes: &[u8]) -> Result<(), ImageFault>
 }
 
 /// So many blocks, with which some bytes begin.
-fn read_blocks(alloc: Global, bytes: &[u8], count: u32) -> Result<Vec<Block>, AllocError>
+///
+/// # Errors
+///
+/// A growth was refused.
+pub fn read_blocks(alloc: Global, bytes: &[u8], count: u32) -> Result<Vec<Block>, AllocError>
     requires { BLOCK_SIZE * count ≤ length bytes.now }
     ensures many { IfOk result (λ blocks. length blocks.items ≡ count) }
     ensures each { IfOk result (λ blocks. All (λ block. length block ≡ BLOCK_SIZE) blocks.items) }

@@ -1,6 +1,7 @@
 //! An image by hand, and what is loaded from it.
 
 use crate::{ImageFault, load, save};
+use lfs_fsck::LogFault;
 use lfs_log::Log;
 use lfs_logstore::LogStore;
 use lfs_types::level::Level;
@@ -35,6 +36,17 @@ fn image_of_a_new_log(rt: HostRuntime) {
     expect_at(&rt, &image, 197_132, &[0, 0, 0, 0, 0, 0, 0, 2]);
 }
 
+#[test]
+fn image_tells_the_next_serial(rt: HostRuntime) {
+    let log = Log::format_as(rt.alloc(), 6, 16, Some(258))
+        .ok()
+        .expect(&rt, "a log");
+    let mut image = Vec::new(rt.alloc());
+    save(&log, Level::Secure, &mut image).expect(&rt, "an image");
+    expect_at(&rt, &image, 24, &[0, 0, 0, 2, 0, 0, 1, 2]);
+    expect_at(&rt, &image, 32, &[0; 480]);
+}
+
 /// The image of a new volume of 6 segments and 16 inode numbers.
 fn fresh(rt: &impl Abort, alloc: Global) -> Vec<u8> {
     let params = Params {
@@ -45,6 +57,22 @@ fn fresh(rt: &impl Abort, alloc: Global) -> Vec<u8> {
     };
     let mut image = Vec::new(alloc);
     match LogStore::format(alloc, params) {
+        Ok(store) => save(&store.parts().log, Level::Secure, &mut image).expect(rt, "an image"),
+        Err(_) => panic!(rt; "no store"),
+    }
+    image
+}
+
+/// The image of such a volume whose summaries have serials.
+fn fresh_with_serials(rt: &impl Abort, alloc: Global) -> Vec<u8> {
+    let params = Params {
+        segments: 6,
+        inodes: 16,
+        frames: 32,
+        journal: 1,
+    };
+    let mut image = Vec::new(alloc);
+    match LogStore::format_with_serials(alloc, params) {
         Ok(store) => save(&store.parts().log, Level::Secure, &mut image).expect(rt, "an image"),
         Err(_) => panic!(rt; "no store"),
     }
@@ -87,6 +115,25 @@ fn image_of_a_new_volume_is_loaded(rt: HostRuntime) {
 }
 
 #[test]
+fn image_with_serials_is_loaded(rt: HostRuntime) {
+    let image = fresh_with_serials(&rt, rt.alloc());
+    // The next serial; the summary of the root's record, with serial 1.
+    expect_at(&rt, &image, 28, &[0, 0, 0, 2]);
+    let summary = [
+        0x4c, 0x46, 0x53, 0x53, 0, 0, 0, 0, 0, 1, 0, 1, 0, 0, 0, 1, 0, 0, 0, 0, 0, 0, 0, 0, 0xff,
+        0xff, 0xff, 0xff,
+    ];
+    expect_at(&rt, &image, 1024, &summary);
+    let Ok((store, level)) = load(rt.alloc(), &image, 32) else {
+        panic!(rt; "not loaded");
+    };
+    assert_eq!(rt; store.parts().log.serial(), Some(2));
+    let mut again = Vec::new(rt.alloc());
+    save(&store.parts().log, level, &mut again).expect(&rt, "an image");
+    assert!(rt; again == image);
+}
+
+#[test]
 fn bytes_of_a_head_are_told(rt: HostRuntime) {
     let mut image = fresh(&rt, rt.alloc());
     let alloc = rt.alloc();
@@ -102,7 +149,10 @@ fn bytes_of_a_head_are_told(rt: HostRuntime) {
     expect_told(&rt, alloc, &mut image, 23, 65, used);
     let level = ImageFault::Securelevel { number: 4 };
     expect_told(&rt, alloc, &mut image, 27, 4, level);
-    expect_told(&rt, alloc, &mut image, 28, 1, ImageFault::Gap);
+    // Its summaries would have serials, and the first one has none.
+    let fault = LogFault::Unfinished { segment: 0 };
+    expect_told(&rt, alloc, &mut image, 31, 1, ImageFault::Log { fault });
+    expect_told(&rt, alloc, &mut image, 32, 1, ImageFault::Gap);
 }
 
 #[test]
