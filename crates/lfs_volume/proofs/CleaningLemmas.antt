@@ -84,7 +84,7 @@ IsStep-cleaned from old new level es limit caller call answer outcome j is comes
   };
   leveled = j.at_level;
   space = λ no. absurd no;
-  clean = subst (λ o. IfSome o (λ (x : CleanerOutcome). new.clean ≤ old.clean + cleans (Cleaner (act_of call) x)))
-      comes is.told;
+  clean = λ none. subst (λ o. IfSome o (λ (x : CleanerOutcome). new.clean ≤ old.clean + cleans (Cleaner (act_of call) x)))
+      comes (is.told none);
   shape = shape_stays answer old new is.leaves;
 }

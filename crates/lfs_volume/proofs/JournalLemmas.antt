@@ -4,12 +4,12 @@
 -- entries before (`world_after-append`). An answer for want of memory changes nothing and isn't entered
 -- (`IsJournal-same`); a NoSpace must come with few clean segments, where those that the cleaner made since are counted
 -- off (`IsShort-append`), so an event that cleans must tell how many.
-use Rattle.std.proofs.Common.{◌≡◌, ℕ, ◌+◌, ◌<◌, ◌≤◌, List, [], ◌∷◌, ◌++◌, length, Some, inr, true, false, refl, sym, ap}
+use Rattle.std.proofs.Common.{◌≡◌, ℕ, ◌+◌, ◌<◌, ◌≤◌, List, [], ◌∷◌, ◌++◌, length, Some, inl, inr, true, false, refl, sym, ap}
 use Rattle.std.proofs.Common.{subst, ◌∙◌, arith, length-append}
 use Rattle.std.specs.Prelude.{Result, Ok, Err, OnErr, OnOk}
 use Rattle.lfs_types.specs.Caller.{Caller}
 use Rattle.lfs_types.specs.Shown.{IsList, ServesList}
-use Rattle.lfs_types.specs.StoreStates.{Follows, Shape, StoreState}
+use Rattle.lfs_types.specs.StoreStates.{Follows, MayLackSpace, Shape, StoreState}
 use Rattle.lfs_types.specs.Tree.{World, opening_world}
 use Rattle.lfs_types.specs.declared.answer.Answer.{Answer}
 use Rattle.lfs_types.specs.declared.answer.Answer.TheVariants.{Served, Denied, Refused}
@@ -69,7 +69,7 @@ beginning_journal from s level limit begins = record {
   shown = begins.shown;
   at_level = begins.at_level;
   within = omega arith;
-  space = tt;
+  space = λ none. tt;
 }
 
 -- a journal that takes no more entries
@@ -104,6 +104,11 @@ cleans-none : (event : Event) → IsNoSpace event → cleans event ≡ 0
 cleans-none (User request answer) short = refl
 cleans-none (Cleaner kind outcome) short = absurd short
 
+-- with few clean segments, where no growth is refused past a share
+few_clean : (s : StoreState) → MayLackSpace s → s.shape.has_share ≡ false → s.clean ≤ 2
+few_clean s (inl few) none = few
+few_clean s (inr share) none = absurd (cc)
+
 IsShort-append : (clean : ℕ) (es : List Entry) (e : Entry) → IsShort clean es → (IsNoSpace e.event → clean ≤ 2)
     → IsShort (clean + cleans e.event) (es ++ e ∷ [])
 IsShort-append clean [] e short few = (
@@ -130,7 +135,9 @@ IsJournal-same from old new level level_after es limit j stays follows = record 
   at_level = subst (λ (s : Shape). (world_after s.numbers es from).level ≡ level_after) (sym follows.shape) (j.at_level
       ∙ sym stays.at_level);
   within = j.within;
-  space = IsShort-fewer old.clean new.clean es follows.clean j.space;
+  space = λ none.
+      let was = subst (λ (s : Shape). s.has_share ≡ false) follows.shape none in
+      IsShort-fewer old.clean new.clean es (follows.clean was) (j.space was);
 }
 
 -- an answer that is entered is one that may be
@@ -157,9 +164,9 @@ entered_event s w caller request (Refused NoInodes) o h = refl
 entered_event s w caller request (Refused DirectoryFull) o h = refl
 entered_event s w caller request (Refused JournalFull) o h = absurd o
 
--- NoSpace comes with few clean segments
+-- NoSpace comes only where a change may lack space
 entered_space : (s : StoreState) (w : World) (caller : Caller) (request : Request) (answer : Answer)
-    → IsOutcome s w caller request answer → answer ≡ Refused NoSpace → s.clean ≤ 2
+    → IsOutcome s w caller request answer → answer ≡ Refused NoSpace → MayLackSpace s
 entered_space s w caller request answer o e = (subst (IsOutcome s w caller request) e o).2
 
 -- the journal with an entry more
@@ -181,8 +188,10 @@ IsJournal-entered from old new level level_after es limit session caller event j
           (sym step.shape)
           (ap (λ (v : World). v.level) leads ∙ step.leveled);
       within = simp length-append (omega arith);
-      space = IsShort-fewer (old.clean + cleans event) new.clean (es ++ entry ∷ []) step.clean
-          (IsShort-append old.clean es entry j.space step.space);
+      space = λ none.
+          let was = subst (λ (s : Shape). s.has_share ≡ false) step.shape none in
+          IsShort-fewer (old.clean + cleans event) new.clean (es ++ entry ∷ []) (step.clean was)
+          (IsShort-append old.clean es entry (j.space was) (λ no. few_clean old (step.space no) was));
     }
 
 -- an answered call is a step, where memory was not wanting
@@ -199,7 +208,7 @@ IsStep-answered from old new level level_after es limit caller request answer j 
       leaves = a.leaves w j.shown;
       leveled = a.leveled w j.at_level;
       space = entered_space old w caller request answer o;
-      clean = omega (arith, a.follows.clean);
+      clean = λ none. let fewer = a.follows.clean none in omega (arith, fewer);
       shape = a.follows.shape;
     }
 

@@ -26,8 +26,8 @@ use Rattle.lfs_calls.specs.Volumes.{IsVolume}
 -- JournalFull exactly where the journal has its limit, and then the store is as before; else the answer has its cause
 -- over the store as it was, which shows the journal's world. A call that is served leaves the entries of directories in
 -- their places, and a Sync nothing waiting; one that isn't leaves the content; one that looks, that a rule denies or
--- that wants a number, room for a name or the journal's room leaves the whole state of the store as it was; and no more
--- segments are clean.
+-- that wants a number, room for a name or the journal's room leaves the whole state of the store as it was; and the
+-- state that is left is a later one (`Follows`).
 pub record IsCallMade {F : Type 0} (state : F → StoreState) (is_settled : F → Type 0) (limit : ℕ) (from : World)
     (journal : List Entry) (old : F) (caller : Caller) (request : Request) (answer : Answer) (new : F) : Type 0 where
   pub full : (answer ≡ Refused JournalFull) ↔ (length journal ≡ limit)

@@ -1,5 +1,6 @@
 -- What a cleaner's call is answered over a store, and how it leaves the store.
-use Rattle.std.specs.Prelude.{◌≡◌, ◌≢◌, ◌⊎◌, ℕ, ◌+◌, ◌^◌, ◌<◌, ◌≤◌, List, Option, None, Some, Result, Ok, Err, IfSome, length}
+use Rattle.std.specs.Prelude.{◌≡◌, ◌≢◌, ◌⊎◌, ℕ, ◌+◌, ◌^◌, ◌<◌, ◌≤◌, false, List, Option, None, Some, Result, Ok, Err, IfSome}
+use Rattle.std.specs.Prelude.{length}
 use Rattle.lfs_types.specs.Caller.{Caller}
 use Rattle.lfs_types.specs.Cleaned.{CleanerCalls, with_clean_segment}
 use Rattle.lfs_types.specs.StoreStates.{Follows, StoreState}
@@ -79,7 +80,7 @@ reclaim_answer (Some outcomes.Denied) = Denied not_superuser
 reclaim_answer (Some (outcomes.Fault fault)) = Fault fault
 reclaim_answer (Some (outcomes.Done count)) = Cleaned
 
--- how a cleaner's answer leaves the clean segments: one more where it made a segment clean, else no more than before
+-- how a cleaner's answer leaves a store: with one more clean segment where it made a segment clean, else as a later state
 abbrev pub CleansOnly : CleanerAnswer → StoreState → StoreState → Type 0
 CleansOnly Cleaned old new = new ≡ with_clean_segment old
 CleansOnly answer old new = Follows old new
@@ -89,13 +90,14 @@ abbrev pub IsCounted : CleanerAnswer → Type 0
 IsCounted (Ifile bytes) = length bytes < 2 ^ 32
 IsCounted answer = Unit {0}
 
--- a cleaner's call was answered so over a store: its outcome may come, the content stays, and no more segments became
--- clean than its event tells
+-- a cleaner's call was answered so over a store: its outcome may come, the content stays, and, where no growth is refused
+-- past a share, no more segments became clean than its event tells
 pub record IsCleaned (old new : StoreState) (caller : Caller) (call : CleanerCall)
     (answer : CleanerAnswer) : Type 0 where
   pub outcome : IfSome (outcome_of answer)
       (IsCleaning old.shape.numbers old.shape.segments caller (kind_of (act_of call)))
   pub content : new.content ≡ old.content
   pub leaves : CleansOnly answer old new
-  pub told : IfSome (outcome_of answer) (λ outcome. new.clean ≤ old.clean + cleans (Cleaning (act_of call) outcome))
+  pub told : old.shape.has_share ≡ false
+      → IfSome (outcome_of answer) (λ outcome. new.clean ≤ old.clean + cleans (Cleaning (act_of call) outcome))
   pub counted : IsCounted answer

@@ -1,8 +1,8 @@
 -- What the journal of a volume over a store is, and how a step leaves a store and a level.
-use Rattle.std.specs.Prelude.{◌≡◌, ℕ, ◌+◌, ◌<◌, ◌≤◌, List, length}
+use Rattle.std.specs.Prelude.{◌≡◌, ℕ, ◌+◌, ◌<◌, ◌≤◌, false, List, length}
 use Rattle.lfs_types.specs.Caller.{Caller}
 use Rattle.lfs_types.specs.Shown.{ServesList}
-use Rattle.lfs_types.specs.StoreStates.{Follows, StoreState}
+use Rattle.lfs_types.specs.StoreStates.{Follows, MayLackSpace, StoreState}
 use Rattle.lfs_types.specs.Tree.{World}
 use Rattle.lfs_types.specs.declared.answer.Answer.{Answer}
 use Rattle.lfs_types.specs.declared.answer.Answer.TheVariants.{Served, Denied, Refused}
@@ -38,24 +38,26 @@ AtPresent state v P =
     Since (state v.since) v.since_level (λ from. P (world_after (state v.store).shape.numbers v.journal from))
 
 -- The journal of a volume over a store in this state, at this level, that began in this world: it is a legal run from
--- there to the world that store and level show, which is a tree; it is no longer than its limit; and a call refused for
--- want of space stands in it only where at most two of the segments that are clean now weren't made clean after it.
+-- there to the world that store and level show, which is a tree; it is no longer than its limit; and, where no growth is
+-- refused past a share, a call refused for want of space stands in it only where at most two of the segments that are
+-- clean now weren't made clean after it.
 pub record IsJournal (from : World) (s : StoreState) (level : Level) (entries : List Entry) (limit : ℕ) : Type 0 where
   pub legal : IsLegal s.shape.numbers s.shape.segments entries from
   pub shown : IsVolume s (world_after s.shape.numbers entries from)
   pub at_level : (world_after s.shape.numbers entries from).level ≡ level
   pub within : length entries ≤ limit
-  pub space : IsShort s.clean entries
+  pub space : s.shape.has_share ≡ false → IsShort s.clean entries
 
 -- A step over a store that shows this world: it may happen there, store and level show the world that it leaves,
--- NoSpace comes only with at most two clean segments, and no more segments become clean than the event tells.
+-- NoSpace comes only where a change may lack space, and, where no growth is refused past a share, no more segments become
+-- clean than the event tells.
 pub record IsStep (old new : StoreState) (level_after : Level) (w : World) (caller : Caller)
     (event : Event) : Type 0 where
   pub happens : IsEvent old.shape.numbers old.shape.segments w caller event
   pub leaves : IsVolume new (after_event old.shape.numbers w caller event)
   pub leveled : (after_event old.shape.numbers w caller event).level ≡ level_after
-  pub space : IsNoSpace event → old.clean ≤ 2
-  pub clean : new.clean ≤ old.clean + cleans event
+  pub space : IsNoSpace event → MayLackSpace old
+  pub clean : old.shape.has_share ≡ false → new.clean ≤ old.clean + cleans event
   pub shape : new.shape ≡ old.shape
 
 -- A journal became this one by an entry of this event: from wherever it began, over each store and level whose journal
@@ -84,8 +86,8 @@ level_left level request (Refused resource) = level
 
 -- A user's call was answered so over a store and a level: the answer has its cause, store and level show the world that
 -- it leaves, a served call leaves the entries of directories in their places, a call that isn't served or lists changes
--- neither content nor level, one that looks or asks the store for no changes leaves the whole state as it was, and no
--- more segments are clean.
+-- neither content nor level, one that looks or asks the store for no changes leaves the whole state as it was, and the
+-- state that is left is a later one (`Follows`).
 pub record IsAnswered (old new : StoreState) (level level_after : Level) (caller : Caller) (request : Request)
     (answer : Answer) : Type 0 where
   pub outcome : InWorld old (λ w. w.level ≡ level → IsOutcome old w caller request answer)

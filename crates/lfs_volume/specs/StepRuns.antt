@@ -19,7 +19,8 @@ use Rattle.lfs_volume.specs.Cleanings.{Cleaner, CleansOnly, IsCleanerAnswer}
 
 -- A call was answered so behind a journal, and led from one store to another: a user's as it is made alone, one that
 -- changes files as the store said; a cleaner's JournalFull exactly where the journal has its limit, and then the store is
--- as before, else as the store's call answers. No segment becomes clean but by the cleaner's call that tells so.
+-- as before, else as the store's call answers. Where no growth is refused past a share, no segment becomes clean but by
+-- the cleaner's call that tells so.
 abbrev pub IsActMade : {F : Type 0} → Cleaner F → ℕ → World → List Entry → F → Caller → Act → StepAnswer → F → Type 0
 IsActMade r limit from journal old caller (acts.User request) (User answer) new =
     IsCallAsked r.state r.is_settled r.said limit from journal old caller request answer new

@@ -1,5 +1,6 @@
-use Rattle.std.proofs.Common.{rules, ◌≡◌, ◌∷◌, [], ◌++◌, sym, ap, subst, ◌∙◌, arith, length-append, append_assoc}
+use Rattle.std.proofs.Common.{rules, ◌≡◌, false, ◌∷◌, [], ◌++◌, sym, ap, subst, ◌∙◌, arith, length-append, append_assoc}
 use Rattle.std.proofs.lemmas.Grind.{common_steps}
+use Rattle.lfs_types.specs.StoreStates.{Shape}
 use Rattle.lfs_model.specs.Runs.{kept, kept_entry}
 use Rattle.lfs_model.proofs.RunLemmas.{kept-append}
 use Rattle.lfs_volume.specs.CallRuns.{AreCallsAsked, IsCallAsked}
@@ -65,7 +66,10 @@ loop-session-preserved g c =
       since_level = made.since_level ∙ i.since_level;
       limit = made.limit ∙ i.limit;
       follows = record {
-        clean = omega (arith, made.follows.clean, i.follows.clean);
+        clean = λ none.
+            let before = i.follows.clean none in
+            let behind = made.follows.clean (subst (λ (s : Shape). s.has_share ≡ false) (sym i.follows.shape) none) in
+            omega (arith, before, behind);
         shape = made.follows.shape
             ∙ i.follows.shape;
       };
