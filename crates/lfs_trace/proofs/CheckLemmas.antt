@@ -94,8 +94,7 @@ pub ruled : (s : StoreState) (w : World) (caller : Caller) (request : Request) (
 ruled s w caller request (Served shown) plain v o enough = (tt, o.0)
 ruled s w caller request (Denied denial) plain v o enough = (tt, o)
 ruled s w caller request (Refused NoMemory) plain v o enough = absurd (enough refl)
-ruled s w caller request (Refused NoSpace) plain v o enough = let few = o.2 in let many = plain.roomy in
-    absurd (omega (arith, few, many))
+ruled s w caller request (Refused NoSpace) plain v o enough = absurd (plain.roomy o.2)
 ruled s w caller request (Refused NoInodes) plain v o enough = (tt, o)
 ruled s w caller request (Refused DirectoryFull) plain v o enough = absurd (uncrowded s w plain v request o.0.1.1)
 ruled s w caller request (Refused JournalFull) plain v o enough = absurd o

@@ -9,13 +9,13 @@ use Rattle.std.specs.Prelude.{◌↔◌, Result, Ok, Err, IsTrue, IsFalse, IsSom
 use Rattle.std.specs.FinMap as map
 use Rattle.std.proofs.Math.Seq.{take-suc}
 use Rattle.std.proofs.lemmas.Bool.{cases_lt}
-use Rattle.lfs_flatfiles.specs.FlatFiles.{content_of}
+use Rattle.lfs_flatfiles.specs.FlatFiles.{content_of, state_of}
 use Rattle.lfs_flatfiles.specs.declared.flat_files.FlatFiles.{FlatFiles}
 use Rattle.lfs_flatfiles.specs.declared.flat_files.place.Place.{Place}
 use Rattle.lfs_flatfiles.proofs.FlatFilesContent.{get-content_of, file_in_past}
 use Rattle.lfs_types.proofs.Somewhere.{none_there, there_of}
 use Rattle.lfs_types.specs.Caller.{Caller}
-use Rattle.lfs_types.specs.StoreStates.{StoreState}
+use Rattle.lfs_types.specs.StoreStates.{MayLackSpace, StoreState}
 use Rattle.lfs_types.specs.Tree.{World, opening_world}
 use Rattle.lfs_types.specs.declared.answer.Answer.TheVariants.{Refused}
 use Rattle.lfs_types.specs.declared.answer.Resource.{Resource}
@@ -47,6 +47,11 @@ in_places places n used =
       | inl within ↦ within
       | inr past ↦ none_there _ f.value (get-content_of places n ∙ file_in_past places n (omega (arith, past))) f.is
     ]
+
+-- a change of a plain store never lacks space
+pub never_lacks : (numbers : ℕ) (places : List Place) → ¬ (MayLackSpace (state_of numbers places))
+never_lacks numbers places (inl few) = absurd (omega (arith, few))
+never_lacks numbers places (inr share) = absurd (cc)
 
 -- ---- standing still
 

@@ -4,7 +4,7 @@ use Rattle.std.specs.Prelude.{IsErrOf, IsSome, OnErr, OnOk, vec_len}
 use Rattle.std.specs.FinMap as map
 use Rattle.lfs_types.specs.Caller.{Caller}
 use Rattle.lfs_types.specs.Ranges.{most_inodes}
-use Rattle.lfs_types.specs.StoreStates.{StoreState}
+use Rattle.lfs_types.specs.StoreStates.{MayLackSpace, StoreState}
 use Rattle.lfs_types.specs.Tree.{World, opening_world}
 use Rattle.lfs_types.specs.declared.answer.Answer.{Answer}
 use Rattle.lfs_types.specs.declared.answer.Served.{Served as Shown}
@@ -52,7 +52,7 @@ pub record StandsAt (s : Standing) (w : World) : Type 0 where
 pub record IsPlain (s : StoreState) : Type 0 where
   pub few : s.shape.numbers ≤ most_inodes
   pub within : (n : ℕ) → IsSome (map.get s.content n) → n < s.shape.numbers
-  pub roomy : 2 < s.clean
+  pub roomy : ¬ (MayLackSpace s)
 
 -- What a checker says of the next entry's event. In each world at which it stood: where nothing is said against the
 -- event, it may happen, and the checker stands at the world that it leaves; where it is said to be illegal, it may not;
