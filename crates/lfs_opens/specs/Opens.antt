@@ -1,18 +1,19 @@
 -- Files that are open, and what is kept of those that were removed meanwhile.
 use Rattle.std.specs.Prelude.{◌≡◌, ℕ, ◌+◌, ◌-◌, ◌*◌, ◌/◌, ◌<◌, ◌==◌, ◌&&◌, min, if◌then◌else◌, Bool, false}
 use Rattle.std.specs.Prelude.{List, [], ◌∷◌, length, Option, None, Some, option_map, slice_index_or, slice_set}
+use Rattle.std.specs.Prelude.{Result, Ok, Err}
 use Rattle.lfs_types.specs.Caller.{Caller}
 use Rattle.lfs_types.specs.Stored.{slice_of}
 use Rattle.lfs_fuse_wire.specs.declared.attributes.Time.{Time}
 use Rattle.lfs_fuse_wire.specs.declared.flags.AccessMode.{AccessMode}
 use Rattle.lfs_fuse_wire.specs.Said.{Said, create, getattr, opening, read, release, setattr, write}
-use Rattle.lfs_fuse_reply.specs.declared.attr.Attr.{Attr}
 use Rattle.lfs_fuse_calls.specs.Asked.{reads, writes}
 use Rattle.lfs_fuse_calls.specs.Telling.{TellsBytes, or_else}
 use Rattle.lfs_fuse_calls.specs.declared.told.Told.{Told}
 use Rattle.lfs_fuse_calls.specs.declared.told.Told.TheVariants as told
-use Rattle.lfs_opens.specs.Rewritten.{TellsCut, TellsWritten, attr_behind, end_of, new_size, part_of}
+use Rattle.lfs_opens.specs.Rewritten.{LacksRoom, TellsCut, TellsWritten, attr_behind, end_of, new_size, part_of}
 use Rattle.lfs_opens.specs.declared.kept.Kept.{Kept}
+use Rattle.lfs_opens.specs.declared.kept.Lack.{Lack}
 use Rattle.lfs_opens.specs.declared.kept.OpenFile.{OpenFile}
 
 -- ---- handles
@@ -88,45 +89,47 @@ kept_by message files node caller = None
 
 -- The bytes that are asked for, at most 131,072, or want of memory; how many were written, at most as many; the
 -- attributes, or those behind a change of the length. A write or a change of the length may be refused: where the file
--- would be too large, or for want of room or memory.
-abbrev pub TellsKept : Time → Caller → Said → Kept → Told → Type 0
-TellsKept now caller (read fields) kept reply =
+-- would be too large, or where room or memory lacks.
+abbrev pub TellsKept : Time → Caller → ℕ → List (Option OpenFile) → Said → Kept → Told → Type 0
+TellsKept now caller node files (read fields) kept reply =
     TellsBytes (slice_of kept.bytes.items fields.offset (min fields.size 131072)) reply
-TellsKept now caller (write fields bytes) kept reply =
-    TellsWritten (length (part_of bytes)) (end_of (write fields bytes) (length kept.bytes.items)) reply
-TellsKept now caller (setattr fields) kept reply =
-    let end = end_of (setattr fields) (length kept.bytes.items) in
-    TellsCut (attr_behind now caller end kept.attr) end reply
-TellsKept now caller message kept reply = reply ≡ told.Attr kept.attr
+TellsKept now caller node files (write fields bytes) kept reply =
+    let size = length kept.bytes.items in
+    TellsWritten (LacksRoom (write fields bytes) node size files) (length (part_of bytes))
+    (end_of (write fields bytes) size) reply
+TellsKept now caller node files (setattr fields) kept reply =
+    let size = length kept.bytes.items in
+    let end = end_of (setattr fields) size in
+    TellsCut (LacksRoom (setattr fields) node size files) (attr_behind now caller end kept.attr) end reply
+TellsKept now caller node files message kept reply = reply ≡ told.Attr kept.attr
 
 -- who opened the file of a slot, if that is open on this node
 abbrev pub opener_of : Option OpenFile → ℕ → Option Caller
 opener_of None node = None
 opener_of (Some file) node = if file.node == node then Some file.cred else None
 
-abbrev pub with_kept : Option Kept → Option OpenFile → Option OpenFile
-with_kept kept None = None
-with_kept kept (Some file) = Some (record file { kept = kept })
+-- a slot, with this kept for its file, or this told of why nothing is
+abbrev pub with_kept : Option Kept → Option Lack → Option OpenFile → Option OpenFile
+with_kept kept lack None = None
+with_kept kept lack (Some file) = Some (record file { kept = kept; lack = lack })
 
--- how many bytes are kept
-abbrev pub length_kept : Option Kept → ℕ
-length_kept None = 0
-length_kept (Some kept) = length kept.bytes.items
+-- a slot, with what was seen of its file kept, or with why nothing was seen
+abbrev pub with_seen : Result Kept Lack → Option OpenFile → Option OpenFile
+with_seen (Ok kept) file = with_kept (Some kept) None file
+with_seen (Err lack) file = with_kept None (Some lack) file
 
-abbrev pub size_of : Option OpenFile → ℕ
-size_of None = 0
-size_of (Some file) = length_kept file.kept
-
-abbrev pub bytes_kept : List (Option OpenFile) → ℕ
-bytes_kept [] = 0
-bytes_kept (file ∷ files) = size_of file + bytes_kept files
+-- why nothing is kept of the file of a slot, if a reason was told
+abbrev pub lack_of : Option OpenFile → Option Lack
+lack_of None = None
+lack_of (Some file) = file.lack
 
 -- ---- what a message makes of the files that are open
 
--- nothing is kept of a file that is open on this node: it wasn't removed
+-- nothing is kept of a file that is open on this node, and no reason is told: it wasn't removed
 abbrev pub unkept : ℕ → Option OpenFile → Option OpenFile
 unkept node None = None
-unkept node (Some file) = if file.node == node then Some (record file { kept = None }) else Some file
+unkept node (Some file) =
+    if file.node == node then Some (record file { kept = None; lack = None }) else Some file
 
 abbrev pub AreUnkept : ℕ → List (Option OpenFile) → List (Option OpenFile) → Type 0
 AreUnkept node before after =
@@ -150,7 +153,8 @@ abbrev pub opened_in : Option ℕ → Option ℕ → AccessMode → Caller → L
 opened_in None opened access caller files = files
 opened_in (Some slot) None access caller files = files
 opened_in (Some slot) (Some node) access caller files =
-    slice_set files slot (Some (record { node = node; cred = caller; access = access; kept = None }))
+    slice_set files slot
+    (Some (record { node = node; cred = caller; access = access; kept = None; lack = None }))
 
 -- a file that is closed has none, and with it goes what is kept
 abbrev pub closed_at : Option ℕ → List (Option OpenFile) → List (Option OpenFile)

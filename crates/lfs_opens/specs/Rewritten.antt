@@ -1,6 +1,6 @@
 -- What a message makes of a file that was removed while it was open: of the bytes and attributes that are kept of it.
-use Rattle.std.specs.Prelude.{◌≡◌, ℕ, ◌+◌, ◌<◌, ◌≤◌, ◌==◌, ◌||◌, not, if◌then◌else◌, Bool, true, false, ⊤}
-use Rattle.std.specs.Prelude.{List, length, take, Option, None, Some, is_some, option_map, slice_index_or}
+use Rattle.std.specs.Prelude.{◌≡◌, ℕ, ◌+◌, ◌-◌, ◌<◌, ◌≤◌, ◌==◌, ◌||◌, not, if◌then◌else◌, Bool, true, false, ⊤}
+use Rattle.std.specs.Prelude.{List, [], ◌∷◌, length, take, Option, None, Some, is_some, option_map, slice_index_or}
 use Rattle.std.specs.Vec.{vec_capacity}
 use Rattle.lfs_types.specs.Caller.{Caller}
 use Rattle.lfs_types.specs.Splicing.{splice, resized}
@@ -19,6 +19,7 @@ use Rattle.lfs_fuse_calls.specs.Pieces.{put_at}
 use Rattle.lfs_fuse_calls.specs.declared.told.Told.{Told}
 use Rattle.lfs_fuse_calls.specs.declared.told.Told.TheVariants as told
 use Rattle.lfs_opens.specs.declared.kept.Kept.{Kept}
+use Rattle.lfs_opens.specs.declared.kept.Lack.{Lack}
 use Rattle.lfs_opens.specs.declared.kept.OpenFile.{OpenFile}
 
 -- ---- bytes and attributes
@@ -74,12 +75,13 @@ pub record Shown : Type 0 where
   pub attr : Attr
   pub bytes : List ℕ
 
--- a file that is open, with what is kept of it
+-- a file that is open, with what is kept of it, or why nothing is
 pub record ShownFile : Type 0 where
   pub node : ℕ
   pub cred : Caller
   pub access : AccessMode
   pub kept : Option Shown
+  pub lack : Option Lack
 
 abbrev pub shown_kept : Kept → Shown
 shown_kept kept = record { attr = kept.attr; bytes = kept.bytes.items }
@@ -90,6 +92,7 @@ shown_file file = record {
   cred = file.cred;
   access = file.access;
   kept = option_map shown_kept file.kept;
+  lack = file.lack;
 }
 
 abbrev pub shown_slot : Option OpenFile → Option ShownFile
@@ -139,6 +142,38 @@ AreRewritten now caller node message reply before after =
 
 -- ---- room
 
+-- how many bytes are kept
+abbrev pub length_kept : Option Kept → ℕ
+length_kept None = 0
+length_kept (Some kept) = length kept.bytes.items
+
+abbrev pub size_of : Option OpenFile → ℕ
+size_of None = 0
+size_of (Some file) = length_kept file.kept
+
+abbrev pub bytes_kept : List (Option OpenFile) → ℕ
+bytes_kept [] = 0
+bytes_kept (file ∷ files) = size_of file + bytes_kept files
+
+-- how many more are kept, where all that is kept of a node's files gets so many more
+abbrev pub more_kept : ℕ → Option Kept → ℕ
+more_kept more None = 0
+more_kept more (Some kept) = more
+
+abbrev pub more_of : ℕ → ℕ → Option OpenFile → ℕ
+more_of node more None = 0
+more_of node more (Some file) = if file.node == node then more_kept more file.kept else 0
+
+abbrev pub growth_of : ℕ → ℕ → List (Option OpenFile) → ℕ
+growth_of node more [] = 0
+growth_of node more (file ∷ files) = more_of node more file + growth_of node more files
+
+-- there is no room for what a message makes of a node's files, of which one has so many bytes: at most 33,554,432 bytes
+-- are kept in all
+abbrev pub LacksRoom : Said → ℕ → ℕ → List (Option OpenFile) → Type 0
+LacksRoom message node size files =
+    33554432 - bytes_kept files < growth_of node (end_of message size - size) files
+
 -- there is room for what a message makes of bytes
 abbrev pub HasRoomFor : Said → Option Kept → Type 0
 HasRoomFor message None = ⊤
@@ -153,22 +188,22 @@ AllHaveRoom message node files = (slot : ℕ) → HasRoom message node (slice_in
 
 -- ---- what is told
 
--- The errors of a change that isn't made: a file would be too large, which has so many bytes behind it; or there is no
--- room or no memory for it.
-abbrev pub IsWanting : ℕ → Errno → Type 0
-IsWanting end errno.EFBIG = file_max < end
-IsWanting end errno.ENOSPC = ⊤
-IsWanting end errno.ENOMEM = ⊤
-IsWanting end error = ⊥
+-- The errors of a change that isn't made: a file would be too large, which has so many bytes behind it; or room lacks, as
+-- is said; or memory.
+abbrev pub IsWanting : Type 0 → ℕ → Errno → Type 0
+IsWanting Lacks end errno.EFBIG = file_max < end
+IsWanting Lacks end errno.ENOSPC = Lacks
+IsWanting Lacks end errno.ENOMEM = ⊤
+IsWanting Lacks end error = ⊥
 
 -- so many bytes are written up to a place, or none
-abbrev pub TellsWritten : ℕ → ℕ → Told → Type 0
-TellsWritten count end (told.Written written) = (written ≡ count) × (end ≤ file_max)
-TellsWritten count end (told.Error error) = IsWanting end error
-TellsWritten count end reply = ⊥
+abbrev pub TellsWritten : Type 0 → ℕ → ℕ → Told → Type 0
+TellsWritten Lacks count end (told.Written written) = (written ≡ count) × (end ≤ file_max)
+TellsWritten Lacks count end (told.Error error) = IsWanting Lacks end error
+TellsWritten Lacks count end reply = ⊥
 
 -- these are the attributes behind a change to so many bytes, or none is made
-abbrev pub TellsCut : Attr → ℕ → Told → Type 0
-TellsCut attr end (told.Attr given) = (given ≡ attr) × (end ≤ file_max)
-TellsCut attr end (told.Error error) = IsWanting end error
-TellsCut attr end reply = ⊥
+abbrev pub TellsCut : Type 0 → Attr → ℕ → Told → Type 0
+TellsCut Lacks attr end (told.Attr given) = (given ≡ attr) × (end ≤ file_max)
+TellsCut Lacks attr end (told.Error error) = IsWanting Lacks end error
+TellsCut Lacks attr end reply = ⊥

@@ -13,6 +13,19 @@ pub struct Kept {
     pub bytes: Vec<u8>,
 }
 
+/// Why nothing is kept of a file that was removed while it was open.
+#[derive(Clone, Copy, PartialEq, Eq, Debug)]
+pub enum Lack {
+    /// The rules didn't let who opened it read it then.
+    Denied,
+    /// It had more bytes than there was room for.
+    Room,
+    /// The volume showed no file of its inode number.
+    Absent,
+    /// Memory was wanting, or its path is too long for any call.
+    Memory,
+}
+
 /// A file that is open.
 #[derive(Drop)]
 pub struct OpenFile {
@@ -24,4 +37,6 @@ pub struct OpenFile {
     pub(crate) access: AccessMode,
     /// What is kept of it, once it was removed.
     pub(crate) kept: Option<Kept>,
+    /// Why nothing is kept of it, once it was removed.
+    pub(crate) lack: Option<Lack>,
 }

@@ -1,11 +1,12 @@
 //! Files that are open. Of one that is removed its bytes and attributes are kept until it is closed.
 
-ghost use Rattle.std.specs.Prelude.{◌≡◌, ◌-◌, ◌<◌, IfOk, IfSome, IsSome, IsTrue, None, Some, length, option_copied, slice_index_or, slice_set};
+ghost use Rattle.std.specs.Prelude.{◌≡◌, ◌≢◌, ℕ, ◌-◌, ◌<◌, IfOk, IfSome, IsSome, IsTrue, None, Some, false, length, option_copied, slice_index_or, slice_set};
 ghost use Rattle.lfs_fuse_wire.specs.Views.{view};
 ghost use Rattle.lfs_fuse_calls.specs.Asked.{reads, writes};
-ghost use Rattle.lfs_opens.specs.Opens.{AreLeft, AreSettled, AreUnkept, IsFree, NoneIsOpen, bytes_kept, closed_at, file_at_slot, first_kept, first_to_write, handle_of, is_open_to, kept_of, kept_to, node_of, opened_in, opened_on, opener_of, size_of, slot_of, with_kept};
+ghost use Rattle.lfs_opens.specs.Opens.{AreLeft, AreSettled, AreUnkept, IsFree, NoneIsOpen, closed_at, file_at_slot, first_kept, first_to_write, handle_of, is_open_to, kept_of, kept_to, lack_of, node_of, opened_in, opened_on, opener_of, slot_of, unkept, with_kept, with_seen};
+ghost use Rattle.lfs_opens.specs.Rewritten.{bytes_kept, size_of};
 
-use crate::kept::{Kept, OpenFile};
+use crate::kept::{Kept, Lack, OpenFile};
 use lfs_fuse_calls::told::Told;
 use lfs_fuse_wire::flags::AccessMode;
 use lfs_fuse_wire::message::Message;
@@ -150,9 +151,9 @@ fn opener_of(file: &Option<OpenFile>, node: u64) -> Option<Cred>
     }
 }
 
-/// A slot, with this kept for its file.
-fn with_kept(file: Option<OpenFile>, kept: Option<Kept>) -> Option<OpenFile>
-    ensures { result ≡ with_kept kept file }
+/// A slot, with this kept for its file, or this told of why nothing is.
+fn with_kept(file: Option<OpenFile>, kept: Option<Kept>, lack: Option<Lack>) -> Option<OpenFile>
+    ensures { result ≡ with_kept kept lack file }
 {
     match file {
         Some(file) => {
@@ -161,6 +162,7 @@ fn with_kept(file: Option<OpenFile>, kept: Option<Kept>) -> Option<OpenFile>
                 cred,
                 access,
                 kept: old,
+                lack: _,
             } = file;
             drop(old);
             Some(OpenFile {
@@ -168,8 +170,19 @@ fn with_kept(file: Option<OpenFile>, kept: Option<Kept>) -> Option<OpenFile>
                 cred,
                 access,
                 kept,
+                lack,
             })
         }
+        None => None,
+    }
+}
+
+/// Why nothing is kept of the file of a slot, if a reason was told.
+fn lack_of(file: &Option<OpenFile>) -> Option<Lack>
+    ensures { result ≡ lack_of file.now }
+{
+    match file {
+        Some(file) => file.lack,
         None => None,
     }
 }
@@ -189,7 +202,8 @@ fn size_of(file: &Option<OpenFile>) -> usize
 
 /// Whether no file is open.
 fn none_is_open(files: &[Option<OpenFile>]) -> bool
-    ensures { IsTrue result → NoneIsOpen files.now }
+    ensures none { IsTrue result → NoneIsOpen files.now }
+    ensures some { result ≡ false → NoneIsOpen files.now → ⊥ }
 {
     for file in files {
         if file.is_some() {
@@ -277,7 +291,8 @@ impl Opens {
 
     /// Whether no file is open.
     pub fn is_empty(&self) -> bool
-        ensures { IsTrue result → NoneIsOpen self.now.files.items }
+        ensures none { IsTrue result → NoneIsOpen self.now.files.items }
+        ensures some { result ≡ false → NoneIsOpen self.now.files.items → ⊥ }
     {
         none_is_open(self.files.as_slice())
     }
@@ -309,15 +324,36 @@ impl Opens {
         }
     }
 
-    /// Keeps this for the file of a slot, in place of what was kept.
-    pub fn keep(&mut self, slot: usize, kept: Option<Kept>)
+    /// Why nothing is kept of the file of a slot, if a reason was told.
+    pub fn lack(&self, slot: usize) -> Option<Lack>
+        ensures { result ≡ lack_of (slice_index_or self.now.files.items slot None) }
+    {
+        match self.files.as_slice().get(slot) {
+            Some(file) => lack_of(file),
+            None => None,
+        }
+    }
+
+    /// Keeps this for the file of a slot, and tells this reason, in place of what there was.
+    fn replace(&mut self, slot: usize, kept: Option<Kept>, lack: Option<Lack>)
         ensures { self.new.files.items ≡ slice_set self.old.files.items slot
-            (with_kept kept (slice_index_or self.old.files.items slot None)) }
+            (with_kept kept lack (slice_index_or self.old.files.items slot None)) }
     {
         if slot < self.files.len() {
             let file = &mut self.files[slot];
             let old = file.take();
-            *file = with_kept(old, kept);
+            *file = with_kept(old, kept, lack);
+        }
+    }
+
+    /// Keeps what was seen of the file of a slot, in place of what was kept, or else tells why nothing was seen.
+    pub fn keep(&mut self, slot: usize, seen: Result<Kept, Lack>)
+        ensures { self.new.files.items ≡ slice_set self.old.files.items slot
+            (with_seen seen (slice_index_or self.old.files.items slot None)) }
+    {
+        match seen {
+            Ok(kept) => self.replace(slot, Some(kept), None),
+            Err(lack) => self.replace(slot, None, Some(lack)),
         }
     }
 
@@ -347,6 +383,7 @@ impl Opens {
             cred: *cred,
             access,
             kept: None,
+            lack: None,
         });
         Some(slot)
     }
@@ -362,14 +399,24 @@ impl Opens {
         }
     }
 
+    /// Nothing is kept of the file of a slot, if it is open on this node.
+    fn unkeep_at(&mut self, slot: usize, node: u64)
+        ensures here { slice_index_or self.new.files.items slot None
+            ≡ unkept node (slice_index_or self.old.files.items slot None) }
+        ensures others { (s : ℕ) → s ≢ slot → slice_index_or self.new.files.items s None
+            ≡ slice_index_or self.old.files.items s None }
+    {
+        if self.opener(slot, node).is_some() {
+            self.replace(slot, None, None);
+        }
+    }
+
     /// Nothing is kept of files that are open on this node.
     fn unkeep(&mut self, node: u64)
         ensures { AreUnkept node self.old.files.items self.new.files.items }
     {
         for slot in 0..self.files.len() {
-            if self.opener(slot, node).is_some() {
-                self.keep(slot, None);
-            }
+            self.unkeep_at(slot, node);
         }
     }
 

@@ -1,6 +1,6 @@
 //! Writes to files that were removed while they were open: what is kept of them changes, and nothing else does.
 
-ghost use Rattle.std.specs.Prelude.{◌≡◌, ◌≢◌, ℕ, ◌+◌, ◌-◌, ◌<◌, ◌≤◌, ◌++◌, IfErr, IfSome, IsTrue, OnOk, OnErr, None, Some, drop, false, length, option_map, replicate, slice_index_or, take};
+ghost use Rattle.std.specs.Prelude.{◌≡◌, ◌≢◌, ℕ, ◌+◌, ◌-◌, ◌<◌, ◌≤◌, ◌++◌, IfErr, IfSome, IsTrue, List, OnOk, OnErr, Option, None, Some, drop, false, length, option_map, replicate, slice_index_or, take};
 ghost use Rattle.std.specs.Vec.{vec_capacity, vec_len};
 ghost use Rattle.lfs_types.specs.Splicing.{resized, splice};
 ghost use Rattle.lfs_model.specs.Effects.{mode_after};
@@ -8,7 +8,8 @@ ghost use Rattle.lfs_model.specs.Rules.{file_max};
 ghost use Rattle.lfs_fuse_wire.specs.Said.{setattr, write};
 ghost use Rattle.lfs_fuse_wire.specs.Views.{view};
 ghost use Rattle.lfs_fuse_calls.specs.Attrs.{blocks_told};
-ghost use Rattle.lfs_opens.specs.Rewritten.{AllHaveRoom, AreChanged, AreRewritten, AreSame, HasRoom, HasRoomFor, IsWanting, TellsCut, TellsWritten, attr_behind, end_of, file_behind, is_rewrite, kept_behind, new_size, part_of, rewritten, shown_kept, shown_slot, start_of};
+ghost use Rattle.lfs_opens.specs.declared.kept.OpenFile.{OpenFile};
+ghost use Rattle.lfs_opens.specs.Rewritten.{AllHaveRoom, AreChanged, AreRewritten, AreSame, HasRoom, HasRoomFor, IsWanting, LacksRoom, TellsCut, TellsWritten, attr_behind, end_of, file_behind, growth_of, is_rewrite, kept_behind, more_of, new_size, part_of, rewritten, shown_kept, shown_slot, start_of};
 
 use crate::kept::{Kept, OpenFile};
 use crate::opens::Opens;
@@ -229,12 +230,14 @@ fn file_behind(
         cred: opener,
         access,
         kept,
+        lack,
     } = file;
     Some(OpenFile {
         node: own,
         cred: opener,
         access,
         kept: some_behind(now, kept, message, cred),
+        lack,
     })
 }
 
@@ -283,6 +286,7 @@ fn file_with_room(
         cred: opener,
         access,
         kept,
+        lack,
     } = file;
     let (kept, done) = if own == node {
         some_with_room(kept, message)
@@ -294,19 +298,51 @@ fn file_with_room(
         cred: opener,
         access,
         kept,
+        lack,
     };
     (Some(file), done)
 }
 
 /// What is told of a message that writes no bytes into a file of so many.
 fn nothing_told(message: &Message<'_>, size: u64) -> Told
-    ensures tells { TellsWritten 0 (end_of (view message.now) size) result }
+    ensures tells { (node : ℕ) (files : List (Option OpenFile))
+        → TellsWritten (LacksRoom (view message.now) node size files) 0
+        (end_of (view message.now) size) result }
     ensures same { is_rewrite (view message.now) result ≡ false }
 {
     match end_of(message, size) {
         Some(_) => Told::Written(0),
         None => Told::Error(Errno::EFBIG),
     }
+}
+
+/// How many more bytes are kept of a file, where what is kept of a node's files gets so many more.
+fn more_of(file: &Option<OpenFile>, node: u64, more: usize) -> usize
+    ensures { result ≡ more_of node more file.now }
+{
+    match file {
+        Some(file) => {
+            if file.node == node && file.kept.is_some() {
+                more
+            } else {
+                0
+            }
+        }
+        None => 0,
+    }
+}
+
+/// The same of all files, counted up to the largest number.
+fn growth_of(files: &[Option<OpenFile>], node: u64, more: usize) -> usize
+    ensures { result ≤ growth_of node more files.now }
+{
+    let mut rest = files;
+    let mut growth: usize = 0;
+    while let Some((first, behind)) = rest.split_first() {
+        growth = growth.saturating_add(more_of(first, node, more));
+        rest = behind;
+    }
+    growth
 }
 
 impl Opens {
@@ -390,20 +426,6 @@ impl Opens {
         }
     }
 
-    /// How many more bytes are kept of a node's files, where each gets so many more.
-    fn growth(&self, node: u64, more: usize) -> usize {
-        let mut growth: usize = 0;
-        for file in self.files.iter() {
-            if let Some(file) = file
-                && file.node == node
-                && file.kept.is_some()
-            {
-                growth = growth.saturating_add(more);
-            }
-        }
-        growth
-    }
-
     /// Changes what is kept of each file on a node, as a message says, where one of them has so many bytes.
     ///
     /// # Errors
@@ -421,13 +443,15 @@ impl Opens {
             self.old.files.items self.new.files.items) }
         ensures same { OnErr result (AreSame self.old.files.items self.new.files.items) }
         ensures fits { OnOk result (end_of (view message.now) size ≤ file_max) }
-        ensures error { IfErr result (IsWanting (end_of (view message.now) size)) }
+        ensures error { IfErr result (IsWanting
+            (LacksRoom (view message.now) node size self.old.files.items)
+            (end_of (view message.now) size)) }
     {
         let Some(end) = end_of(message, size) else {
             return Err(Errno::EFBIG);
         };
         let more = end.saturating_sub(size) as usize;
-        if more > 0 && self.growth(node, more) > self.room() {
+        if more > 0 && growth_of(self.files.as_slice(), node, more) > self.room() {
             return Err(Errno::ENOSPC);
         }
         if !self.make_room(node, message) {
@@ -447,8 +471,9 @@ impl Opens {
         cred: &Cred,
         size: u64,
     ) -> Told
-        ensures tells { TellsWritten (length (part_of bytes.now))
-            (end_of (write fields.now bytes.now) size) result }
+        ensures tells { TellsWritten
+            (LacksRoom (write fields.now bytes.now) node size self.old.files.items)
+            (length (part_of bytes.now)) (end_of (write fields.now bytes.now) size) result }
         ensures files { AreRewritten now cred.now node (write fields.now bytes.now) result
             self.old.files.items self.new.files.items }
     {
@@ -474,7 +499,8 @@ impl Opens {
         attr: Attr,
         size: u64,
     ) -> Told
-        ensures tells { TellsCut (attr_behind now cred.now (end_of (setattr fields.now) size) attr)
+        ensures tells { TellsCut (LacksRoom (setattr fields.now) node size self.old.files.items)
+            (attr_behind now cred.now (end_of (setattr fields.now) size) attr)
             (end_of (setattr fields.now) size) result }
         ensures files { AreRewritten now cred.now node (setattr fields.now) result
             self.old.files.items self.new.files.items }

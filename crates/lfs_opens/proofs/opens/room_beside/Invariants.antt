@@ -1,5 +1,5 @@
 use Rattle.std.proofs.Common.{◌≡◌, ◌-◌, length}
-use Rattle.lfs_opens.specs.Opens.{bytes_kept}
+use Rattle.lfs_opens.specs.Rewritten.{bytes_kept}
 use Rattle.lfs_opens.proofs.opens.room_beside.Given as goal
 
 abbrev pub invariant-loop-first : goal.invariant-loop-first
