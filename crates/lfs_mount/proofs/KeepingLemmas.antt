@@ -2,37 +2,31 @@
 -- that is opened gets a slot in which none is, and one that is closed goes from its own.
 use Rattle.std.proofs.Common.{◌≡◌, ◌≢◌, ℕ, zero, suc, ◌==◌, Bool, true, false, List, [], ◌∷◌, refl, sym, ap, subst, ◌∙◌, arith}
 use Rattle.std.proofs.Common.{Option, None, Some, IfSome}
-use Rattle.std.specs.Prelude.{option_map, slice_index_or, slice_set, if◌then◌else◌}
+use Rattle.std.specs.Prelude.{◌-◌, option_map, slice_index_or, slice_set, if◌then◌else◌}
 use Rattle.lfs_types.specs.Caller.{Caller}
 use Rattle.lfs_types.specs.StoreStates.{StoreState}
 use Rattle.lfs_volume.specs.Seen.{Seen}
-use Rattle.lfs_nodes.specs.declared.node.Hang.{Hang}
-use Rattle.lfs_nodes.specs.declared.node.Hang.TheVariants.{Root, Gone}
-use Rattle.lfs_nodes.specs.declared.node.Node.{Node}
-use Rattle.lfs_nodes.specs.declared.parts.Parts.{Parts}
+use Rattle.lfs_nodes.specs.declared.node.Hang.TheVariants.{Gone}
 use Rattle.lfs_nodes.specs.declared.place.Place.{Place}
-use Rattle.lfs_nodes.specs.Maps.{node_at}
-use Rattle.lfs_nodes.specs.Nodes.{known, shown}
+use Rattle.lfs_nodes.specs.declared.parts.Parts.{Parts}
+use Rattle.lfs_nodes.specs.Nodes.{known}
 use Rattle.lfs_nodes.specs.Reads.{hang_in}
-use Rattle.lfs_nodes.specs.Places.{place_of}
-use Rattle.lfs_nodes.specs.Ways.{LeadsUp}
 use Rattle.lfs_fuse_wire.specs.Said.{Said, access, batch_forget, create, destroy, flush, forget, fsync, fsyncdir, getattr, init}
 use Rattle.lfs_fuse_wire.specs.Said.{interrupt, ioctl, lookup, mkdir, mknod, opendir, opening, read, readdir, readdirplus, release}
 use Rattle.lfs_fuse_wire.specs.Said.{releasedir, rename, rmdir, setattr, statfs, unknown, unlink, unserved, write}
 use Rattle.lfs_fuse_wire.specs.declared.attributes.Time.{Time}
 use Rattle.lfs_fuse_wire.specs.declared.flags.AccessMode.{AccessMode}
-use Rattle.lfs_fuse_calls.specs.Paths.{IsPathOf}
 use Rattle.lfs_fuse_calls.specs.declared.told.Told.{Told}
 use Rattle.lfs_fuse_calls.specs.declared.told.Told.TheVariants as told
 use Rattle.lfs_mount.specs.Answered.{IsHeard, IsToldDated, IsToldKept}
-use Rattle.lfs_mount.specs.Handled.{hangs_in}
 use Rattle.lfs_mount.specs.Keeping.{AreStillKept, IsStillKept, StaysUnless, ChangesIf, is_closed, is_slot}
 use Rattle.lfs_opens.specs.Opens.{AreLeft, AreSettled, AreUnkept, IsFree}
-use Rattle.lfs_mount.specs.Leaving.{ArePreparedFor, IsLeaving, IsPrepared, OnKept}
+use Rattle.lfs_mount.specs.Leaving.{ArePreparedFor, IsLeaving, IsPrepared, OnKept, is_taken, taken_at}
 use Rattle.lfs_opens.specs.Opens.{closed_at, opened_in, opened_on, opener_of, slot_of, unkept}
 use Rattle.lfs_mount.specs.Leaving.{kept_for, OnOpener, IsKept}
-use Rattle.lfs_opens.specs.Rewritten.{AreChangedIf, Shown, file_behind, is_rewrite, kept_behind, shown_slot}
+use Rattle.lfs_opens.specs.Rewritten.{AreChangedIf, Shown, bytes_kept, file_behind, is_rewrite, kept_behind, shown_slot}
 use Rattle.lfs_opens.specs.declared.kept.Kept.{Kept}
+use Rattle.lfs_opens.specs.declared.kept.Lack.{Lack}
 use Rattle.lfs_opens.specs.declared.kept.OpenFile.{OpenFile}
 use Rattle.lfs_mount.specs.declared.mount.Beside.{Beside}
 use Rattle.lfs_mount.specs.declared.mount.Sizes.{Sizes}
@@ -52,54 +46,46 @@ set_elsewhere (f ∷ files) zero (suc slot) file other = refl
 set_elsewhere (f ∷ files) (suc at) zero file other = refl
 set_elsewhere (f ∷ files) (suc at) (suc slot) file other = set_elsewhere files at slot file (λ e. other (ap suc e))
 
--- ---- a node that is gone has no path
+-- ---- a node that is taken from its place isn't gone
 
-gone_leads : (hangs : ℕ → Option Hang) (node : ℕ) (names : List (List ℕ)) (top : ℕ) → LeadsUp hangs node names top
-    → hangs top ≡ Some Root → hangs node ≡ Some Gone → ⊥
-gone_leads hangs node [] top up root gone =
-    let here : hangs node ≡ Some Root = ap hangs up ∙ root in absurd (cc)
-gone_leads hangs node (name ∷ names) top up root gone =
-    let place : Place = record { parent = up.0; name = name } in
-    let none : None ≡ Some place = subst (λ h. place_of h ≡ Some place) gone up.1 in absurd (cc)
-
-gone_path : (hangs : ℕ → Option Hang) (node : ℕ) (path : List (List ℕ)) → IsPathOf hangs node None path
-    → hangs node ≡ Some Gone → ⊥
-gone_path hangs node path is gone =
-    let leads = is.down.0 in gone_leads hangs node leads.names leads.top leads.up leads.holding.1 gone
-
-hang_shown : (o : Option Node) → hang_in (option_map shown o) ≡ hang_in o
-hang_shown None = refl
-hang_shown (Some n) = refl
+gone_stays : (place : Option Place) → is_taken place (Some Gone) ≡ true → ⊥
+gone_stays None h = absurd (cc)
+gone_stays (Some place) h = absurd (cc)
 
 leaving_other : (nodes : Parts) (node : ℕ) (message : Said) (id own : ℕ) → IsLeaving nodes node message id
     → hang_in (known nodes own) ≡ Some Gone → own ≢ id
 leaving_other nodes node message id own leaves gone same =
-    gone_path (hangs_in nodes) id leaves.path leaves.leads
-    (sym (hang_shown (node_at nodes.table id)) ∙ subst (λ n. hang_in (known nodes n) ≡ Some Gone) same gone)
+    gone_stays (taken_at node message) (subst (λ h. is_taken (taken_at node message) h ≡ true)
+    (subst (λ n. hang_in (known nodes n) ≡ Some Gone) same gone) leaves)
 
 -- ---- the last look
 
-prepared_other : (Looks : Caller → Kept → Type 0) (b : Bool) (file : OpenFile) (after : Option OpenFile)
-    → b ≡ false
-    → OnOpener (if b then Some file.cred else None) (λ caller. IsKept (Looks caller) (Some file) after) (after ≡ Some file)
+prepared_other : (Looks : Caller → Kept → Type 0) (Lacks : Caller → Lack → Type 0) (b : Bool) (file : OpenFile)
+    (after : Option OpenFile) → b ≡ false
+    → OnOpener (if b then Some file.cred else None) (λ caller. IsKept (Looks caller) (Lacks caller) (Some file) after)
+    (after ≡ Some file)
     → after ≡ Some file
-prepared_other Looks true file after other h = absurd (cc)
-prepared_other Looks false file after other h = h
+prepared_other Looks Lacks true file after other h = absurd (cc)
+prepared_other Looks Lacks false file after other h = h
 
 not_node : (own id : ℕ) → own ≢ id → (own == id) ≡ false
 not_node own id other = grind arith
 
-prepared_stays : (Looks : ℕ → Caller → Kept → Type 0) (nodes : Parts) (node : ℕ) (message : Said) (left : Option ℕ)
+prepared_stays : (Looks : ℕ → Caller → Kept → Type 0) (Lacks : ℕ → ℕ → Caller → Lack → Type 0)
+    (nodes : Parts) (node : ℕ) (message : Said) (left : Option ℕ)
     (before prepared : List (Option OpenFile)) (slot : ℕ) (file : OpenFile)
-    → IfSome left (IsLeaving nodes node message) → ArePreparedFor Looks left before prepared
+    → IfSome left (IsLeaving nodes node message) → ArePreparedFor Looks Lacks left before prepared
     → slice_index_or before slot None ≡ Some file → hang_in (known nodes file.node) ≡ Some Gone
     → slice_index_or prepared slot None ≡ Some file
-prepared_stays Looks nodes node message None before prepared slot file leaves h is gone =
+prepared_stays Looks Lacks nodes node message None before prepared slot file leaves h is gone =
     subst (λ files. slice_index_or files slot None ≡ Some file) (sym h) is
-prepared_stays Looks nodes node message (Some id) before prepared slot file leaves h is gone =
+prepared_stays Looks Lacks nodes node message (Some id) before prepared slot file leaves h is gone =
     let other = leaving_other nodes node message id file.node leaves gone in
-    prepared_other (Looks id) (file.node == id) file (slice_index_or prepared slot None) (not_node file.node id other)
-    (subst (λ o. IsPrepared (Looks id) id o (slice_index_or prepared slot None)) is (h slot))
+    let at = h slot in
+    let Lacks_here = Lacks id (33554432 - bytes_kept at.between) in
+    prepared_other (Looks id) Lacks_here (file.node == id) file (slice_index_or prepared slot None)
+    (not_node file.node id other)
+    (subst (λ o. IsPrepared (Looks id) Lacks_here id o (slice_index_or prepared slot None)) is at.prepared)
 
 -- ---- what a message makes of the slots
 
@@ -135,7 +121,7 @@ module _ (nodes : Parts) (node : ℕ) (before after : List (Option OpenFile)) (s
       (set_elsewhere before at slot _ other ∙ is)
 
   unkept_other : (id : ℕ) (b : Bool) → b ≡ false
-      → (if b then Some (record file { kept = None }) else Some file) ≡ Some file
+      → (if b then Some (record file { kept = None; lack = None }) else Some file) ≡ Some file
   unkept_other id true h = absurd (cc)
   unkept_other id false h = refl
 
@@ -227,7 +213,7 @@ module _ {F : Type 0} (state : F → StoreState) (is_settled : F → Type 0) (si
       after.opens.files.items slot file is h.opens
   still_kept message None slot file is gone h =
       left_stays nodes node h.prepared after.opens.files.items slot file
-      (prepared_stays _ nodes node message h.left before.opens.files.items h.prepared slot file h.leaves h.kept is gone)
+      (prepared_stays _ _ nodes node message h.left before.opens.files.items h.prepared slot file h.leaves h.kept is gone)
       caller h.told h.left h.slot (others nodes node message file.node h.left h.leaves gone)
       (free_slot _ h.prepared h.slot h.free) message h.opens
 

@@ -15,7 +15,7 @@ use Rattle.lfs_fuse_calls.specs.declared.told.Told.{Told}
 use Rattle.lfs_mount.specs.Answered.{IsToldKept}
 use Rattle.lfs_opens.specs.Opens.{file_at_slot, kept_to, slot_of}
 use Rattle.lfs_mount.specs.Leaving.{OnKept, kept_for, where_gone}
-use Rattle.lfs_opens.specs.Rewritten.{AreRewritten, TellsWritten, end_of, part_of}
+use Rattle.lfs_opens.specs.Rewritten.{AreRewritten, LacksRoom, TellsWritten, end_of, part_of}
 use Rattle.lfs_opens.specs.declared.kept.Kept.{Kept}
 use Rattle.lfs_mount.specs.declared.mount.Beside.{Beside}
 
@@ -42,7 +42,8 @@ pub write_kept : {F : Type 0} (now : Time) (caller : Caller) (nodes : Parts) (no
     (bytes : List ℕ) (kept : Kept) (reply : Told) (old : Seen F) (before after : Beside)
     → hang_in (known nodes node) ≡ Some Gone
     → kept_to writes (file_at_slot before.opens.files.items (slot_of fields.handle)) node caller ≡ Some kept
-    → TellsWritten (length (part_of bytes)) (end_of (write fields bytes) (length kept.bytes.items)) reply
+    → TellsWritten (LacksRoom (write fields bytes) node (length kept.bytes.items) before.opens.files.items)
+    (length (part_of bytes)) (end_of (write fields bytes) (length kept.bytes.items)) reply
     → AreRewritten now caller node (write fields bytes) reply before.opens.files.items after.opens.files.items
     → after.times ≡ before.times → after.loans ≡ before.loans
     → OnKept (kept_for nodes (write fields bytes) before.opens.files.items node caller)

@@ -1,11 +1,12 @@
 pub mod GoingLemmas
+pub mod GoneLemmas
 pub mod HandledLemmas
 pub mod JudgedLemmas
 pub mod KeepingLemmas
 pub mod KeptLemmas
+pub mod LookedForLemmas
 pub mod LookedLemmas
 pub mod MakingLemmas
-pub mod OpensLemmas
 pub mod PartLemmas
 pub mod RoomLemmas
 pub mod SettleLemmas

@@ -58,3 +58,12 @@ read_on w caller path bytes piece after off here e whole is =
     subst (λ l. l ++ drop (length l) (bytes_at w path) ≡ bytes_at w path) (sym is)
     (next_part bytes piece (bytes_at w path) 4096 whole
     (here.piece ∙ ap (λ n. take 4096 (drop n (bytes_at w path))) e))
+
+-- more than there is room for was read already
+pub room_lacks : (w : World) (path : List (List ℕ)) (bytes : List ℕ) (room : ℕ)
+    → bytes ++ drop (length bytes) (bytes_at w path) ≡ bytes_at w path → room < length bytes
+    → room < length (bytes_at w path)
+room_lacks w path bytes room whole more =
+    let all : length bytes + length (drop (length bytes) (bytes_at w path)) ≡ length (bytes_at w path) =
+    sym (length-append bytes (drop (length bytes) (bytes_at w path))) ∙ ap length whole in
+    omega (arith, all, more)

@@ -23,7 +23,7 @@ use Rattle.lfs_mount.specs.Handled.{IsTold, hangs_in}
 use Rattle.lfs_mount.specs.Keeping.{AreStillKept}
 use Rattle.lfs_opens.specs.Loans.{due, noted, with_handle}
 use Rattle.lfs_opens.specs.Opens.{AreLeft, IsFree, TellsKept}
-use Rattle.lfs_mount.specs.Leaving.{ArePreparedFor, IsLastLook, IsLeaving, IsLooked, OnKept}
+use Rattle.lfs_mount.specs.Leaving.{ArePreparedFor, IsLastLook, IsLastMiss, IsLeaving, IsLooked, NoneLeaves, OnKept}
 use Rattle.lfs_opens.specs.Opens.{opened_on}
 use Rattle.lfs_mount.specs.Leaving.{kept_for}
 use Rattle.lfs_opens.specs.Rewritten.{AreRewritten}
@@ -56,10 +56,11 @@ pub record IsToldDated {F : Type 0} (state : F → StoreState) (is_settled : F �
   pub between : Seen F
   pub left : Option ℕ
   pub leaves : IfSome left (IsLeaving nodes node message)
+  pub none : left ≡ None → NoneLeaves nodes node message before.opens.files.items
   pub looked : IsLooked state old between
   pub prepared : List (Option OpenFile)
-  pub kept : ArePreparedFor (IsLastLook state before.times.stamps.items nodes old) left
-      before.opens.files.items prepared
+  pub kept : ArePreparedFor (IsLastLook state before.times.stamps.items nodes old)
+      (IsLastMiss state nodes old) left before.opens.files.items prepared
   pub is : IsTold state is_settled sizes (due message before.loans.modes.items (live_in nodes node))
       caller
       (hangs_in nodes) node message told between new
@@ -76,7 +77,7 @@ pub record IsToldDated {F : Type 0} (state : F → StoreState) (is_settled : F �
 -- says, and no call is made. All else beside the volume stays.
 pub record IsToldKept {F : Type 0} (now : Time) (caller : Caller) (node : ℕ) (message : Said)
     (reply : Told) (old new : Seen F) (before after : Beside) (kept : Kept) : Type 0 where
-  pub tells : TellsKept now caller message kept reply
+  pub tells : TellsKept now caller node before.opens.files.items message kept reply
   pub none : new ≡ old
   pub times : after.times ≡ before.times
   pub loans : after.loans ≡ before.loans

@@ -27,7 +27,7 @@ use Rattle.lfs_fuse_wire.specs.declared.opcode.Unserved.TheVariants as kinds
 use Rattle.lfs_fuse_reply.specs.declared.errno.Errno.{Errno}
 use Rattle.lfs_fuse_reply.specs.declared.errno.Errno.TheVariants as errno
 use Rattle.lfs_fuse_calls.specs.Asked.{asked, asked_to_set}
-use Rattle.lfs_fuse_calls.specs.Paths.{IsPathOf}
+use Rattle.lfs_fuse_calls.specs.Paths.{IsPathError, IsPathOf}
 use Rattle.lfs_fuse_calls.specs.Telling.{Says, SaysOr, attr_told, named_in, refusal_in, seen_in}
 use Rattle.lfs_fuse_calls.specs.declared.telling.Seen.{Seen as Stat}
 use Rattle.lfs_fuse_calls.specs.declared.told.Told.{Told}
@@ -50,8 +50,12 @@ IsNodeFault errno.ENOMEM = ⊤
 IsNodeFault errno.EIO = ⊤
 IsNodeFault error = ⊥
 
+abbrev pub IsFault : Errno → Told → Type 0
+IsFault error reply = reply ≡ told.Error error
+
+-- what is told where no call was made: that there is no path to make it of, or no memory
 abbrev pub IsError : Told → Type 0
-IsError (told.Error error) = ⊤
+IsError (told.Error error) = IsPathError error
 IsError reply = ⊥
 
 -- The calls that a message asks for were made, of a path that leads to its node, or to the name that it tells there.
@@ -73,7 +77,7 @@ pub record IsCalled {F : Type 0} (state : F → StoreState) (is_settled : F → 
   pub made : AreAskedAndMade state is_settled caller hangs node message answers old new
   pub says : Says caller message answers reply
 
--- No call was made, and an error is told.
+-- No call was made, and an error is told: why there is no path, or that memory is wanting.
 pub record IsRefused {F : Type 0} (reply : Told) (old new : Seen F) : Type 0 where
   pub error : IsError reply
   pub none : new ≡ old
@@ -235,12 +239,17 @@ pub record AreFlagsSet {F : Type 0} (state : F → StoreState) (is_settled : F �
   pub made : IsCalledOnce state is_settled caller (Chflags path (flags_wanted present bits))
       (SaysFlagged reply) old new
 
+-- no call was made: there are no such flags, or no path
+pub record AreFlagsLeft {F : Type 0} (reply : Told) (old new : Seen F) : Type 0 where
+  pub error : IsFault errno.EOPNOTSUPP reply ⊎ IsError reply
+  pub none : new ≡ old
+
 abbrev pub IsFlagsSet : {F : Type 0} → (F → StoreState) → (F → Type 0) → Caller → (ℕ → Option Hang)
     → ℕ → ℕ → Told
     → Seen F → Seen F → ℕ → Type 0
 IsFlagsSet state is_settled caller hangs node bits reply old new present =
     AreFlagsSet state is_settled caller hangs node bits present reply old new
-    ⊎ IsRefused reply old new
+    ⊎ AreFlagsLeft reply old new
 
 -- what a control call does, of a node that has these flags
 abbrev pub GoesOnFlags : {F : Type 0} → (F → StoreState) → (F → Type 0) → Caller → (ℕ → Option Hang)
@@ -298,9 +307,6 @@ pub record IsIdle {F : Type 0} (Tells : Told → Type 0) (reply : Told)
   pub tells : Tells reply
   pub none : new ≡ old
 
-abbrev pub IsFault : Errno → Told → Type 0
-IsFault error reply = reply ≡ told.Error error
-
 -- what is told of a message of which nothing but the kind is read
 abbrev pub error_of_unserved : Unserved → Errno
 error_of_unserved kinds.Link = errno.EPERM
@@ -309,6 +315,13 @@ error_of_unserved kinds.Readlink = errno.EINVAL
 error_of_unserved kinds.Fallocate = errno.EOPNOTSUPP
 error_of_unserved kinds.Tmpfile = errno.EOPNOTSUPP
 error_of_unserved kind = errno.ENOSYS
+
+-- entries of a directory, which must be open, or want of memory for them
+abbrev pub TellsEntries : Told → Type 0
+TellsEntries (told.Bytes bytes) = ⊤
+TellsEntries (told.Error errno.EBADF) = ⊤
+TellsEntries (told.Error errno.ENOMEM) = ⊤
+TellsEntries reply = ⊥
 
 abbrev pub IsOpening : Told → Type 0
 IsOpening (told.Init given) = ⊤
@@ -374,7 +387,7 @@ IsTold state is_settled sizes due caller hangs node (init fields) reply old new 
 IsTold state is_settled sizes due caller hangs node statfs reply old new =
     IsIdle (IsRoom sizes (state old.store)) reply old new
 IsTold state is_settled sizes due caller hangs node (readdir fields) reply old new =
-    IsIdle (λ _. ⊤) reply old new
+    IsIdle TellsEntries reply old new
 IsTold state is_settled sizes due caller hangs node (readdirplus fields) reply old new =
     IsIdle (IsFault errno.ENOSYS) reply old new
 IsTold state is_settled sizes due caller hangs node (unserved kind) reply old new =

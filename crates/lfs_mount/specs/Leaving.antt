@@ -1,6 +1,8 @@
 -- What is kept of a file that is removed while it is open: the last look at it, and which messages it answers.
-use Rattle.std.specs.Prelude.{◌≡◌, ℕ, Bool, false}
-use Rattle.std.specs.Prelude.{List, Option, None, Some, IfSome, option_map, slice_index_or}
+use Rattle.std.specs.Prelude.{◌≡◌, ◌≢◌, ⊤, ℕ, ◌-◌, ◌<◌, ◌≤◌, Bool, true, false, length}
+use Rattle.std.specs.Prelude.{List, Option, None, Some, Result, Ok, Err, IfErr, IfOk, IfSome, option_map, slice_index_or}
+use Rattle.lfs_types.specs.declared.answer.Answer.{Answer}
+use Rattle.lfs_types.specs.declared.answer.Answer.TheVariants as answers
 use Rattle.lfs_types.specs.Caller.{Caller}
 use Rattle.lfs_types.specs.StoreStates.{StoreState}
 use Rattle.lfs_types.specs.Stored.{shown_attrs, slice_of}
@@ -16,7 +18,8 @@ use Rattle.lfs_nodes.specs.declared.node.Hang.{Hang}
 use Rattle.lfs_nodes.specs.declared.node.Hang.TheVariants.{Gone}
 use Rattle.lfs_nodes.specs.declared.parts.Parts.{Parts}
 use Rattle.lfs_nodes.specs.Maps.{same_place}
-use Rattle.lfs_nodes.specs.Nodes.{known, place_at}
+use Rattle.lfs_nodes.specs.Nodes.{is_at, known, place_at}
+use Rattle.lfs_nodes.specs.declared.place.Place.{Place}
 use Rattle.lfs_nodes.specs.Reads.{hang_in, number_in}
 use Rattle.lfs_fuse_wire.specs.declared.naming.RenameMode.{RenameMode}
 use Rattle.lfs_fuse_wire.specs.declared.naming.RenameMode.TheVariants as mode
@@ -27,10 +30,13 @@ use Rattle.lfs_fuse_calls.specs.Paths.{IsPathOf}
 use Rattle.lfs_stamps.specs.Times.{dated_attr}
 use Rattle.lfs_stamps.specs.declared.stamps.Stamps.{Stamps}
 use Rattle.lfs_mount.specs.Handled.{hangs_in}
+use Rattle.lfs_opens.specs.Rewritten.{bytes_kept}
 use Rattle.lfs_opens.specs.declared.kept.Kept.{Kept}
+use Rattle.lfs_opens.specs.declared.kept.Lack.{Lack}
+use Rattle.lfs_opens.specs.declared.kept.Lack.TheVariants as lack
 use Rattle.lfs_opens.specs.declared.kept.OpenFile.{OpenFile}
 use Rattle.lfs_mount.specs.declared.sight.Sight.{Sight}
-use Rattle.lfs_opens.specs.Opens.{kept_by, opener_of, with_kept}
+use Rattle.lfs_opens.specs.Opens.{kept_by, node_of, opener_of, with_seen}
 
 abbrev pub where_gone : Option Hang → Option Kept → Option Kept
 where_gone (Some Gone) kept = kept
@@ -52,24 +58,31 @@ pub record IsLooked {F : Type 0} (state : F → StoreState) (old new : Seen F) :
   pub unchanged : state new.store ≡ state old.store
   pub others : new ≡ record old { store = new.store }
 
--- a rename that replaces: not one of a name to itself
-abbrev pub OnReplacing : RenameMode → Bool → Type 0 → Type 0
-OnReplacing mode.Replace false Replaces = Replaces
-OnReplacing how is_same Replaces = ⊥
+-- the place of a rename that replaces: not one of a name to itself
+abbrev pub where_replacing : RenameMode → Bool → Place → Option Place
+where_replacing mode.Replace false place = Some place
+where_replacing how is_same place = None
 
--- a message is about to take away what hangs at a path
-abbrev pub IsTaken : (ℕ → Option Hang) → ℕ → Said → List (List ℕ) → Type 0
-IsTaken hangs node (unlink name) path = IsPathOf hangs node (Some name) path
-IsTaken hangs node (rename fields name new_name) path =
-    OnReplacing fields.mode (same_place (place_at node name) (place_at fields.directory new_name))
-    (IsPathOf hangs fields.directory (Some new_name) path)
-IsTaken hangs node message path = ⊥
+-- the place from which a message is about to take what hangs there
+abbrev pub taken_at : ℕ → Said → Option Place
+taken_at node (unlink name) = Some (place_at node name)
+taken_at node (rename fields name new_name) =
+    where_replacing fields.mode (same_place (place_at node name) (place_at fields.directory new_name))
+    (place_at fields.directory new_name)
+taken_at node message = None
+
+abbrev pub is_taken : Option Place → Option Hang → Bool
+is_taken None hang = false
+is_taken (Some place) hang = is_at place hang
 
 -- a message is about to take a node from its place
-pub record IsLeaving (nodes : Parts) (node : ℕ) (message : Said) (id : ℕ) : Type 0 where
-  pub path : List (List ℕ)
-  pub leads : IsPathOf (hangs_in nodes) id None path
-  pub taken : IsTaken (hangs_in nodes) node message path
+abbrev pub IsLeaving : Parts → ℕ → Said → ℕ → Type 0
+IsLeaving nodes node message id = is_taken (taken_at node message) (hang_in (known nodes id)) ≡ true
+
+-- no file is open on a node that a message is about to take from its place
+abbrev pub NoneLeaves : Parts → ℕ → Said → List (Option OpenFile) → Type 0
+NoneLeaves nodes node message files =
+    (slot : ℕ) → IfSome (node_of (slice_index_or files slot None)) (λ id. IsLeaving nodes node message id → ⊥)
 
 -- the bytes of the file of a path
 abbrev pub bytes_at : World → List (List ℕ) → List ℕ
@@ -100,46 +113,118 @@ pub record IsSeenSo {F : Type 0} (state : F → StoreState) (old : Seen F) (sigh
   pub bytes : AtPresent state old (λ w. IsReadBy w caller sight.path kept.bytes.items)
   pub attr : kept.attr ≡ sight.attr
 
+-- An answer of a look from which no bytes come: the call was denied, or memory was wanting.
+abbrev pub IsAnswerOf : Lack → Answer → Type 0
+IsAnswerOf lack.Denied (answers.Denied denial) = ⊤
+IsAnswerOf lack.Memory answer = ⊤
+IsAnswerOf why answer = ⊥
+
+-- Why somebody sees nothing of the file of a path: the rules don't let him read it now, it has more bytes than there is
+-- room for, or memory is wanting.
+abbrev pub IsUnseen : {F : Type 0} → (F → StoreState) → Seen F → List (List ℕ) → ℕ → Caller → Lack → Type 0
+IsUnseen state old path room caller lack.Denied =
+    AtPresent state old (λ w. decide w caller (Read path 0 0) ≢ None)
+IsUnseen state old path room caller lack.Room = AtPresent state old (λ w. room < length (bytes_at w path))
+IsUnseen state old path room caller lack.Absent = ⊥
+IsUnseen state old path room caller lack.Memory = ⊤
+
 -- a path leads to a node, and these are the attributes of its file
 pub record IsSight {F : Type 0} (state : F → StoreState) (times : List Stamps) (nodes : Parts)
-    (old : Seen F) (sight : Sight) : Type 0 where
-  pub leads : IsPathOf (hangs_in nodes) sight.node None sight.path
+    (old : Seen F) (node : ℕ) (sight : Sight) : Type 0 where
+  pub leads : IsPathOf (hangs_in nodes) node None sight.path
   pub number : ℕ
-  pub row : number_in (known nodes sight.node) ≡ Some number
+  pub row : number_in (known nodes node) ≡ Some number
   pub attr : Some sight.attr
       ≡ option_map (attr_left times number) (shown_attrs (state old.store).content number)
+
+-- the store shows no file of a node's inode number
+abbrev pub IsAbsent : {F : Type 0} → (F → StoreState) → Parts → Seen F → ℕ → Type 0
+IsAbsent state nodes old node =
+    IfSome (number_in (known nodes node)) (λ number. shown_attrs (state old.store).content number ≡ None)
+
+-- where a node's file is to be looked at, or why it can't be: the store shows none, or memory for its path is wanting
+abbrev pub IsSightOr : {F : Type 0} → (F → StoreState) → List Stamps → Parts → Seen F → ℕ
+    → Result Sight Lack → Type 0
+IsSightOr state times nodes old node (Ok sight) = IsSight state times nodes old node sight
+IsSightOr state times nodes old node (Err lack.Absent) = IsAbsent state nodes old node
+IsSightOr state times nodes old node (Err lack.Memory) = ⊤
+IsSightOr state times nodes old node (Err why) = ⊥
+
+-- what somebody sees of a file there, or why he sees nothing of it
+abbrev pub IsSeenIn : {F : Type 0} → (F → StoreState) → Seen F → Result Sight Lack → Caller → Kept → Type 0
+IsSeenIn state old (Ok sight) caller kept = IsSeenSo state old sight caller kept
+IsSeenIn state old (Err lacking) caller kept = ⊥
+
+abbrev pub IsUnseenIn : {F : Type 0} → (F → StoreState) → Seen F → Result Sight Lack → ℕ → Caller → Lack
+    → Type 0
+IsUnseenIn state old (Ok sight) room caller why = IsUnseen state old sight.path room caller why
+IsUnseenIn state old (Err lacking) room caller why = why ≡ lacking
 
 -- The last look at a node's file as somebody: its path leads to it, the bytes are all those that he may read now, and the
 -- attributes are its own.
 pub record IsLastLook {F : Type 0} (state : F → StoreState) (times : List Stamps) (nodes : Parts)
     (old : Seen F) (node : ℕ) (caller : Caller) (kept : Kept) : Type 0 where
   pub sight : Sight
-  pub at : sight.node ≡ node
-  pub is : IsSight state times nodes old sight
+  pub is : IsSight state times nodes old node sight
   pub looks : IsSeenSo state old sight caller kept
 
--- a slot in which something may have been kept for who opened its file
-pub record IsKept (Looks : Kept → Type 0) (before after : Option OpenFile) : Type 0 where
-  pub kept : Option Kept
-  pub is : after ≡ with_kept kept before
-  pub looks : IfSome kept Looks
+-- a path leads to a node, and somebody sees nothing of its file
+pub record IsMiss {F : Type 0} (state : F → StoreState) (nodes : Parts) (old : Seen F) (node room : ℕ)
+    (caller : Caller) (why : Lack) : Type 0 where
+  pub path : List (List ℕ)
+  pub leads : IsPathOf (hangs_in nodes) node None path
+  pub lacks : IsUnseen state old path room caller why
+
+-- Why nothing is kept of a node's file for somebody: the rules don't let him read it now, it has more bytes than there is
+-- room for, or the store shows no file of its number; or memory is wanting, which no clause sees.
+abbrev pub IsLastMiss : {F : Type 0} → (F → StoreState) → Parts → Seen F → ℕ → ℕ → Caller → Lack → Type 0
+IsLastMiss state nodes old node room caller lack.Denied =
+    IsMiss state nodes old node room caller lack.Denied
+IsLastMiss state nodes old node room caller lack.Room = IsMiss state nodes old node room caller lack.Room
+IsLastMiss state nodes old node room caller lack.Absent = IsAbsent state nodes old node
+IsLastMiss state nodes old node room caller lack.Memory = ⊤
+
+-- a slot in which what was seen is kept for who opened its file, or why nothing was seen
+pub record IsKept (Looks : Kept → Type 0) (Lacks : Lack → Type 0)
+    (before after : Option OpenFile) : Type 0 where
+  pub seen : Result Kept Lack
+  pub is : after ≡ with_seen seen before
+  pub looks : IfOk seen Looks
+  pub lacks : IfErr seen Lacks
 
 abbrev pub OnOpener : Option Caller → (Caller → Type 0) → Type 0 → Type 0
 OnOpener (Some caller) Keeps Stays = Keeps caller
 OnOpener None Keeps Stays = Stays
 
 -- a slot, before and after the last look: what is kept is what who opened the file sees; other slots stay
-abbrev pub IsPrepared : (Caller → Kept → Type 0) → ℕ → Option OpenFile → Option OpenFile → Type 0
-IsPrepared Looks node before after =
-    OnOpener (opener_of before node) (λ caller. IsKept (Looks caller) before after) (after ≡ before)
+abbrev pub IsPrepared : (Caller → Kept → Type 0) → (Caller → Lack → Type 0) → ℕ → Option OpenFile
+    → Option OpenFile → Type 0
+IsPrepared Looks Lacks node before after =
+    OnOpener (opener_of before node) (λ caller. IsKept (Looks caller) (Lacks caller) before after)
+    (after ≡ before)
+
+-- the files as they are when a slot is looked for: the slots before it are done
+pub record AreBetween (slot : ℕ) (before after between : List (Option OpenFile)) : Type 0 where
+  pub done : (s : ℕ) → s < slot → slice_index_or between s None ≡ slice_index_or after s None
+  pub rest : (s : ℕ) → slot ≤ s → slice_index_or between s None ≡ slice_index_or before s None
+
+-- a slot so, for which there was the room that what is kept then leaves of 33,554,432 bytes
+pub record IsLookedFor (Looks : Caller → Kept → Type 0) (Lacks : ℕ → Caller → Lack → Type 0)
+    (node slot : ℕ) (before after : List (Option OpenFile)) : Type 0 where
+  pub between : List (Option OpenFile)
+  pub at : AreBetween slot before after between
+  pub prepared : IsPrepared Looks (Lacks (33554432 - bytes_kept between)) node
+      (slice_index_or before slot None) (slice_index_or after slot None)
 
 -- each slot so
-abbrev pub ArePrepared : (Caller → Kept → Type 0) → ℕ → List (Option OpenFile) → List (Option OpenFile) → Type 0
-ArePrepared Looks node before after =
-    (slot : ℕ) → IsPrepared Looks node (slice_index_or before slot None) (slice_index_or after slot None)
+abbrev pub ArePrepared : (Caller → Kept → Type 0) → (ℕ → Caller → Lack → Type 0) → ℕ
+    → List (Option OpenFile) → List (Option OpenFile) → Type 0
+ArePrepared Looks Lacks node before after =
+    (slot : ℕ) → IsLookedFor Looks Lacks node slot before after
 
 -- the same where a node is looked at; else nothing changes
-abbrev pub ArePreparedFor : (ℕ → Caller → Kept → Type 0) → Option ℕ → List (Option OpenFile)
-    → List (Option OpenFile) → Type 0
-ArePreparedFor Looks None before after = after ≡ before
-ArePreparedFor Looks (Some node) before after = ArePrepared (Looks node) node before after
+abbrev pub ArePreparedFor : (ℕ → Caller → Kept → Type 0) → (ℕ → ℕ → Caller → Lack → Type 0)
+    → Option ℕ → List (Option OpenFile) → List (Option OpenFile) → Type 0
+ArePreparedFor Looks Lacks None before after = after ≡ before
+ArePreparedFor Looks Lacks (Some node) before after =
+    ArePrepared (Looks node) (Lacks node) node before after

@@ -5,6 +5,7 @@ ghost use Rattle.lfs_types.specs.Stored.{slice_of};
 ghost use Rattle.lfs_fuse_calls.specs.Telling.{TellsBytes};
 ghost use Rattle.lfs_fuse_wire.specs.Said.{said};
 ghost use Rattle.lfs_fuse_wire.specs.Views.{view};
+ghost use Rattle.lfs_nodes.specs.Staying.{IdsStay};
 ghost use Rattle.lfs_mount.specs.Answered.{IsAnswered, IsHeard, IsToldDated, IsToldKept, IsToldKeptOrDated, live_in, replied};
 ghost use Rattle.lfs_mount.specs.Leaving.{OnKept, kept_for};
 ghost use Rattle.lfs_mount.specs.Runs.{GoesOn};
@@ -117,6 +118,7 @@ impl<F: FileStore + Drop> Mount<F> {
             self.old.beside self.new.beside }
         ensures stay { StayTrue F.state self.old.tree.volume self.old.tree.nodes
             self.new.tree.volume self.new.tree.nodes }
+        ensures ids { IdsStay self.old.tree.nodes self.new.tree.nodes }
         ensures sizes { self.new.sizes ≡ self.old.sizes }
     {
         match self.kept_told(alloc, now, node, message, cred) {
@@ -141,6 +143,7 @@ impl<F: FileStore + Drop> Mount<F> {
             self.old.beside self.new.beside }
         ensures stay { StayTrue F.state self.old.tree.volume self.old.tree.nodes
             self.new.tree.volume self.new.tree.nodes }
+        ensures ids { IdsStay self.old.tree.nodes self.new.tree.nodes }
         ensures sizes { self.new.sizes ≡ self.old.sizes }
     {
         let row = self.tree.nodes.row(NodeId(node));
@@ -182,6 +185,7 @@ impl<F: FileStore + Drop> Mount<F> {
             self.old.beside self.new.beside }
         ensures stay { StayTrue F.state self.old.tree.volume self.old.tree.nodes
             self.new.tree.volume self.new.tree.nodes }
+        ensures ids { IdsStay self.old.tree.nodes self.new.tree.nodes }
         ensures sizes { self.new.sizes ≡ self.old.sizes }
     {
         match Message::decode(bytes) {
@@ -196,8 +200,8 @@ impl<F: FileStore + Drop> Mount<F> {
     #[tactic(auto, using(crate::proofs::GoingLemmas::heard_goes, crate::proofs::TendingLemmas::goes_on_none))]
     /// Answers one message, which comes now: its calls are made as the caller that its header tells, with the other
     /// groups of its process, and its reply is added, if it wants one. Nothing is done of bytes that have no header.
-    /// Nodes that were true of the tree that the volume showed are true of the one that it shows then. The journal goes
-    /// on, and stays a legal run.
+    /// Nodes that were true of the tree that the volume showed are true of the one that it shows then, and no node id
+    /// leads to another row than before: one that is gone stays gone. The journal goes on, and stays a legal run.
     ///
     /// # Errors
     ///
@@ -218,6 +222,7 @@ impl<F: FileStore + Drop> Mount<F> {
         ensures journal { GoesOn F.state self.old.tree.volume self.new.tree.volume }
         ensures stay { StayTrue F.state self.old.tree.volume self.old.tree.nodes
             self.new.tree.volume self.new.tree.nodes }
+        ensures ids { IdsStay self.old.tree.nodes self.new.tree.nodes }
         ensures sizes { self.new.sizes ≡ self.old.sizes }
     {
         let Some(header) = Header::decode(bytes) else {

@@ -3,6 +3,8 @@
 ghost use Rattle.std.specs.Prelude.{◌≡◌, IfOk, IfErr};
 ghost use Rattle.lfs_fuse_wire.specs.Views.{view};
 ghost use Rattle.lfs_fuse_calls.specs.Telling.{SaysServed, named_in, seen_in};
+ghost use Rattle.lfs_nodes.specs.Staying.{IdsStay};
+ghost use Rattle.lfs_fuse_calls.specs.Paths.{IsPathError};
 ghost use Rattle.lfs_mount.specs.Handled.{AreAskedAndMade, IsHandled, hangs_in};
 ghost use Rattle.lfs_mount.specs.Trees.{AreLedAndMade, LeavesNodes, StayTrue};
 
@@ -38,6 +40,7 @@ impl<F: FileStore + Drop> Tree<F> {
             self.old.nodes node
             (view message.now) answers.items self.old.volume self.new.volume) }
         ensures none { IfErr result (λ _. self.new.volume ≡ self.old.volume) }
+        ensures error { IfErr result IsPathError }
         ensures nodes { self.new.nodes ≡ self.old.nodes }
     {
         let path = path_of(alloc, &self.nodes, node, named_in(message))?;
@@ -63,6 +66,7 @@ impl<F: FileStore + Drop> Tree<F> {
         ensures says { SaysServed cred.now (view message.now) answers.items result }
         ensures nodes { name ≡ named_in (view message.now) → LeavesNodes (view message.now) node
             (seen_in answers.items) self.old.nodes self.new.nodes }
+        ensures ids { IdsStay self.old.nodes self.new.nodes }
         ensures volume { self.new.volume ≡ self.old.volume }
     {
         match message {
@@ -100,6 +104,7 @@ impl<F: FileStore + Drop> Tree<F> {
             result self.old.volume self.new.volume }
         ensures stay { StayTrue F.state self.old.volume self.old.nodes self.new.volume
             self.new.nodes }
+        ensures ids { IdsStay self.old.nodes self.new.nodes }
     {
         let name = match named_in(message) {
             Some(bytes) => match name_of(alloc, bytes) {

@@ -1,10 +1,11 @@
 //! Messages whose calls depend on what a first call shows, and those that speak of two names or of none.
 
 ghost use Rattle.std.specs.Prelude.{◌≡◌, ◌∷◌, [], ◌<◌, Some, IfOk, IfErr};
-ghost use Rattle.lfs_fuse_calls.specs.Paths.{LeadsToRow};
+ghost use Rattle.lfs_fuse_calls.specs.Paths.{IsPathError, LeadsToRow};
 ghost use Rattle.lfs_fuse_calls.specs.Telling.{SaysOr, attr_told, refusal_in, seen_in};
 ghost use Rattle.lfs_nodes.specs.Maps.{room_in};
 ghost use Rattle.lfs_nodes.specs.Nodes.{known};
+ghost use Rattle.lfs_nodes.specs.Staying.{IdsStay};
 ghost use Rattle.lfs_mount.specs.Handled.{IsDone, IsGivenOrNot, IsReleased, IsRenamed, IsRenamedToFree, is_missing, IsSet, IsSetAttr, IsSetJudged, IsSynced, SaysDone, hangs_in};
 ghost use Rattle.lfs_mount.specs.Making.{AreMade};
 ghost use Rattle.lfs_mount.specs.Trees.{MovesRow, StayTrue, UnlessRefused};
@@ -72,6 +73,7 @@ struct RenameNames {
 fn names_of(alloc: Global, from: &Spot<'_>, to: &Spot<'_>) -> Result<RenameNames, Errno>
     ensures name { IfOk result (λ names. names.name ≡ from.now.name.now) }
     ensures new_name { IfOk result (λ names. names.new_name ≡ to.now.name.now) }
+    ensures error { IfErr result IsPathError }
 {
     let name = name_of(alloc, from.name)?;
     let new_name = name_of(alloc, to.name)?;
@@ -102,6 +104,7 @@ impl<F: FileStore + Drop> Tree<F> {
             (request ∷ []) answers.items
             self.old.volume self.new.volume) }
         ensures none { IfErr result (λ _. self.new.volume ≡ self.old.volume) }
+        ensures error { IfErr result IsPathError }
         ensures nodes { self.new.nodes ≡ self.old.nodes }
     {
         let mut requests = Vec::new(alloc);
@@ -237,6 +240,7 @@ impl<F: FileStore + Drop> Tree<F> {
         ensures nodes { UnlessRefused (refusal_in answers.now)
             (MovesRow from names.name to names.new_name self.old.nodes self.new.nodes)
             self.old.nodes self.new.nodes }
+        ensures ids { IdsStay self.old.nodes self.new.nodes }
         ensures volume { self.new.volume ≡ self.old.volume }
     {
         if let Some(errno) = refusal_in(answers) {
@@ -266,6 +270,7 @@ impl<F: FileStore + Drop> Tree<F> {
         ensures stay { LeadsToRow (known self.old.nodes) spots.0 (Some names.name) paths.0
             → LeadsToRow (known self.old.nodes) spots.1 (Some names.new_name) paths.1
             → StayTrue F.state self.old.volume self.old.nodes self.new.volume self.new.nodes }
+        ensures ids { IdsStay self.old.nodes self.new.nodes }
     {
         if self.nodes.make_room().is_err() {
             return Told::Error(Errno::ENOMEM);
@@ -290,6 +295,7 @@ impl<F: FileStore + Drop> Tree<F> {
             to.now.node to.now.name.now result self.old.volume self.new.volume }
         ensures stay { StayTrue F.state self.old.volume self.old.nodes self.new.volume
             self.new.nodes }
+        ensures ids { IdsStay self.old.nodes self.new.nodes }
     {
         let names = match names_of(alloc, from, to) {
             Ok(names) => names,
@@ -319,6 +325,7 @@ impl<F: FileStore + Drop> Tree<F> {
             to.now.node to.now.name.now result self.old.volume self.new.volume }
         ensures stay { StayTrue F.state self.old.volume self.old.nodes self.new.volume
             self.new.nodes }
+        ensures ids { IdsStay self.old.nodes self.new.nodes }
     {
         let path = match path_of(alloc, &self.nodes, to.node, Some(to.name)) {
             Ok(path) => path,

@@ -4,6 +4,7 @@ ghost use Rattle.std.specs.Prelude.{◌≡◌};
 ghost use Rattle.lfs_fuse_wire.specs.Views.{view};
 ghost use Rattle.lfs_model.specs.World.{Rows};
 ghost use Rattle.lfs_nodes.specs.Nodes.{AreNodes, known};
+ghost use Rattle.lfs_nodes.specs.Staying.{IdsStay};
 ghost use Rattle.lfs_mount.specs.Handled.{IsHandled, IsMade, IsRename, IsRenamed, IsRenamedToFree, IsTold, error_of_unserved, hangs_in};
 ghost use Rattle.lfs_mount.specs.Trees.{StayTrue};
 
@@ -39,7 +40,9 @@ fn error_of_unserved(kind: Unserved) -> Errno
 
 /// The kernel forgets the nodes of a batch.
 fn forget_all(nodes: &mut Nodes, forgets: &Forgets<'_>)
-    ensures { (rows : Rows) → AreNodes rows (known nodes.old) → AreNodes rows (known nodes.new) }
+    ensures nodes { (rows : Rows) → AreNodes rows (known nodes.old)
+        → AreNodes rows (known nodes.new) }
+    ensures ids { IdsStay nodes.old nodes.new }
 {
     for index in 0..forgets.len() {
         if let Some(forget) = forgets.get(index) {
@@ -68,6 +71,7 @@ impl<F: FileStore + Drop> Tree<F> {
             result self.old.volume self.new.volume }
         ensures stay { StayTrue F.state self.old.volume self.old.nodes self.new.volume
             self.new.nodes }
+        ensures ids { IdsStay self.old.nodes self.new.nodes }
     {
         match mode {
             RenameMode::Replace => self.renamed(alloc, from, to, cred),
@@ -90,6 +94,7 @@ impl<F: FileStore + Drop> Tree<F> {
             result self.old.volume self.new.volume) result self.old.volume self.new.volume }
         ensures stay { StayTrue F.state self.old.volume self.old.nodes self.new.volume
             self.new.nodes }
+        ensures ids { IdsStay self.old.nodes self.new.nodes }
     {
         match kind {
             Some(FileKind::Regular) => self.once(alloc, node, message, cred),
@@ -112,6 +117,7 @@ impl<F: FileStore + Drop> Tree<F> {
             result self.old.volume self.new.volume }
         ensures stay { StayTrue F.state self.old.volume self.old.nodes self.new.volume
             self.new.nodes }
+        ensures ids { IdsStay self.old.nodes self.new.nodes }
     {
         match message {
             Message::Lookup(_)

@@ -1,13 +1,13 @@
 //! The last look at a file that is open, before a message takes it from its place.
 
-ghost use Rattle.std.specs.Prelude.{◌≡◌, ◌≢◌, ℕ, Some, None, IfSome, IsTrue, slice_index_or};
+ghost use Rattle.std.specs.Prelude.{◌≡◌, ◌≢◌, ℕ, ◌-◌, None, IfErr, IfOk, IfSome, false, slice_index_or};
 ghost use Rattle.lfs_volume.specs.Journals.{AtPresent};
 ghost use Rattle.lfs_fuse_wire.specs.Views.{view};
-ghost use Rattle.lfs_fuse_calls.specs.Paths.{IsPathOf};
 ghost use Rattle.lfs_nodes.specs.Maps.{same_place};
-ghost use Rattle.lfs_nodes.specs.Nodes.{place_at};
-ghost use Rattle.lfs_mount.specs.Handled.{hangs_in};
-ghost use Rattle.lfs_mount.specs.Leaving.{ArePrepared, ArePreparedFor, IsLastLook, IsLeaving, IsLooked, IsPiece, IsPrepared, IsReadBy, IsSeenSo, IsSight, IsTaken, unlinked};
+ghost use Rattle.lfs_nodes.specs.Nodes.{known, place_at};
+ghost use Rattle.lfs_nodes.specs.Reads.{hang_in};
+ghost use Rattle.lfs_opens.specs.Rewritten.{bytes_kept};
+ghost use Rattle.lfs_mount.specs.Leaving.{ArePrepared, ArePreparedFor, IsAnswerOf, IsLastLook, IsLastMiss, IsLeaving, IsLooked, IsPiece, IsPrepared, IsReadBy, IsSeenIn, IsSightOr, IsUnseen, IsUnseenIn, NoneLeaves, is_taken, taken_at, unlinked};
 
 use crate::mount::Mount;
 use crate::sight::Sight;
@@ -18,7 +18,7 @@ use lfs_fuse_reply::attr::Attr;
 use lfs_fuse_wire::message::Message;
 use lfs_fuse_wire::naming::RenameMode;
 use lfs_nodes::{NodeId, Nodes};
-use lfs_opens::kept::Kept;
+use lfs_opens::kept::{Kept, Lack};
 use lfs_opens::opens::Opens;
 use lfs_types::answer::{Answer, Served};
 use lfs_types::cred::Cred;
@@ -38,63 +38,46 @@ fn is_same(node: u64, name: &[u8], directory: u64, new_name: &[u8]) -> bool
     node == directory && name == new_name
 }
 
-/// The path of a name in a directory, if there is one and memory for it.
-fn place_path(alloc: Global, nodes: &Nodes, directory: u64, name: &[u8]) -> Option<Path>
-    ensures { IfSome result (IsPathOf (hangs_in nodes.now) directory (Some name.now)) }
+/// Whether a message may be about to take something from its place.
+fn is_taking(message: &Message<'_>) -> bool
+    ensures { result ≡ false → (node : ℕ) → taken_at node (view message.now) ≡ None }
 {
-    match path_of(alloc, nodes, directory, Some(name)) {
-        Ok(path) => Some(path),
-        Err(_) => None,
-    }
+    matches!(message, Message::Unlink(_) | Message::Rename(_, _, _))
 }
 
-/// The path of what a message is about to take away, if there is one.
-fn taken_path(alloc: Global, nodes: &Nodes, node: u64, message: &Message<'_>) -> Option<Path>
-    ensures { IfSome result (IsTaken (hangs_in nodes.now) node (view message.now)) }
+/// Whether a message is about to take a node from its place.
+fn is_taken(nodes: &Nodes, id: u64, node: u64, message: &Message<'_>) -> bool
+    ensures { result ≡ is_taken (taken_at node (view message.now)) (hang_in (known nodes.now id)) }
 {
     match message {
-        Message::Unlink(name) => place_path(alloc, nodes, node, name),
+        Message::Unlink(name) => nodes.is_at(NodeId(id), NodeId(node), name),
         Message::Rename(fields, name, new_name) => {
             if is_same(node, name, fields.directory, new_name) {
-                return None;
+                return false;
             }
             match fields.mode {
-                RenameMode::Replace => place_path(alloc, nodes, fields.directory, new_name),
-                _ => None,
+                RenameMode::Replace => nodes.is_at(NodeId(id), NodeId(fields.directory), new_name),
+                _ => false,
             }
         }
-        _ => None,
+        _ => false,
     }
 }
 
-#[tactic(auto, using(crate::proofs::OpensLemmas::same_names))]
-/// Whether a path is another.
-fn is_path(own: &Path, path: &Path) -> bool
-    ensures { IsTrue result → own.now ≡ path.now }
+/// The node that a message is about to take from its place, if a file is open on it.
+fn leaving(nodes: &Nodes, opens: &Opens, node: u64, message: &Message<'_>) -> Option<u64>
+    ensures leaves { IfSome result (IsLeaving nodes.now node (view message.now)) }
+    ensures none { result ≡ None
+        → NoneLeaves nodes.now node (view message.now) opens.now.files.items }
 {
-    own == path
-}
-
-#[tactic(auto, using(crate::proofs::OpensLemmas::leads_same))]
-/// Whether a path is a node's.
-fn leads_to(alloc: Global, nodes: &Nodes, node: u64, path: &Path) -> bool
-    ensures { IsTrue result → IsPathOf (hangs_in nodes.now) node None path.now }
-{
-    match path_of(alloc, nodes, node, None) {
-        Ok(own) => is_path(&own, path),
-        Err(_) => false,
+    if !is_taking(message) {
+        return None;
     }
-}
-
-/// The node of a path, where a file is open on it.
-fn open_at(alloc: Global, nodes: &Nodes, opens: &Opens, path: &Path) -> Option<u64>
-    ensures { IfSome result (λ id. IsPathOf (hangs_in nodes.now) id None path.now) }
-{
     for slot in 0..opens.slots() {
-        if let Some(node) = opens.node(slot)
-            && leads_to(alloc, nodes, node, path)
+        if let Some(id) = opens.node(slot)
+            && is_taken(nodes, id, node, message)
         {
-            return Some(node);
+            return Some(id);
         }
     }
     None
@@ -107,153 +90,178 @@ fn unlinked(attr: Attr) -> Attr
     Attr { links: 0, ..attr }
 }
 
-/// The bytes that an answer serves.
-fn served_bytes(answer: Answer) -> Option<Bytes>
-    ensures { IfSome result (λ bytes. answer ≡ Answer.Served (Served.Bytes bytes)) }
+/// The bytes that an answer serves, or why it serves none.
+fn served_bytes(answer: Answer) -> Result<Bytes, Lack>
+    ensures served { IfOk result (λ bytes. answer ≡ Answer.Served (Served.Bytes bytes)) }
+    ensures lacks { IfErr result (λ why. IsAnswerOf why answer) }
 {
     match answer {
-        Answer::Served(Served::Bytes(bytes)) => Some(bytes),
-        _ => None,
+        Answer::Served(Served::Bytes(bytes)) => Ok(bytes),
+        Answer::Denied(_) => Err(Lack::Denied),
+        _ => Err(Lack::Memory),
     }
 }
 
-/// At most 4,096 bytes of a file from a place on, if this caller may read it now.
+#[tactic(auto, using(crate::proofs::LookedForLemmas::piece_lacks))]
+/// At most 4,096 bytes of a file from a place on, if this caller may read it now, or why there are none.
 fn piece_at<F: FileStore + Drop>(
     volume: &mut Volume<F>,
     cred: &Cred,
     path: &Path,
     off: u64,
-) -> Option<Bytes>
-    ensures bytes { IfSome result (λ bytes. AtPresent F.state volume.old
+) -> Result<Bytes, Lack>
+    ensures bytes { IfOk result (λ bytes. AtPresent F.state volume.old
         (λ w. IsPiece w cred.now path.now off bytes)) }
+    ensures lacks { IfErr result (λ why. (room : ℕ)
+        → IsUnseen F.state volume.old path.now room cred.now why) }
     ensures looked { IsLooked F.state volume.old volume.new }
 {
     served_bytes(volume.show(cred, path, off, PIECE as u32))
 }
 
-/// All bytes of a file, as this caller may read them now; None where he may not, or there are more than so many.
+/// All bytes of a file, as this caller may read them now; or why none are shown: he may not, or there are more than so
+/// many.
 fn all_shown<F: FileStore + Drop>(
     alloc: Global,
     volume: &mut Volume<F>,
     cred: &Cred,
     path: &Path,
     most: usize,
-) -> Option<Vec<u8>>
-    ensures bytes { IfSome result (λ bytes. AtPresent F.state volume.old
+) -> Result<Vec<u8>, Lack>
+    ensures bytes { IfOk result (λ bytes. AtPresent F.state volume.old
         (λ w. IsReadBy w cred.now path.now bytes.items)) }
+    ensures lacks { IfErr result (IsUnseen F.state volume.old path.now most cred.now) }
     ensures looked { IsLooked F.state volume.old volume.new }
 {
     let mut bytes = Vec::new(alloc);
     while bytes.len() <= most {
         let piece = piece_at(volume, cred, path, bytes.len() as u64)?;
         if bytes.extend_from_slice(piece.as_slice()).is_err() {
-            return None;
+            return Err(Lack::Memory);
         }
         if piece.as_slice().len() < PIECE {
-            return Some(bytes);
+            return Ok(bytes);
         }
     }
-    None
+    Err(Lack::Room)
 }
 
-/// What is kept of a file for who opened it, as the file is now.
+/// What is kept of a file for who opened it, as the file is now, or why nothing is.
 fn last_look<F: FileStore + Drop>(
     alloc: Global,
     volume: &mut Volume<F>,
     cred: &Cred,
-    sight: &Sight,
+    sight: &Result<Sight, Lack>,
     most: usize,
-) -> Option<Kept>
-    ensures kept { IfSome result (IsSeenSo F.state volume.old sight.now cred.now) }
+) -> Result<Kept, Lack>
+    ensures kept { IfOk result (IsSeenIn F.state volume.old sight.now cred.now) }
+    ensures lacks { IfErr result (IsUnseenIn F.state volume.old sight.now most cred.now) }
     ensures looked { IsLooked F.state volume.old volume.new }
 {
-    let bytes = all_shown(alloc, volume, cred, &sight.path, most)?;
-    Some(Kept {
-        attr: sight.attr,
-        bytes,
-    })
+    let sight = match sight {
+        Ok(sight) => sight,
+        Err(lacking) => return Err(*lacking),
+    };
+    match all_shown(alloc, volume, cred, &sight.path, most) {
+        Ok(bytes) => Ok(Kept {
+            attr: sight.attr,
+            bytes,
+        }),
+        Err(why) => Err(why),
+    }
 }
 
-/// Looks at a file as who opened it in a slot, if it is open there, and keeps what he sees.
+/// Looks at a node's file as who opened it in a slot, if it is open there, and keeps what he sees, or why he sees nothing.
 fn look_for<F: FileStore + Drop>(
     alloc: Global,
     volume: &mut Volume<F>,
     opens: &mut Opens,
     slot: usize,
-    sight: &Sight,
+    node: u64,
+    sight: &Result<Sight, Lack>,
 )
-    ensures prepared { IsPrepared (IsSeenSo F.state volume.old sight.now) sight.now.node
+    ensures prepared { IsPrepared (IsSeenIn F.state volume.old sight.now)
+        (IsUnseenIn F.state volume.old sight.now (33554432 - bytes_kept opens.old.files.items)) node
         (slice_index_or opens.old.files.items slot None)
         (slice_index_or opens.new.files.items slot None) }
     ensures others { (s : ℕ) → s ≢ slot → slice_index_or opens.new.files.items s None
         ≡ slice_index_or opens.old.files.items s None }
     ensures looked { IsLooked F.state volume.old volume.new }
 {
-    let Some(cred) = opens.opener(slot, sight.node) else {
+    let Some(cred) = opens.opener(slot, node) else {
         return;
     };
     let most = opens.room();
-    let kept = last_look(alloc, volume, &cred, sight, most);
-    opens.keep(slot, kept);
+    let seen = last_look(alloc, volume, &cred, sight, most);
+    opens.keep(slot, seen);
 }
 
-/// Looks at a file as each who opened it.
+/// Looks at a node's file as each who opened it.
 fn look_for_all<F: FileStore + Drop>(
     alloc: Global,
     volume: &mut Volume<F>,
     opens: &mut Opens,
-    sight: &Sight,
+    node: u64,
+    sight: &Result<Sight, Lack>,
 )
-    ensures prepared { ArePrepared (IsSeenSo F.state volume.old sight.now) sight.now.node
+    ensures prepared { ArePrepared (IsSeenIn F.state volume.old sight.now)
+        (IsUnseenIn F.state volume.old sight.now) node
         opens.old.files.items opens.new.files.items }
     ensures looked { IsLooked F.state volume.old volume.new }
 {
     for slot in 0..opens.slots() {
-        look_for(alloc, volume, opens, slot, sight);
+        look_for(alloc, volume, opens, slot, node, sight);
     }
 }
 
 impl<F: FileStore + Drop> Mount<F> {
-    /// The file that a message is about to take away, where it is open.
-    fn sight(&self, alloc: Global, node: u64, message: &Message<'_>) -> Option<Sight>
-        ensures sight { IfSome result (IsSight F.state self.now.beside.times.stamps.items
-            self.now.tree.nodes self.now.tree.volume) }
-        ensures taken { IfSome result (λ sight.
-            IsTaken (hangs_in self.now.tree.nodes) node (view message.now) sight.path) }
+    /// Where a node's file is to be looked at, or why it can't be.
+    fn sight(&self, alloc: Global, node: u64) -> Result<Sight, Lack>
+        ensures { IsSightOr F.state self.now.beside.times.stamps.items self.now.tree.nodes
+            self.now.tree.volume node result }
     {
-        if self.beside.opens.is_empty() {
-            return None;
-        }
-        let path = taken_path(alloc, &self.tree.nodes, node, message)?;
-        let id = open_at(alloc, &self.tree.nodes, &self.beside.opens, &path)?;
-        let number = self.tree.nodes.row(NodeId(id))?;
-        let attrs = self.tree.volume.store().attrs(number)?;
-        let told = Told::Attr(unlinked(attr(number, &attrs)));
-        let Told::Attr(attr) = self.beside.times.dated(told) else {
-            return None;
+        let Ok(path) = path_of(alloc, &self.tree.nodes, node, None) else {
+            return Err(Lack::Memory);
         };
-        Some(Sight {
-            node: id,
-            path,
-            attr,
-        })
+        let Some(number) = self.tree.nodes.row(NodeId(node)) else {
+            return Err(Lack::Absent);
+        };
+        let Some(attrs) = self.tree.volume.store().attrs(number) else {
+            return Err(Lack::Absent);
+        };
+        let told = Told::Attr(unlinked(attr(number, &attrs)));
+        match self.beside.times.dated(told) {
+            Told::Attr(attr) => Ok(Sight { path, attr }),
+            _ => Err(Lack::Memory),
+        }
     }
 
+    #[tactic(auto, using(crate::proofs::LookedForLemmas::last_prepared))]
     /// Takes the last look at a file that is open and that a message is about to take from its place, and gives its node.
     pub(crate) fn prepare(&mut self, alloc: Global, node: u64, message: &Message<'_>) -> Option<u64>
         ensures leaves { IfSome result
             (IsLeaving self.old.tree.nodes node (view message.now)) }
+        ensures none { result ≡ None → NoneLeaves self.old.tree.nodes node (view message.now)
+            self.old.beside.opens.files.items }
         ensures looked { IsLooked F.state self.old.tree.volume self.new.tree.volume }
         ensures kept { ArePreparedFor (IsLastLook F.state self.old.beside.times.stamps.items
-            self.old.tree.nodes self.old.tree.volume) result
+            self.old.tree.nodes self.old.tree.volume)
+            (IsLastMiss F.state self.old.tree.nodes self.old.tree.volume) result
             self.old.beside.opens.files.items self.new.beside.opens.files.items }
         ensures nodes { self.new.tree.nodes ≡ self.old.tree.nodes }
         ensures times { self.new.beside.times ≡ self.old.beside.times }
         ensures loans { self.new.beside.loans ≡ self.old.beside.loans }
         ensures sizes { self.new.sizes ≡ self.old.sizes }
     {
-        let sight = &self.sight(alloc, node, message)?;
-        look_for_all(alloc, &mut self.tree.volume, &mut self.beside.opens, sight);
-        Some(sight.node)
+        let id = leaving(&self.tree.nodes, &self.beside.opens, node, message)?;
+        let sight = &self.sight(alloc, id);
+        look_for_all(
+            alloc,
+            &mut self.tree.volume,
+            &mut self.beside.opens,
+            id,
+            sight,
+        );
+        Some(id)
     }
 }

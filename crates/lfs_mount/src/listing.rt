@@ -2,6 +2,7 @@
 
 ghost use Rattle.std.specs.Prelude.{◌<◌, IfSome, length};
 ghost use Rattle.lfs_fuse_calls.specs.Telling.{TellsListing};
+ghost use Rattle.lfs_mount.specs.Handled.{TellsEntries};
 
 use lfs_fuse_calls::told::Told;
 use lfs_fuse_reply::errno::Errno;
@@ -66,7 +67,9 @@ impl Listings {
     }
 
     /// The entries of an open directory from an offset on, as many as fit.
-    pub(crate) fn told(&self, alloc: Global, wanted: &Read) -> Told {
+    pub(crate) fn told(&self, alloc: Global, wanted: &Read) -> Told
+        ensures { TellsEntries result }
+    {
         let Some(names) = self.names.get(&wanted.handle) else {
             return Told::Error(Errno::EBADF);
         };

@@ -3,6 +3,7 @@
 ghost use Rattle.std.specs.Prelude.{◌≡◌, Some, IfOk, IfErr};
 ghost use Rattle.lfs_fuse_calls.specs.Attrs.{attr_of};
 ghost use Rattle.lfs_fuse_calls.specs.Telling.{TellsEntry, TellsCreated};
+ghost use Rattle.lfs_nodes.specs.Staying.{IdsStay};
 ghost use Rattle.lfs_mount.specs.Handled.{IsNodeFault};
 ghost use Rattle.lfs_mount.specs.Trees.{FindsRow, LosesRow};
 
@@ -40,6 +41,7 @@ impl<F: FileStore + Drop> Tree<F> {
         ensures entry { IfOk result (λ entry. entry.attr ≡ attr_of seen.now.number seen.now.attrs) }
         ensures fault { IfErr result IsNodeFault }
         ensures nodes { FindsRow name (Some seen.now) directory self.old.nodes self.new.nodes }
+        ensures ids { IdsStay self.old.nodes self.new.nodes }
         ensures volume { self.new.volume ≡ self.old.volume }
     {
         let Some(name) = name else {
@@ -68,6 +70,7 @@ impl<F: FileStore + Drop> Tree<F> {
     ) -> Told
         ensures told { TellsEntry seen result }
         ensures nodes { FindsRow name seen directory self.old.nodes self.new.nodes }
+        ensures ids { IdsStay self.old.nodes self.new.nodes }
         ensures volume { self.new.volume ≡ self.old.volume }
     {
         let Some(seen) = seen else {
@@ -89,6 +92,7 @@ impl<F: FileStore + Drop> Tree<F> {
     ) -> Told
         ensures told { TellsCreated seen result }
         ensures nodes { FindsRow name seen directory self.old.nodes self.new.nodes }
+        ensures ids { IdsStay self.old.nodes self.new.nodes }
         ensures volume { self.new.volume ≡ self.old.volume }
     {
         let Some(seen) = seen else {
@@ -104,6 +108,7 @@ impl<F: FileStore + Drop> Tree<F> {
     pub(crate) fn removed_told(&mut self, directory: u64, name: Option<Name>) -> Told
         ensures told { result ≡ Told.Done }
         ensures nodes { LosesRow name directory self.old.nodes self.new.nodes }
+        ensures ids { IdsStay self.old.nodes self.new.nodes }
         ensures volume { self.new.volume ≡ self.old.volume }
     {
         if let Some(name) = name {

@@ -3,11 +3,9 @@
 use lfs_fuse_reply::attr::Attr;
 use lfs_types::path::Path;
 
-/// Where a node's file is to be looked at, and what is told of its attributes.
+/// Where the file of a node is to be looked at, and what is told of its attributes.
 #[derive(Drop)]
 pub struct Sight {
-    /// The node.
-    pub(crate) node: u64,
     /// A path that leads to it.
     pub(crate) path: Path,
     /// Its attributes.

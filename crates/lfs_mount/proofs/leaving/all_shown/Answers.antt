@@ -2,8 +2,10 @@ use Rattle.std.proofs.Common.{arith, ◌≡◌, ◌<◌, ◌++◌, ap, length}
 use Rattle.std.proofs.lemmas.Grind.{common_steps}
 use Rattle.lfs_model.specs.Steps.{world_after}
 use Rattle.lfs_mount.specs.Leaving.{IsPiece}
+use Rattle.std.proofs.lemmas.Result.{err_from_is_err_and}
+use Rattle.lfs_mount.proofs.LookedForLemmas.{unseen_before}
 use Rattle.lfs_mount.proofs.LookedLemmas.{before_look, looked_again}
-use Rattle.lfs_mount.proofs.PartLemmas.{read_last, read_on}
+use Rattle.lfs_mount.proofs.PartLemmas.{read_last, read_on, room_lacks}
 use Rattle.lfs_mount.proofs.leaving.all_shown.Goals as goal
 
 pub returns-then-as_slice-lt-PIECE-clause-bytes : goal.returns-then-as_slice-lt-PIECE-clause-bytes
@@ -45,3 +47,19 @@ loop-volume-preserved g c =
           (c.loop-volume.invariant.part from begins)
           grown;
     }
+
+pub returns-clause-lacks : goal.returns-clause-lacks
+returns-clause-lacks g c =
+    let state = g.F.FileStore.state in
+    let old = c.args.volume.now in
+    let bytes = c.loop-volume.bytes.items in
+    let more : c.args.most < length bytes = omega arith in
+    λ from begins. room_lacks (world_after (state old.store).shape.numbers old.journal from) c.args.path.now bytes c.args.most
+    (c.loop-volume.invariant.part from begins) more
+
+pub returns-in_err-piece-clause-lacks : goal.returns-in_err-piece-clause-lacks
+returns-in_err-piece-clause-lacks g c =
+    let residual = c.from_residual in
+    let exit = err_from_is_err_and residual.result residual.ensures.1 in
+    rw (exit.1, exit.2) (unseen_before g.F.FileStore.state c.args.volume.now c.loop-volume.volume c.args.path.now
+    c.args.most c.args.cred.now _ c.loop-volume.invariant.looked (c.in_err-piece.ensures.lacks c.args.most))

@@ -42,6 +42,7 @@ returns-clause-told g c =
       between = left.tree.volume;
       left = c.prepare-left.result;
       leaves = c.prepare-left.ensures.leaves;
+      none = c.prepare-left.ensures.none;
       looked = c.prepare-left.ensures.looked;
       prepared = left.beside.opens.files.items;
       kept = c.prepare-left.ensures.kept;

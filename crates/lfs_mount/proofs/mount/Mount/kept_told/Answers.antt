@@ -9,7 +9,7 @@ use Rattle.lfs_fuse_calls.specs.Asked.{writes}
 use Rattle.lfs_mount.specs.Answered.{IsToldKept}
 use Rattle.lfs_opens.specs.Opens.{file_at_slot, kept_to, slot_of}
 use Rattle.lfs_mount.specs.Leaving.{OnKept, kept_for}
-use Rattle.lfs_opens.specs.Rewritten.{TellsWritten, end_of, part_of}
+use Rattle.lfs_opens.specs.Rewritten.{LacksRoom, TellsWritten, end_of, part_of}
 use Rattle.lfs_mount.proofs.KeptLemmas.{write_kept}
 use Rattle.lfs_mount.proofs.mount.Mount.kept_told.Goals as goal
 
@@ -29,9 +29,10 @@ returns-in_ok-kept-in-Write-clause-told g c =
     let is : kept_to writes (file_at_slot files (slot_of fields.handle)) node who ≡ Some kept = search (rules, tests) in
     let size : c.len-size.result ≡ length kept.bytes.items =
     omega (arith, c.len-size.ensures, kept.bytes.ok.0) in
-    let tells : TellsWritten (length (part_of bytes)) (end_of (write fields bytes) (length kept.bytes.items)) reply =
-    subst (λ n. TellsWritten (length (part_of bytes)) (end_of (write fields bytes) n) reply) size
-    c.write.ensures.tells in
+    let tells : TellsWritten (LacksRoom (write fields bytes) node (length kept.bytes.items) files)
+    (length (part_of bytes)) (end_of (write fields bytes) (length kept.bytes.items)) reply =
+    subst (λ n. TellsWritten (LacksRoom (write fields bytes) node n files)
+    (length (part_of bytes)) (end_of (write fields bytes) n) reply) size c.write.ensures.tells in
     subst (λ m. OnKept (kept_for nodes (view m) files node who) (λ k. IsSomeAnd (Some reply)
     (λ t. IsToldKept c.args.now who node (view m) t was.tree.volume was.tree.volume was.beside after k))
     (Some reply ≡ None)) (sym c.in-Write.is)

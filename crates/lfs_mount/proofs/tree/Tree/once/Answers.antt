@@ -30,7 +30,7 @@ returns-in-None-refusal_told-clause-stay g c =
     sym (ap (refusal_told message) c.as_slice.ensures.value) ∙ sym c.refusal_told.ensures
     ∙ c.in-None-refusal_told.is in
     let named : c.match-named_in.name ≡ named_in message = elim c.match-named_in.branch [
-      | in-Some+in-Ok w ↦ w.name-is ∙ ap Some w.in-Ok.ensures ∙ sym (ap option_copied w.in-Some.is)
+      | in-Some+in-Ok w ↦ w.name-is ∙ ap Some w.in-Ok.ensures.name ∙ sym (ap option_copied w.in-Some.is)
           ∙ c.named_in.ensures
       | in-None w ↦ w.name-is ∙ sym (ap option_copied w.in-None.is) ∙ c.named_in.ensures
     ] in
