@@ -60,7 +60,7 @@ server_send a S R F G s g send_S sync_R send_F sync_G =
     let tells : IsSync (mutex_row told_row) = search (sendable, crosses, told.the_send) in
     recorded_send_of (server.the_field a S R F G s g).row _ _ T.to_one
     (λ d. struct_send_at (declared.shape T) (T.to d) (
-      send_at _ (shr_send a.mir a.lft _ runs) _,
+      send_at _ (shr_send a.mir a.lft _ runs) d.run,
       (
         send_at _ (shr_send a.mir a.lft _ locked) _,
         (

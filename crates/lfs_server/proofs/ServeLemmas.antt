@@ -12,8 +12,8 @@ use Rattle.lfs_server.specs.declared.serving.ServeFault.{ServeFault}
 use Rattle.lfs_server.specs.declared.serving.ServeFault.TheVariants.{Sessions, Format, Memory, Unsettled, Thread}
 use Rattle.lfs_server.specs.declared.unserved.Unserved.{Unserved}
 use Rattle.lfs_server.specs.declared.unserved.Unserved.TheVariants as unserved
-use Rattle.lfs_staging.specs.Opening.{IsOpening}
-use Rattle.lfs_staging.specs.declared.parts.Parts.{Parts}
+use Rattle.lfs_parts.specs.Opening.{IsOpening}
+use Rattle.lfs_parts.specs.declared.parts.Parts.{Parts}
 use Rattle.lfs_volume.specs.Journals.{Begins, IsJournal, Since}
 use Rattle.lfs_volume.specs.Seen.{Seen}
 use Rattle.lfs_logstore.specs.States.{opening_state, state_of}

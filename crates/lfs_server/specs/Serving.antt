@@ -4,7 +4,7 @@ use Rattle.lfs_types.specs.Caller.{Caller}
 use Rattle.lfs_types.specs.declared.fault.FormatFault.{FormatFault}
 use Rattle.lfs_types.specs.declared.fault.FormatFault.TheVariants.{TooFew, TooMany}
 use Rattle.lfs_types.specs.declared.fault.FormatFault.TheVariants as formats
-use Rattle.lfs_staging.specs.Opening.{IsTooFew, IsTooMany}
+use Rattle.lfs_parts.specs.Opening.{IsTooFew, IsTooMany}
 use Rattle.lfs_server.specs.declared.serving.ServeFault.{ServeFault}
 use Rattle.lfs_server.specs.declared.serving.ServeFault.TheVariants.{Sessions, Format, Memory, Unsettled}
 

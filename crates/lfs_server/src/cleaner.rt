@@ -5,8 +5,11 @@ use crate::gate::{Gate, Turns};
 use crate::kept::{Kept, Sizes};
 use crate::run::Run;
 use lfs_cleaner::pass::Pass;
+use lfs_model::journal::CleanerAnswer;
 use lfs_settle::entries::CLEANER;
 use lfs_types::cleaned::CleanedStore;
+use lfs_types::cleaner::CleanerCall;
+use std::sync::atomic::Ordering;
 use std::sync::{Mutex, Wait};
 
 /// Makes a pass for each ring, until all buttons of the doorbell are gone and the rings left are served.
@@ -33,7 +36,19 @@ fn run_pass<S: Sizes, R: Wait, F: CleanedStore + Drop, G: Gate>(
     let mut pass = Pass::new();
     let mut last = None;
     while let Some(call) = pass.next(last.as_ref()) {
-        let answer = turns.pass(run.gate, || volume.lock(run.rt).clean(call));
+        let answer = turns.pass(run.gate, || clean(run, volume, call));
         last = Some(answer);
     }
+}
+
+/// Makes a call once it has the lock. Until then no session goes on in a holding of its own.
+fn clean<S: Sizes, R: Wait, F: CleanedStore + Drop, G>(
+    run: &Run<'_, R, G>,
+    volume: &Mutex<Kept<S, F>>,
+    call: CleanerCall,
+) -> CleanerAnswer {
+    run.is_awaited.store(true, Ordering::SeqCst);
+    let mut volume = volume.lock(run.rt);
+    run.is_awaited.store(false, Ordering::SeqCst);
+    volume.clean(call)
 }

@@ -10,6 +10,13 @@ pub trait Gate: Sync {
 
     /// A session has made a call.
     fn after(&self, session: u8, index: u32);
+
+    /// Whether nobody waits at the gate between a session's call of this index and its next one. Then the next may be made
+    /// in the same holding of the lock, and the gate is told neither that the one is made nor that the next is begun. It is
+    /// asked under the lock, so it doesn't wait.
+    fn is_open(&self, _session: u8, _index: u32) -> bool {
+        false
+    }
 }
 
 /// The gate that stands open.
@@ -17,6 +24,10 @@ impl Gate for () {
     fn before(&self, _session: u8, _index: u32) {}
 
     fn after(&self, _session: u8, _index: u32) {}
+
+    fn is_open(&self, _session: u8, _index: u32) -> bool {
+        true
+    }
 }
 
 /// The turns of a session at a gate.

@@ -1,13 +1,16 @@
 //! The volume as it stands behind the lock: its type keeps what no call changes.
 
-ghost use Rattle.std.specs.Prelude.{◌≡◌, ◌↔◌, ◌<◌, ◌≤◌, ◌++◌, ◌⊎◌, IsTrue, length};
+ghost use Rattle.std.specs.Prelude.{◌≡◌, ◌↔◌, ◌<◌, ◌≤◌, ◌++◌, ◌⊎◌, IsTrue, OnOk, length};
 ghost use Rattle.lfs_model.specs.Runs.{kept_cleaning, kept_entry};
 ghost use Rattle.lfs_calls.specs.Outcomes.{IsOutcome};
 ghost use Rattle.lfs_volume.specs.Cleanings.{IsCleanerAnswer, cleaner_of};
 ghost use Rattle.lfs_volume.specs.Journals.{AtPresent};
 ghost use Rattle.lfs_server.specs.Serving.{superuser};
-ghost use Rattle.lfs_server.specs.Telling.{HasRoom, IsTold};
+ghost use Rattle.lfs_server.specs.Telling.{AreMade, HasRoom, IsTold};
 
+use crate::batch::Batch;
+use crate::gate::Gate;
+use crate::run::Run;
 use crate::telling::keep;
 use lfs_cleaner::wanting::{is_wanted, superuser};
 use lfs_model::journal::CleanerAnswer;
@@ -20,6 +23,7 @@ use lfs_types::cred::Cred;
 use lfs_types::request::Request;
 use lfs_types::store::FileStore;
 use lfs_volume::volume::Volume;
+use std::alloc::AllocError;
 use std::marker::{Brand, Model, PhantomData};
 
 /// What no call changes of a volume, as a type.
@@ -43,13 +47,13 @@ impl Sizes for Brand {
     ghost use Rattle.std.specs.FinMap.{empty};
     ghost use Rattle.lfs_types.specs.declared.level.Level.TheVariants.{Insecure};
 
-    ghost shape = { record { numbers = 0; segments = 0; can_lack_memory = false } };
+    ghost shape = { record { numbers = 0; segments = 0; can_lack_memory = false; has_share = false } };
 
     ghost limit = { 0 };
 
     ghost since = { record {
       content = empty;
-      shape = record { numbers = 0; segments = 0; can_lack_memory = false };
+      shape = record { numbers = 0; segments = 0; can_lack_memory = false; has_share = false };
       clean = 0;
     } };
 
@@ -117,6 +121,33 @@ impl<S: Sizes, F: FileStore + Drop> Kept<S, F> {
         let answer = self.volume.call(session, cred, request);
         let wants_cleaner = is_wanted(&answer, before, self.volume.clean_segments());
         (answer, wants_cleaner)
+    }
+
+    /// Makes the next calls of a session, in order: one at least, if there is one, and no other behind one that wants the
+    /// cleaner, or that is not to be followed in this holding of the lock. Says whether the cleaner is wanted.
+    ///
+    /// # Errors
+    ///
+    /// Where an answer finds no memory.
+    pub fn call_each<R, G: Gate>(
+        &mut self,
+        run: &Run<'_, R, G>,
+        batch: &mut Batch,
+    ) -> Result<bool, AllocError>
+        ensures made { OnOk result
+            (AreMade self.old.journal self.new.journal batch.old batch.new) }
+        ensures some { OnOk result (0 < length batch.old.calls.items
+            → length batch.new.calls.items < length batch.old.calls.items) }
+    {
+        while let Some((cred, request)) = batch.calls.pop_front() {
+            let (session, _) = batch.turns.next();
+            let (answer, wants_cleaner) = self.call(session, &cred, request);
+            batch.answers.push(answer)?;
+            if wants_cleaner || !batch.goes_on(run) {
+                return Ok(wants_cleaner);
+            }
+        }
+        Ok(false)
     }
 
     /// Makes the next call of a session, of a copy of what it asks, and keeps it with its answer in the session's

@@ -1,6 +1,7 @@
 //! The server: sessions on threads and a cleaner beside them over one volume, handed out once the journal is settled.
 #![tactic(auto)]
 
+mod batch;
 mod cleaner;
 mod doorbell;
 pub mod fresh;

@@ -21,6 +21,7 @@ use lfs_volume::volume::Volume;
 use std::alloc::{AllocFailed, Global};
 use std::marker::Brand;
 use std::sync::Wait;
+use std::sync::atomic::AtomicBool;
 use std::thread::Threads;
 use thiserror::Error;
 
@@ -126,6 +127,12 @@ where
         stopped.volume.journal stopped.volume.limit)) }
     ensures fault { IfErr result (λ unserved. IsRunFault (fault_of unserved)) }
 {
-    let run = Run { rt, alloc, gate };
+    let is_awaited = AtomicBool::new(false);
+    let run = Run {
+        rt,
+        alloc,
+        gate,
+        is_awaited: &is_awaited,
+    };
     serve_kept::<Brand, R, F, C, G>(&run, volume, clients)
 }

@@ -23,6 +23,7 @@ use lfs_types::store::FileStore;
 use lfs_volume::volume::Volume;
 use std::alloc::{AllocError, AllocFailed, Global};
 use std::marker::Brand;
+use std::sync::atomic::AtomicBool;
 use std::sync::{Mutex, Wait};
 use std::thread;
 use std::thread::{JoinHandle, Scope, Threads};
@@ -95,8 +96,9 @@ impl From<AllocError> for ServeFault {
 }
 
 /// Runs the setup as session 0 and then each script as a session on a thread of its own, session 1 to 8, with the cleaner
-/// on one more, as session 255 and user 0. A call is one holding of the lock on the volume. Faults of memory and threads
-/// come only after all threads have ended.
+/// on one more, as session 255 and user 0. In one holding of the lock on the volume a session makes 16 calls at most, those
+/// between which the gate is open, and none more once the cleaner waits or is wanted. Faults of memory and threads come
+/// only after all threads have ended.
 pub fn serve_over<R, F, G>(
     rt: &R,
     alloc: Global,
@@ -131,7 +133,13 @@ where
     ensures fault { IfErr result (λ unserved. IsFaultOf (vec_len sessions) (fault_of unserved)) }
 {
     check_sessions(sessions.len())?;
-    let run = Run { rt, alloc, gate };
+    let is_awaited = AtomicBool::new(false);
+    let run = Run {
+        rt,
+        alloc,
+        gate,
+        is_awaited: &is_awaited,
+    };
     run_kept::<Brand, R, F, G>(&run, volume, &setup, sessions.as_slice())
 }
 

@@ -1,7 +1,10 @@
-//! A session: its calls, one after another, each as one holding of the lock on the volume.
+//! A session: its calls, one after another, some of them in one holding of the lock on the volume.
 
+ghost use Rattle.std.specs.Prelude.{◌<◌, OnOk, length};
+
+use crate::batch::{Batch, MOST_CALLS};
 use crate::doorbell::Button;
-use crate::gate::{Gate, Turns};
+use crate::gate::Gate;
 use crate::kept::{Kept, Sizes};
 use crate::run::Run;
 use lfs_types::answer::Answer;
@@ -53,19 +56,46 @@ pub fn run_session<S: Sizes, R: Wait, F: FileStore + Drop, G: Gate>(
         number,
         script,
         button,
-        mut answers,
+        answers,
     } = session;
-    let mut turns = Turns::new(number);
-    for (cred, request) in script.as_slice() {
-        let copy = request.try_clone(run.alloc)?;
-        let (answer, wants_cleaner) = turns.pass(
-            run.gate,
-            || volume.lock(run.rt).call(number, cred, copy),
-        );
-        if wants_cleaner {
+    let mut batch = Batch::new(number, run.alloc, answers)?;
+    for lines in script.as_slice().chunks(MOST_CALLS) {
+        batch.take(run.alloc, lines)?;
+        make_calls(run, volume, &button, &mut batch)?;
+    }
+    Ok(batch.answers)
+}
+
+/// Makes the next calls of a session, and rings for the cleaner behind each that wants it.
+fn make_calls<S: Sizes, R: Wait, F: FileStore + Drop, G: Gate>(
+    run: &Run<'_, R, G>,
+    volume: &Mutex<Kept<S, F>>,
+    button: &Button,
+    batch: &mut Batch,
+) -> Result<(), AllocError> {
+    while !batch.calls.is_empty() {
+        if hold(run, volume, batch)? {
             button.ring(run.rt);
         }
-        answers.push(answer)?;
     }
-    Ok(answers)
+    Ok(())
+}
+
+/// Makes the next calls of a session in one holding of the lock, between the two halves of the gate, and says whether the
+/// cleaner is wanted.
+fn hold<S: Sizes, R: Wait, F: FileStore + Drop, G: Gate>(
+    run: &Run<'_, R, G>,
+    volume: &Mutex<Kept<S, F>>,
+    batch: &mut Batch,
+) -> Result<bool, AllocError>
+    ensures { OnOk result (0 < length batch.old.calls.items
+        → length batch.new.calls.items < length batch.old.calls.items) }
+{
+    let (session, first) = batch.turns.next();
+    run.gate.before(session, first);
+    let wants_cleaner = volume.lock(run.rt).call_each(run, batch)?;
+    let (_, last) = batch.turns.next();
+    run.gate.after(session, last);
+    batch.turns.step();
+    Ok(wants_cleaner)
 }
