@@ -4,6 +4,7 @@ use Rattle.std.proofs.Common.{◌≡◌, ◌∙◌, List, Some, ap, ℕ}
 use Rattle.std.specs.Borrow.{Bor}
 use Rattle.clap.specs.Simple.{new_rule}
 use Rattle.clap.specs.Walk.{Rule, rule_of}
+use Rattle.clap.specs.declared.builder.action.ArgAction.{ArgAction}
 use Rattle.clap.specs.declared.builder.arg.Arg.{Arg}
 use Rattle.clap.specs.declared.builder.texts.Texts.TheVariants.{One}
 use Rattle.clap.specs.declared.builder.value_parser.ValueParser.{ValueParser}
@@ -22,3 +23,14 @@ ruled made long named parsed helped name value help given parser is with_long wi
     ∙ ap (λ (r : Rule). record r { parser = Some parser })
     (ap rule_of with_name ∙ ap (λ (r : Rule). record r { value_names = 1 })
     (ap rule_of with_long ∙ ap (λ (r : Rule). record r { long = Some name.now }) is))
+
+-- one with a long name, an action and a help
+pub flagged : (made long acted helped : Arg) (name help : Bor (List ℕ)) (action : ArgAction)
+    → rule_of made ≡ new_rule name.now → long ≡ record made { long = Some name }
+    → acted ≡ record long { action = Some action } → helped ≡ record acted { help = Some help }
+    → rule_of helped ≡ record (new_rule name.now) { long = Some name.now; action = Some action }
+flagged made long acted helped name help action is with_long with_action with_help =
+    ap rule_of with_help
+    ∙ ap rule_of with_action
+    ∙ ap (λ (r : Rule). record r { action = Some action })
+    (ap rule_of with_long ∙ ap (λ (r : Rule). record r { long = Some name.now }) is)

@@ -2,7 +2,9 @@
 use Rattle.std.specs.Prelude.{Some}
 use Rattle.clap.specs.Simple.{new_rule}
 use Rattle.clap.specs.Walk.{Rule}
+use Rattle.clap.specs.declared.builder.action.ArgAction.TheVariants.{SetTrue}
 use Rattle.clap.specs.declared.builder.value_parser.ValueParser.TheVariants.{Unsigned}
+use Rattle.lfs_command.specs.declared.flags.FlagOption.{FlagOption}
 use Rattle.lfs_command.specs.declared.numbers.NumberOption.{NumberOption}
 
 -- What a parse reads of an option that takes a number: a word of its name behind two hyphens, with
@@ -13,4 +15,12 @@ number_rule option = record (new_rule option.name.now) {
   long = Some option.name.now;
   value_names = 1;
   parser = Some (Unsigned option.least option.most);
+}
+
+-- What a parse reads of an option that takes no value: a word of its name behind two hyphens, by
+-- which the name is set. It may be left out, and rules out no other.
+abbrev pub flag_rule : FlagOption → Rule
+flag_rule option = record (new_rule option.name.now) {
+  long = Some option.name.now;
+  action = Some SetTrue;
 }
