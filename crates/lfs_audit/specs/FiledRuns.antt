@@ -8,7 +8,7 @@ use Rattle.lfs_model.specs.Runs.{kept_steps}
 use Rattle.lfs_model.specs.Steps.{IsLegal}
 use Rattle.lfs_script.specs.PlanTypes.{Planned}
 use Rattle.lfs_script.specs.declared.plan.Step.{Step}
-use Rattle.lfs_staging.specs.declared.parts.Parts.{Parts}
+use Rattle.lfs_parts.specs.declared.parts.Parts.{Parts}
 use Rattle.lfs_server.specs.Fresh.{IsFreshLog}
 use Rattle.lfs_sinks.specs.Refusals.{run_report}
 use Rattle.lfs_volume.specs.Cleanings.{Cleaner}

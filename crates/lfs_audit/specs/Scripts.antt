@@ -1,8 +1,8 @@
 -- What a run of a script on a fresh volume over the log store prints, and how it may fail.
 use Rattle.std.specs.Prelude.{◌≡◌, ℕ, List, Option}
 use Rattle.lfs_types.specs.Tree.{opening_world}
-use Rattle.lfs_staging.specs.Store.{IsSettled}
-use Rattle.lfs_staging.specs.declared.parts.Parts.{Parts}
+use Rattle.lfs_parts.specs.Store.{IsSettled}
+use Rattle.lfs_parts.specs.declared.parts.Parts.{Parts}
 use Rattle.lfs_logstore.specs.Answering.{ComesTo}
 use Rattle.lfs_logstore.specs.CleanerCalls.{log_calls}
 use Rattle.lfs_logstore.specs.States.{state_of}

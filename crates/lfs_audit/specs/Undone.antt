@@ -5,7 +5,7 @@ use Rattle.lfs_types.specs.Caller.{Caller}
 use Rattle.lfs_types.specs.Tree.{opening_world}
 use Rattle.lfs_types.specs.declared.answer.Answer.{Answer}
 use Rattle.lfs_types.specs.declared.request.Request.{Request}
-use Rattle.lfs_staging.specs.declared.parts.Parts.{Parts}
+use Rattle.lfs_parts.specs.declared.parts.Parts.{Parts}
 use Rattle.lfs_logstore.specs.States.{shape_of, state_of}
 use Rattle.lfs_settle.specs.Interleaving.{IsLowestToDiffer, run_of}
 use Rattle.lfs_volume.specs.Journals.{IsJournal}
