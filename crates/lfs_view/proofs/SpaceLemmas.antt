@@ -4,7 +4,7 @@ use Rattle.std.proofs.Common.{subst, refl, sym, arith}
 use Rattle.lfs_ifile.specs.Tables.{place_of, row_of}
 use Rattle.lfs_ifile.specs.declared.inode.InodePlace.{InodePlace}
 use Rattle.lfs_log.specs.Parts.{live_of}
-use Rattle.lfs_staging.specs.declared.parts.Parts.{Parts}
+use Rattle.lfs_parts.specs.declared.parts.Parts.{Parts}
 use Rattle.lfs_view.specs.SpaceText.{live_below, one_used, used_below}
 
 pub live_none : (p : Parts) → 0 ≡ live_below p 0

@@ -9,9 +9,10 @@ use Rattle.lfs_segments.specs.declared.entry.SummaryEntry.{SummaryEntry}
 use Rattle.lfs_segments.specs.declared.summary.Summary.{Summary}
 use Rattle.lfs_segments.specs.Entry.{unused}
 use Rattle.lfs_segments.specs.Log.{after_block, expected, first_of, log_block}
-use Rattle.lfs_segments.specs.Memory.{SegmentMemory, block_at}
-use Rattle.lfs_segments.specs.Reading.{named_by, summary_entries}
-use Rattle.lfs_staging.specs.declared.parts.Parts.{Parts}
+use Rattle.lfs_segments.specs.Memory.{SegmentMemory, block_at, has_serials}
+use Rattle.lfs_segments.specs.Reading.{named_by}
+use Rattle.lfs_segments.specs.Serial.{entries_in}
+use Rattle.lfs_parts.specs.declared.parts.Parts.{Parts}
 use Rattle.lfs_view.specs.Cells.{IsIn, begun, cell_at, cells_from, standing_at}
 use Rattle.lfs_view.specs.declared.cells.Cell.{Cell}
 use Rattle.lfs_view.specs.declared.walk.Standing.TheVariants as standing
@@ -28,16 +29,16 @@ going entries next count true off = absurd (let bad : true ≡ false = off in cc
 going entries next count false off = refl
 
 -- a block that an entry names is passed
-pub passed_named : (entries : List SummaryEntry) (next count : ℕ) (ended : Bool) (block : List ℕ)
+pub passed_named : (kind : Bool) (entries : List SummaryEntry) (next count : ℕ) (ended : Bool) (block : List ℕ)
     (now : Option (List SummaryEntry))
     → held entries next count ended ≡ now → ended ≡ false → next < count → count ≤ length entries
-    → held entries (next + 1) count ended ≡ option_and_then (λ es. after_block es block) now
-passed_named entries next count ended block now is off below fits =
+    → held entries (next + 1) count ended ≡ option_and_then (λ es. after_block kind es block) now
+passed_named kind entries next count ended block now is off below fits =
     let old : Some (get_or entries next unused ∷ drop (next + 1) (take count entries)) ≡ now =
     ap (λ (es : List SummaryEntry). Some es) (sym (expected_more entries next count below fits))
     ∙ sym (going entries next count ended off) ∙ is in
     going entries (next + 1) count ended off
-    ∙ ap (λ (o : Option (List SummaryEntry)). option_and_then (λ es. after_block es block) o) old
+    ∙ ap (λ (o : Option (List SummaryEntry)). option_and_then (λ es. after_block kind es block) o) old
 
 -- behind the last one a summary is read
 nothing : (entries : List SummaryEntry) (next count : ℕ) (ended : Bool) (now : Option (List SummaryEntry))
@@ -47,40 +48,42 @@ nothing entries next count ended now is off past =
     ap (λ (es : List SummaryEntry). Some es) (sym (expected_none entries next count past))
     ∙ sym (going entries next count ended off) ∙ is
 
-pub passed_summary : (entries : List SummaryEntry) (next count : ℕ) (ended : Bool) (block : List ℕ)
+pub passed_summary : (kind : Bool) (entries : List SummaryEntry) (next count : ℕ) (ended : Bool) (block : List ℕ)
     (now : Option (List SummaryEntry)) (s : Summary)
-    → held entries next count ended ≡ now → ended ≡ false → count ≤ next → Some (named_by s) ≡ summary_entries block
-    → held s.entries 0 s.count ended ≡ option_and_then (λ es. after_block es block) now
-passed_summary entries next count ended block now s is off past read =
+    → held entries next count ended ≡ now → ended ≡ false → count ≤ next → Some (named_by s) ≡ entries_in kind block
+    → held s.entries 0 s.count ended ≡ option_and_then (λ es. after_block kind es block) now
+passed_summary kind entries next count ended block now s is off past read =
     going s.entries 0 s.count ended off ∙ read
-    ∙ ap (λ (o : Option (List SummaryEntry)). option_and_then (λ es. after_block es block) o)
+    ∙ ap (λ (o : Option (List SummaryEntry)). option_and_then (λ es. after_block kind es block) o)
     (nothing entries next count ended now is off past)
 
-pub stands_summary : (entries : List SummaryEntry) (next count : ℕ) (ended : Bool) (block : List ℕ)
+pub stands_summary : (kind : Bool) (entries : List SummaryEntry) (next count : ℕ) (ended : Bool) (block : List ℕ)
     (now : Option (List SummaryEntry)) (s : Summary)
-    → held entries next count ended ≡ now → ended ≡ false → count ≤ next → Some (named_by s) ≡ summary_entries block
+    → held entries next count ended ≡ now → ended ≡ false → count ≤ next → Some (named_by s) ≡ entries_in kind block
     → s.count ≤ length s.entries
-    → standing.Summary s.count ≡ standing_at now block
-stands_summary entries next count ended block now s is off past read fits =
+    → standing.Summary s.count ≡ standing_at kind now block
+stands_summary kind entries next count ended block now s is off past read fits =
     ap (λ (n : ℕ). standing.Summary n) (sym (length-take-le s.count s.entries fits))
     ∙ ap (λ (o : Option (List SummaryEntry)). begun o) read
-    ∙ ap (λ (o : Option (List SummaryEntry)). standing_at o block) (nothing entries next count ended now is off past)
+    ∙ ap (λ (o : Option (List SummaryEntry)). standing_at kind o block) (nothing entries next count ended now is off past)
 
 -- the walk of a segment expects what the log expects at the next address
-pub walked_on : (m : SegmentMemory) (segment address : ℕ) (old new : Option (List SummaryEntry)) (block : List ℕ)
-    → first_of segment ≤ address
-    → old ≡ expected (log_block m segment) (address - first_of segment) → block ≡ block_at m address → new
-    ≡ option_and_then (λ es. after_block es block) old
-    → new ≡ expected (log_block m segment) (address + 1 - first_of segment)
+pub walked_on : (m : SegmentMemory) (segment address : ℕ) (kind : Bool) (old new : Option (List SummaryEntry))
+    (block : List ℕ) → kind ≡ has_serials m → first_of segment ≤ address
+    → old ≡ expected (has_serials m) (log_block m segment) (address - first_of segment) → block ≡ block_at m address → new
+    ≡ option_and_then (λ es. after_block kind es block) old
+    → new ≡ expected (has_serials m) (log_block m segment) (address + 1 - first_of segment)
 unfolding expected
-walked_on m segment address old new block from was at passed =
+walked_on m segment address kind old new block same from was at passed =
     let k : ℕ = address - first_of segment in
     let one : address + 1 - first_of segment ≡ suc k = omega arith in
     let here : first_of segment + k ≡ address = omega arith in
     passed
-    ∙ ap (λ (b : List ℕ). option_and_then (λ es. after_block es b) old) (at ∙ ap (block_at m) (sym here))
-    ∙ ap (λ (o : Option (List SummaryEntry)). option_and_then (λ es. after_block es (log_block m segment k)) o) was
-    ∙ ap (expected (log_block m segment)) (sym one)
+    ∙ ap (λ (s : Bool). option_and_then (λ es. after_block s es block) old) same
+    ∙ ap (λ (b : List ℕ). option_and_then (λ es. after_block (has_serials m) es b) old) (at ∙ ap (block_at m) (sym here))
+    ∙ ap (λ (o : Option (List SummaryEntry)). option_and_then (λ es. after_block (has_serials m) es
+    (log_block m segment k)) o) was
+    ∙ ap (expected (has_serials m) (log_block m segment)) (sym one)
 
 -- behind the label, and where a segment has none, the log begins
 pub first_below : (segment address : ℕ) → segment * 64 ≤ address → (address ≡ 0 → ⊥) → first_of segment ≤ address
@@ -89,7 +92,7 @@ first_below (suc segment) address from some = omega arith
 
 -- where a segment begins, a summary is expected
 pub walk_begins : (m : SegmentMemory) (segment : ℕ) → Some []
-    ≡ expected (log_block m segment) (segment * 64 - first_of segment)
+    ≡ expected (has_serials m) (log_block m segment) (segment * 64 - first_of segment)
 unfolding expected
 walk_begins m segment = let none : segment * 64 - first_of segment ≡ 0 = omega arith in rw none refl
 

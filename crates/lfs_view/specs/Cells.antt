@@ -7,12 +7,12 @@ use Rattle.lfs_segments.specs.declared.entry.LogicalBlock.TheVariants.{Data, Sin
 use Rattle.lfs_segments.specs.declared.entry.SummaryEntry.{SummaryEntry}
 use Rattle.lfs_segments.specs.Entry.{block_number}
 use Rattle.lfs_segments.specs.Log.{expected_at}
-use Rattle.lfs_segments.specs.Memory.{block_at}
-use Rattle.lfs_segments.specs.Reading.{summary_entries}
+use Rattle.lfs_segments.specs.Memory.{block_at, has_serials}
+use Rattle.lfs_segments.specs.Serial.{entries_in}
 use Rattle.lfs_ifile.specs.declared.inode.InodePlace.{InodePlace}
 use Rattle.lfs_ifile.specs.Tables.{place_of}
 use Rattle.lfs_log.specs.Names.{record_at}
-use Rattle.lfs_staging.specs.declared.parts.Parts.{Parts}
+use Rattle.lfs_parts.specs.declared.parts.Parts.{Parts}
 use Rattle.lfs_segwrite.specs.Marking.{code_named}
 use Rattle.lfs_logstore.specs.Cleaning.{address_of}
 use Rattle.lfs_view.specs.declared.cells.Cell.{Cell}
@@ -29,11 +29,12 @@ abbrev pub begun : Option (List SummaryEntry) → Standing
 begun None = standing.Unwritten
 begun (Some entries) = standing.Summary (length entries)
 
--- What stands where the log expects the blocks of these entries, and then a summary; none behind its end.
-abbrev pub standing_at : Option (List SummaryEntry) → List ℕ → Standing
-standing_at None block = standing.Unwritten
-standing_at (Some []) block = begun (summary_entries block)
-standing_at (Some (e ∷ more)) block = standing.Named e
+-- What stands where the log expects the blocks of these entries, and then a summary, with a serial or without one; none
+-- behind its end.
+abbrev pub standing_at : Bool → Option (List SummaryEntry) → List ℕ → Standing
+standing_at serials None block = standing.Unwritten
+standing_at serials (Some []) block = begun (entries_in serials block)
+standing_at serials (Some (e ∷ more)) block = standing.Named e
 
 -- the present address of the block of a file that is named so, as the cleaner is told it: 0 where it has none
 abbrev pub present : Parts → ℕ → ℕ → LogicalBlock → ℕ
@@ -97,8 +98,8 @@ standing_kind p address (standing.Named e) = named_kind p address e e.block
 abbrev pub kind_at : Parts → ℕ → Kind
 kind_at p address =
     if address == 0 then Label
-    else standing_kind p address (standing_at (expected_at p.log.memory (address / SEGMENT_BLOCKS) address)
-    (block_at p.log.memory address))
+    else standing_kind p address (standing_at (has_serials p.log.memory)
+    (expected_at p.log.memory (address / SEGMENT_BLOCKS) address) (block_at p.log.memory address))
 
 abbrev pub cell_at : Parts → ℕ → Cell
 cell_at p address = record { address = address; kind = kind_at p address }

@@ -5,7 +5,7 @@ use Rattle.lfs_segments.specs.declared.entry.LogicalBlock.TheVariants.{Data, Sin
 use Rattle.lfs_ifile.specs.declared.segment.SegState.{SegState}
 use Rattle.lfs_ifile.specs.declared.segment.SegState.TheVariants.{Clean, Dirty, Active}
 use Rattle.lfs_log.specs.Parts.{live_of, state_of}
-use Rattle.lfs_staging.specs.declared.parts.Parts.{Parts}
+use Rattle.lfs_parts.specs.declared.parts.Parts.{Parts}
 use Rattle.lfs_words.specs.Wording.{spaced}
 use Rattle.lfs_view.specs.Cells.{block_life, cells_of, life_among}
 use Rattle.lfs_view.specs.declared.cells.Cell.{Cell}

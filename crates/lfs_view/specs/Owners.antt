@@ -3,7 +3,7 @@ use Rattle.std.specs.Prelude.{ℕ, zero, suc, List, [], ◌∷◌, ◌++◌, dec
 use Rattle.std.specs.List.{flat_map}
 use Rattle.lfs_segments.specs.declared.entry.SummaryEntry.{SummaryEntry}
 use Rattle.lfs_segments.specs.Entry.{block_number}
-use Rattle.lfs_staging.specs.declared.parts.Parts.{Parts}
+use Rattle.lfs_parts.specs.declared.parts.Parts.{Parts}
 use Rattle.lfs_words.specs.Wording.{spaced}
 use Rattle.lfs_view.specs.Cells.{cells_of, logged_at}
 use Rattle.lfs_view.specs.declared.cells.Cell.{Cell}

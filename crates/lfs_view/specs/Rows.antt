@@ -1,6 +1,6 @@
 -- The rows of a map, each by itself.
 use Rattle.std.specs.Prelude.{ℕ, zero, suc, List, [], ◌∷◌, ◌++◌}
-use Rattle.lfs_staging.specs.declared.parts.Parts.{Parts}
+use Rattle.lfs_parts.specs.declared.parts.Parts.{Parts}
 use Rattle.lfs_view.specs.MapText.{row_text}
 
 -- the lines of the first n segments

@@ -6,7 +6,7 @@ use Rattle.lfs_segments.specs.declared.entry.LogicalBlock.TheVariants.{Data, Sin
 use Rattle.lfs_segments.specs.declared.entry.SummaryEntry.{SummaryEntry}
 use Rattle.lfs_segments.specs.Entry.{block_number}
 use Rattle.lfs_log.specs.Parts.{live_of, state_of}
-use Rattle.lfs_staging.specs.declared.parts.Parts.{Parts}
+use Rattle.lfs_parts.specs.declared.parts.Parts.{Parts}
 use Rattle.lfs_view.specs.Cells.{block_life, cells_of, life_among, record_life, logged_at}
 use Rattle.lfs_view.specs.MapText.{line_of, state_word}
 use Rattle.lfs_view.specs.declared.cells.Cell.{Cell}

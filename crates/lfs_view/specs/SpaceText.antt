@@ -2,7 +2,7 @@
 use Rattle.std.specs.Prelude.{ℕ, zero, suc, ◌+◌, List, [], ◌∷◌, ◌++◌, codes, decimal, length, if◌then◌else◌}
 use Rattle.lfs_ifile.specs.Tables.{row_of}
 use Rattle.lfs_log.specs.Parts.{live_of}
-use Rattle.lfs_staging.specs.declared.parts.Parts.{Parts}
+use Rattle.lfs_parts.specs.declared.parts.Parts.{Parts}
 use Rattle.lfs_view.specs.MapText.{line_of, waiting_line}
 use Rattle.lfs_view.specs.declared.space.Space.{Space}
 

@@ -3,15 +3,16 @@
 ghost use Rattle.std.specs.Prelude.{◌≡◌, ◌+◌, ◌*◌, ◌-◌, ◌<◌, ◌≤◌, All, IfOk};
 ghost use Rattle.lfs_types.specs.declared.limits.TheConstants.{SEGMENT_BLOCKS};
 ghost use Rattle.lfs_segments.specs.Log.{expected, first_of, log_block};
-ghost use Rattle.lfs_staging.specs.Store.{IsStore};
+ghost use Rattle.lfs_segments.specs.Memory.{has_serials};
+ghost use Rattle.lfs_parts.specs.Store.{IsStore};
 ghost use Rattle.lfs_view.specs.Cells.{IsIn, cell_at, cells_of, named_kind, standing_kind};
 
 use crate::records::{counts_at, present};
 use crate::walk::{Standing, Walk};
 use lfs_logstore::LogStore;
+use lfs_parts::parts::Parts;
 use lfs_segments::entry::{LogicalBlock, SummaryEntry};
 use lfs_segments::segments::SEGMENT_BLOCKS;
-use lfs_staging::parts::Parts;
 use std::alloc::{AllocError, Global};
 
 /// What stands at an address.
@@ -73,11 +74,11 @@ fn next_cell(parts: &Parts, walk: &mut Walk, segment: u32, address: u32) -> Cell
     requires inside { segment < parts.now.log.memory.segments }
     requires from { segment * SEGMENT_BLOCKS ≤ address }
     requires to { address < segment * SEGMENT_BLOCKS + SEGMENT_BLOCKS }
-    requires walked { walk.old ≡ expected (log_block parts.now.log.memory segment)
-        (address - first_of segment) }
+    requires walked { walk.old ≡ expected (has_serials parts.now.log.memory)
+        (log_block parts.now.log.memory segment) (address - first_of segment) }
     ensures cell { result ≡ cell_at parts.now address }
-    ensures walked { walk.new ≡ expected (log_block parts.now.log.memory segment)
-        (address + 1 - first_of segment) }
+    ensures walked { walk.new ≡ expected (has_serials parts.now.log.memory)
+        (log_block parts.now.log.memory segment) (address + 1 - first_of segment) }
 {
     if address == 0 {
         return Cell {
@@ -85,7 +86,7 @@ fn next_cell(parts: &Parts, walk: &mut Walk, segment: u32, address: u32) -> Cell
             kind: Kind::Label,
         };
     }
-    let standing = walk.pass(parts.log.block(address));
+    let standing = walk.pass(parts.log.block(address), parts.log.has_serials());
     Cell {
         address,
         kind: standing_kind(parts, address, standing),

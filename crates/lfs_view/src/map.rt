@@ -1,15 +1,15 @@
 //! The map of a log: a line for each segment, with a sign for each of its blocks.
 
 ghost use Rattle.std.specs.Prelude.{◌≡◌, ◌<◌, ◌∷◌, ◌++◌, [], map, OnOk};
-ghost use Rattle.lfs_staging.specs.Store.{IsStore};
+ghost use Rattle.lfs_parts.specs.Store.{IsStore};
 ghost use Rattle.lfs_view.specs.MapText.{block_sign, cell_sign, kind_sign, legend, life_sign, map_text, row_text, state_word, use_text, waiting_line, waiting_text};
 
 use crate::cells::{Cell, Kind, walked};
 use crate::life::Life;
 use crate::padding::{push_right, push_right_number};
 use lfs_ifile::SegState;
+use lfs_parts::parts::Parts;
 use lfs_segments::entry::LogicalBlock;
-use lfs_staging::parts::Parts;
 use lfs_words::append::{push_number, push_word};
 use std::alloc::{AllocError, Global};
 

@@ -3,7 +3,7 @@
 ghost use Rattle.std.specs.Prelude.{◌≡◌, ◌*◌, ◌<◌, ◌++◌, All, IfOk, OnOk};
 ghost use Rattle.std.specs.List.{flat_map};
 ghost use Rattle.lfs_types.specs.declared.limits.TheConstants.{SEGMENT_BLOCKS};
-ghost use Rattle.lfs_staging.specs.Store.{IsStore};
+ghost use Rattle.lfs_parts.specs.Store.{IsStore};
 ghost use Rattle.lfs_view.specs.Cells.{IsIn, logged_at};
 ghost use Rattle.lfs_view.specs.Owners.{block_owner, cell_owner, kind_owner, owners_of, owners_text, logged_owner, records_owners};
 
@@ -11,8 +11,8 @@ use crate::cells::{Cell, Kind, walked};
 use crate::records::{LoggedRecord, logged_at};
 use crate::rows::Row;
 use lfs_logstore::LogStore;
+use lfs_parts::parts::Parts;
 use lfs_segments::entry::SummaryEntry;
-use lfs_staging::parts::Parts;
 use lfs_words::append::{push_decimal, push_number};
 use std::alloc::{AllocError, Global};
 

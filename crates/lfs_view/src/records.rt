@@ -3,12 +3,12 @@
 ghost use Rattle.std.specs.Prelude.{◌≡◌, ◌*◌, ◌<◌};
 ghost use Rattle.lfs_types.specs.declared.limits.TheConstants.{SEGMENT_BLOCKS};
 ghost use Rattle.lfs_ifile.specs.Tables.{place_of};
-ghost use Rattle.lfs_staging.specs.Store.{IsStore};
+ghost use Rattle.lfs_parts.specs.Store.{IsStore};
 ghost use Rattle.lfs_view.specs.Cells.{found_at, found_one, is_there, live_at, live_one, present, logged_at};
 
 use lfs_log::packing::inode_in;
+use lfs_parts::parts::Parts;
 use lfs_segments::entry::LogicalBlock;
-use lfs_staging::parts::Parts;
 use lfs_types::cleaner::BlockInfo;
 
 /// A record in a block of records.

@@ -1,13 +1,13 @@
 //! The rows of a map, each by itself.
 
 ghost use Rattle.std.specs.Prelude.{◌≡◌, ◌<◌, IfOk};
-ghost use Rattle.lfs_staging.specs.Store.{IsStore};
+ghost use Rattle.lfs_parts.specs.Store.{IsStore};
 ghost use Rattle.lfs_view.specs.MapText.{row_text, waiting_text};
 ghost use Rattle.lfs_view.specs.Rows.{rows_of};
 
 use crate::map::{push_row, push_waiting};
 use lfs_logstore::LogStore;
-use lfs_staging::parts::Parts;
+use lfs_parts::parts::Parts;
 use std::alloc::{AllocError, Global};
 use std::marker::Model;
 

@@ -3,7 +3,7 @@
 ghost use Rattle.std.specs.Prelude.{◌≡◌, ◌*◌, ◌<◌, ◌∷◌, ◌++◌, [], codes, decimal, All, OnOk};
 ghost use Rattle.std.specs.List.{flat_map};
 ghost use Rattle.lfs_types.specs.declared.limits.TheConstants.{SEGMENT_BLOCKS};
-ghost use Rattle.lfs_staging.specs.Store.{IsStore};
+ghost use Rattle.lfs_parts.specs.Store.{IsStore};
 ghost use Rattle.lfs_words.specs.Wording.{spaced};
 ghost use Rattle.lfs_view.specs.Cells.{IsIn, life_among, logged_at};
 ghost use Rattle.lfs_view.specs.MapText.{line_of};
@@ -13,8 +13,8 @@ use crate::cells::{Cell, Kind, walked};
 use crate::life::Life;
 use crate::map::state_word;
 use crate::records::{LoggedRecord, logged_at};
+use lfs_parts::parts::Parts;
 use lfs_segments::entry::{LogicalBlock, SummaryEntry};
-use lfs_staging::parts::Parts;
 use lfs_words::append::{push_decimal, push_number, push_word};
 use std::alloc::{AllocError, Global};
 

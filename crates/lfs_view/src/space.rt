@@ -1,12 +1,12 @@
 //! How full a log is.
 
 ghost use Rattle.std.specs.Prelude.{◌≡◌, ◌<◌, ◌++◌, ◌∷◌, [], codes, decimal, length, OnOk};
-ghost use Rattle.lfs_staging.specs.Store.{IsStore};
+ghost use Rattle.lfs_parts.specs.Store.{IsStore};
 ghost use Rattle.lfs_view.specs.MapText.{line_of};
 ghost use Rattle.lfs_view.specs.SpaceText.{live_below, one_used, share_line, space_lines, space_of, space_text, used_below};
 
 use crate::map::push_waiting_line;
-use lfs_staging::parts::Parts;
+use lfs_parts::parts::Parts;
 use lfs_words::append::{push_number, push_word};
 use std::alloc::AllocError;
 

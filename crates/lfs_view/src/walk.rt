@@ -5,7 +5,8 @@ ghost use Rattle.lfs_segments.specs.Log.{after_block};
 ghost use Rattle.lfs_view.specs.Cells.{standing_at};
 
 use lfs_segments::entry::SummaryEntry;
-use lfs_segments::summary::{ENTRY_LIMIT, Summary};
+use lfs_segments::log_summary::summary_in;
+use lfs_segments::summary::ENTRY_LIMIT;
 use lfs_types::block::Block;
 use std::marker::Model;
 
@@ -53,11 +54,11 @@ impl Walk {
         }
     }
 
-    /// What the next block of the log is.
-    pub fn pass(&mut self, block: &Block) -> Standing
-        ensures stands { result ≡ standing_at self.old block.now }
+    /// What the next block is, of a log whose summaries have serials, or have none.
+    pub fn pass(&mut self, block: &Block, has_serials: bool) -> Standing
+        ensures stands { result ≡ standing_at has_serials self.old block.now }
         ensures next { self.new ≡ option_and_then
-            (λ entries. after_block entries block.now) self.old }
+            (λ entries. after_block has_serials entries block.now) self.old }
     {
         if self.is_ended {
             return Standing::Unwritten;
@@ -67,7 +68,7 @@ impl Walk {
             self.next += 1;
             return Standing::Named(entry);
         }
-        match Summary::decode(block) {
+        match summary_in(block, has_serials) {
             Some(summary) => {
                 let entries = summary.entries;
                 self.entries = entries;
