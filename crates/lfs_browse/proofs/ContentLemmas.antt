@@ -15,7 +15,7 @@ use Rattle.lfs_browse.specs.Looks.{TellsLook}
 use Rattle.lfs_browse.specs.Spelled.{spelled}
 use Rattle.lfs_browse.specs.Steps.{HasRead}
 use Rattle.lfs_audit.specs.declared.asker.Asker.{Asker}
-use Rattle.lfs_browse.specs.declared.look.Look.TheVariants.{Content}
+use Rattle.lfs_hearing.specs.declared.look.Look.TheVariants.{Content}
 use Rattle.lfs_browse.proofs.AskLemmas.{asks_joined, asks_none}
 
 -- so many whole pieces were read

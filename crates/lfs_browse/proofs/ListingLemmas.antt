@@ -17,7 +17,7 @@ use Rattle.lfs_browse.specs.Listing.{row_text, rows_text, stat_of}
 use Rattle.lfs_browse.specs.Looks.{TellsLook}
 use Rattle.lfs_browse.specs.Steps.{TellsListed, TellsNames, TellsRows}
 use Rattle.lfs_audit.specs.declared.asker.Asker.{Asker}
-use Rattle.lfs_browse.specs.declared.look.Look.TheVariants.{Listing}
+use Rattle.lfs_hearing.specs.declared.look.Look.TheVariants.{Listing}
 use Rattle.lfs_browse.proofs.AskLemmas.{asks_count, asks_joined, asks_none}
 
 -- ---- lists

@@ -20,7 +20,7 @@ use Rattle.lfs_browse.specs.Trees.{IsWalk, call_of, entry_of, leads_to, names_to
 use Rattle.lfs_browse.specs.Trees.{indent, shows_directory, unserved_text, visit_text, visits_text}
 use Rattle.lfs_browse.specs.Walking.{HasEnded, HasWalked, TakesIn, Visits}
 use Rattle.lfs_audit.specs.declared.asker.Asker.{Asker}
-use Rattle.lfs_browse.specs.declared.look.Look.TheVariants.{Tree}
+use Rattle.lfs_hearing.specs.declared.look.Look.TheVariants.{Tree}
 use Rattle.lfs_browse.specs.declared.visit.Visit.{Visit}
 use Rattle.lfs_browse.specs.declared.visit.Visit.TheVariants.{Entry, Names}
 use Rattle.lfs_browse.specs.declared.walk.Walk.{Walk}

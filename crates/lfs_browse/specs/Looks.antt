@@ -9,8 +9,8 @@ use Rattle.lfs_browse.specs.Content.{IsContent}
 use Rattle.lfs_browse.specs.Listing.{IsListed}
 use Rattle.lfs_browse.specs.Trees.{IsTree}
 use Rattle.lfs_audit.specs.declared.asker.Asker.{Asker}
-use Rattle.lfs_browse.specs.declared.look.Look.{Look}
-use Rattle.lfs_browse.specs.declared.look.Look.TheVariants.{Listing, Content, Tree}
+use Rattle.lfs_hearing.specs.declared.look.Look.{Look}
+use Rattle.lfs_hearing.specs.declared.look.Look.TheVariants.{Listing, Content, Tree}
 
 -- the calls of a look at a path that were answered so, and what is told of them
 abbrev pub IsLooked : Look → ℕ → List (List ℕ) → List Request → List Answer → List ℕ → Type 0

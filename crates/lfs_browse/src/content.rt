@@ -8,7 +8,7 @@ ghost use Rattle.lfs_browse.specs.Content.{bytes_of, end_text, is_whole};
 ghost use Rattle.lfs_browse.specs.Looks.{TellsLook};
 ghost use Rattle.lfs_browse.specs.Spelled.{spelled};
 ghost use Rattle.lfs_browse.specs.Steps.{HasRead};
-ghost use Rattle.lfs_browse.specs.declared.look.Look.TheVariants.{Content};
+ghost use Rattle.lfs_hearing.specs.declared.look.Look.TheVariants.{Content};
 
 use crate::asking::ask;
 use crate::spelling::push_spelled;

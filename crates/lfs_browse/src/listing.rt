@@ -5,7 +5,7 @@ ghost use Rattle.lfs_volume.specs.Cleanings.{cleaner_of};
 ghost use Rattle.lfs_browse.specs.Listing.{has_path, names_served};
 ghost use Rattle.lfs_browse.specs.Looks.{TellsLook};
 ghost use Rattle.lfs_browse.specs.Steps.{TellsListed, TellsNames, TellsRows};
-ghost use Rattle.lfs_browse.specs.declared.look.Look.TheVariants.{Listing};
+ghost use Rattle.lfs_hearing.specs.declared.look.Look.TheVariants.{Listing};
 
 use crate::asking::ask;
 use crate::entry::entry;

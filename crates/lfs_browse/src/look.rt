@@ -8,21 +8,11 @@ use crate::content::tell_content;
 use crate::listing::tell_listing;
 use crate::walk::tell_tree;
 use lfs_audit::asker::Asker;
+use lfs_hearing::look::Look;
 use lfs_types::cleaned::CleanedStore;
 use lfs_types::path::Path;
 use lfs_volume::volume::Volume;
 use std::alloc::{AllocError, Global};
-
-/// What is looked at.
-#[derive(Clone, Copy, PartialEq, Eq, Debug)]
-pub enum Look {
-    /// The names of a directory, each with what a Stat of it shows.
-    Listing,
-    /// The bytes of a file.
-    Content,
-    /// The tree below a directory, each name with what a Stat of it shows.
-    Tree,
-}
 
 /// Looks at a path by calls of one caller, at most 107, each judged by the rules and entered as any, and gives what is told
 /// of their answers.

@@ -6,7 +6,7 @@ ghost use Rattle.lfs_browse.specs.Listing.{has_path, looked_of, names_served};
 ghost use Rattle.lfs_browse.specs.Looks.{TellsLook};
 ghost use Rattle.lfs_browse.specs.Trees.{count_text, entry_of, indent, rest_text, unlooked_text, unserved_text};
 ghost use Rattle.lfs_browse.specs.Walking.{HasEnded, TakesIn, Visits};
-ghost use Rattle.lfs_browse.specs.declared.look.Look.TheVariants.{Tree};
+ghost use Rattle.lfs_hearing.specs.declared.look.Look.TheVariants.{Tree};
 ghost use Rattle.lfs_browse.specs.declared.visit.Visit.TheVariants as visits;
 
 use crate::asking::ask;
