@@ -25,8 +25,8 @@ use Rattle.lfs_audit.specs.Runs.{TellsLine}
 use Rattle.lfs_sinks.specs.Sums.{counts_sum}
 use Rattle.lfs_live.specs.Talkers.{Talker}
 use Rattle.lfs_live.specs.Talking.{Hears, Tidies, is_due}
-use Rattle.lfs_live.specs.declared.hearing.Heard.{Heard}
-use Rattle.lfs_live.specs.declared.hearing.Heard.TheVariants as heard
+use Rattle.lfs_hearing.specs.declared.hearing.Heard.{Heard}
+use Rattle.lfs_hearing.specs.declared.hearing.Heard.TheVariants as heard
 use Rattle.lfs_audit.specs.declared.asker.Asker.{Asker}
 use Rattle.lfs_script.specs.declared.plan.Act.{Act}
 use Rattle.lfs_script.specs.declared.plan.Line.TheVariants as says

@@ -1,4 +1,3 @@
-pub mod HearingLemmas
 pub mod KeepingLemmas
 pub mod LineLemmas
 pub mod SameLemmas

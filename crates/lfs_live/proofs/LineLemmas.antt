@@ -8,10 +8,11 @@ use Rattle.std.proofs.KnownBytes.{Consumes-kept, Consumes-trans}
 use Rattle.std.proofs.lemmas.Bool.{lt-ltb, ltb-false, ltb-true, ltb_from_iff}
 use Rattle.std.proofs.lemmas.List.{take_all}
 use Rattle.std.proofs.lemmas.List.Elements.{All-push}
-use Rattle.lfs_live.specs.Hearing.{heard_of, is_long}
+use Rattle.lfs_hearing.specs.Hearing.{heard_of, is_long}
 use Rattle.lfs_live.specs.Pieces.{IsPiece, IsUnended}
-use Rattle.lfs_live.specs.Telling.{cut_texts, fault_line}
-use Rattle.lfs_live.specs.declared.fault.LineFault.TheVariants.{TooLong, Kind}
+use Rattle.lfs_live.specs.Telling.{cut_texts}
+use Rattle.lfs_hearing.specs.FaultLines.{fault_line}
+use Rattle.lfs_hearing.specs.declared.fault.LineFault.TheVariants.{TooLong, Kind}
 use Rattle.lfs_words.specs.declared.fault.FaultKind.TheVariants.{Cut}
 use Rattle.lfs_words.specs.Lines.{HasNoLineFeed}
 

@@ -26,7 +26,7 @@ use Rattle.lfs_script.specs.declared.plan.Line.{Line}
 use Rattle.lfs_script.specs.declared.plan.Line.TheVariants as says
 use Rattle.lfs_script.specs.declared.plan.Step.{Step}
 use Rattle.lfs_script.proofs.PlanLemmas.{lines_first, plan_cut, plan_end, plan_step}
-use Rattle.lfs_staging.specs.declared.parts.Parts.{Parts}
+use Rattle.lfs_parts.specs.declared.parts.Parts.{Parts}
 use Rattle.lfs_logstore.specs.States.{state_of}
 use Rattle.lfs_volume.specs.Cleanings.{Cleaner}
 use Rattle.lfs_volume.specs.Journals.{Begins}
@@ -36,15 +36,15 @@ use Rattle.lfs_audit.specs.Runs.{AreAsked, Runs, lines_text}
 use Rattle.lfs_audit.specs.Scripts.{log_cleaner}
 use Rattle.lfs_audit.proofs.RunLemmas.{begun_answers, lines_of_runs, runs_joined, runs_none}
 use Rattle.lfs_live.specs.Frames.{frames}
-use Rattle.lfs_live.specs.Hearing.{heard_of, is_dotted}
+use Rattle.lfs_hearing.specs.Hearing.{heard_of, is_dotted}
 use Rattle.lfs_live.specs.Held.{Course, IsHanded, IsShut, MovesOn}
 use Rattle.lfs_live.specs.Scripts.{WritesAsScript, log_talker, never_kept}
 use Rattle.lfs_live.specs.Talkers.{Talker}
 use Rattle.lfs_live.specs.Talking.{Does, Hears, HearsAll, IsLast, IsTalk, Tidies, ended, first_speaker}
 use Rattle.lfs_live.specs.Pieces.{ended_line}
-use Rattle.lfs_live.specs.declared.hearing.Dot.TheVariants.{Quit}
-use Rattle.lfs_live.specs.declared.hearing.Heard.{Heard}
-use Rattle.lfs_live.specs.declared.hearing.Heard.TheVariants as heard
+use Rattle.lfs_hearing.specs.declared.hearing.Dot.TheVariants.{Quit}
+use Rattle.lfs_hearing.specs.declared.hearing.Heard.{Heard}
+use Rattle.lfs_hearing.specs.declared.hearing.Heard.TheVariants as heard
 use Rattle.lfs_live.specs.declared.framing.Framing.TheVariants.{Plain}
 use Rattle.lfs_audit.specs.declared.asker.Asker.{Asker}
 

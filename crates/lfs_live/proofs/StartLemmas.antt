@@ -1,6 +1,6 @@
 -- Talks over fresh volumes.
 use Rattle.std.proofs.Common.{◌≡◌, ℕ, Bool, List, [], refl, subst, sym, Option, Result, Ok, Err, IfErr}
-use Rattle.lfs_staging.specs.declared.parts.Parts.{Parts}
+use Rattle.lfs_parts.specs.declared.parts.Parts.{Parts}
 use Rattle.lfs_types.specs.Tree.{opening_world}
 use Rattle.lfs_types.specs.declared.level.Level.{Level}
 use Rattle.lfs_logstore.specs.States.{state_of}

@@ -19,7 +19,7 @@ use Rattle.lfs_live.proofs.KeepingLemmas.{on_opened, tidied_opened, tidies_on}
 use Rattle.lfs_words.specs.Lines.{HasNoLineFeed}
 use Rattle.lfs_live.specs.Faulty.{have_fault, is_faulty, is_told}
 use Rattle.lfs_live.specs.Frames.{framed, frames}
-use Rattle.lfs_live.specs.Hearing.{heard_of}
+use Rattle.lfs_hearing.specs.Hearing.{heard_of}
 use Rattle.lfs_live.specs.Steps.{FailsHere, HeardAll, HeardSoFar, HearsLast, HearsNext, IsTended, IsTold}
 use Rattle.lfs_live.specs.Talkers.{Talker}
 use Rattle.lfs_live.specs.Talking.{HasKeptSoFar, Hears, HearsAll, IsKeptTalk, IsLast, Tidies}
@@ -28,9 +28,9 @@ use Rattle.lfs_live.specs.Telling.{cut_texts, cut_line}
 use Rattle.lfs_live.specs.declared.framing.Framing.{Framing}
 use Rattle.lfs_live.specs.declared.talk.Standing.{Standing}
 use Rattle.lfs_live.specs.Pieces.{IsPiece, ended_line}
-use Rattle.lfs_live.specs.declared.hearing.Dot.TheVariants.{Quit}
-use Rattle.lfs_live.specs.declared.hearing.Heard.{Heard}
-use Rattle.lfs_live.specs.declared.hearing.Heard.TheVariants as heard
+use Rattle.lfs_hearing.specs.declared.hearing.Dot.TheVariants.{Quit}
+use Rattle.lfs_hearing.specs.declared.hearing.Heard.{Heard}
+use Rattle.lfs_hearing.specs.declared.hearing.Heard.TheVariants as heard
 use Rattle.lfs_live.proofs.LineLemmas.{cut_kept, heard_kept}
 use Rattle.lfs_audit.specs.declared.asker.Asker.{Asker}
 

@@ -11,19 +11,20 @@ use Rattle.lfs_sinks.specs.declared.totals.Tally.{Tally}
 use Rattle.lfs_sinks.proofs.RefusalLemmas.{tally_is}
 use Rattle.lfs_volume.specs.Journals.{AtPresent}
 use Rattle.lfs_volume.specs.Seen.{Seen}
-use Rattle.lfs_live.specs.Hearing.{heard_of}
+use Rattle.lfs_hearing.specs.Hearing.{heard_of}
 use Rattle.lfs_live.specs.Saving.{Saves}
 use Rattle.lfs_live.specs.Steps.{HasAnswered}
 use Rattle.lfs_live.specs.Talkers.{Talker}
 use Rattle.lfs_browse.specs.Looks.{TellsLook}
-use Rattle.lfs_browse.specs.declared.look.Look.{Look}
+use Rattle.lfs_hearing.specs.declared.look.Look.{Look}
 use Rattle.lfs_live.specs.Talking.{Does, Hears, IsAnsweredBy, LooksOn}
-use Rattle.lfs_live.specs.Telling.{dot_text, fault_line}
-use Rattle.lfs_live.specs.declared.fault.LineFault.{LineFault}
-use Rattle.lfs_live.specs.declared.hearing.Dot.{Dot}
-use Rattle.lfs_live.specs.declared.hearing.Inquiry.{Inquiry}
-use Rattle.lfs_live.specs.declared.hearing.Heard.{Heard}
-use Rattle.lfs_live.specs.declared.hearing.Heard.TheVariants as heard
+use Rattle.lfs_live.specs.Telling.{dot_text}
+use Rattle.lfs_hearing.specs.FaultLines.{fault_line}
+use Rattle.lfs_hearing.specs.declared.fault.LineFault.{LineFault}
+use Rattle.lfs_hearing.specs.declared.hearing.Dot.{Dot}
+use Rattle.lfs_hearing.specs.declared.hearing.Inquiry.{Inquiry}
+use Rattle.lfs_hearing.specs.declared.hearing.Heard.{Heard}
+use Rattle.lfs_hearing.specs.declared.hearing.Heard.TheVariants as heard
 use Rattle.lfs_audit.specs.declared.asker.Asker.{Asker}
 
 -- what holds of a result from each of some worlds, holds from each of them of a result that is Ok

@@ -1,10 +1,10 @@
 -- Which lines have a fault.
 use Rattle.std.specs.Prelude.{ℕ, ◌||◌, Bool, true, false, nat_eq, List, [], ◌∷◌, codes}
 use Rattle.std.specs.List.{starts_with}
-use Rattle.lfs_live.specs.Hearing.{heard_of}
-use Rattle.lfs_live.specs.declared.hearing.Dot.TheVariants.{Segment}
-use Rattle.lfs_live.specs.declared.hearing.Heard.{Heard}
-use Rattle.lfs_live.specs.declared.hearing.Heard.TheVariants as heard
+use Rattle.lfs_hearing.specs.Hearing.{heard_of}
+use Rattle.lfs_hearing.specs.declared.hearing.Dot.TheVariants.{Segment}
+use Rattle.lfs_hearing.specs.declared.hearing.Heard.{Heard}
+use Rattle.lfs_hearing.specs.declared.hearing.Heard.TheVariants as heard
 
 -- What a line says is a fault; or it asks for a segment, and a fault is told, as the volume has none of that number; or
 -- that the volume be saved, and a fault is told, as it isn't.

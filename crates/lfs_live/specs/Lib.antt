@@ -1,7 +1,6 @@
 pub mod Faults
 pub mod Faulty
 pub mod Frames
-pub mod Hearing
 pub mod Held
 pub mod HelpText
 pub mod JournalText

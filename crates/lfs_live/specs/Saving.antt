@@ -9,9 +9,9 @@ use Rattle.lfs_volume.specs.Seen.{Seen}
 use Rattle.lfs_browse.specs.Asking.{Asks}
 use Rattle.lfs_audit.specs.declared.asker.Asker.{Asker}
 use Rattle.lfs_live.specs.Talkers.{Talker}
-use Rattle.lfs_live.specs.Telling.{fault_line}
-use Rattle.lfs_live.specs.declared.fault.LineFault.{LineFault}
-use Rattle.lfs_live.specs.declared.fault.LineFault.TheVariants.{NoImage, Unsynced, Unsaved}
+use Rattle.lfs_hearing.specs.FaultLines.{fault_line}
+use Rattle.lfs_hearing.specs.declared.fault.LineFault.{LineFault}
+use Rattle.lfs_hearing.specs.declared.fault.LineFault.TheVariants.{NoImage, Unsynced, Unsaved}
 
 -- the superuser, in session 0
 abbrev pub superuser : Asker

@@ -6,7 +6,7 @@ use Rattle.lfs_types.specs.Tree.{opening_world}
 use Rattle.lfs_types.specs.declared.level.Level.{Level}
 use Rattle.lfs_checking.specs.Standing.{IsCheckTold}
 use Rattle.lfs_logstore.specs.States.{state_of}
-use Rattle.lfs_staging.specs.declared.parts.Parts.{Parts}
+use Rattle.lfs_parts.specs.declared.parts.Parts.{Parts}
 use Rattle.lfs_script.specs.PlanTypes.{Planned}
 use Rattle.lfs_script.specs.Plans.{lines_of, plan_of}
 use Rattle.lfs_model.specs.declared.journal.Entry.{Entry}

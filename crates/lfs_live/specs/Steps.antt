@@ -12,12 +12,12 @@ use Rattle.lfs_volume.specs.Seen.{Seen}
 use Rattle.lfs_audit.specs.Runs.{TellsLine}
 use Rattle.lfs_live.specs.Faulty.{is_faulty, is_told}
 use Rattle.lfs_live.specs.Frames.{framed, frames}
-use Rattle.lfs_live.specs.Hearing.{heard_of}
+use Rattle.lfs_hearing.specs.Hearing.{heard_of}
 use Rattle.lfs_live.specs.Held.{HasKept, Held, Moves, Sink, course_of}
 use Rattle.lfs_live.specs.Talkers.{Talker}
 use Rattle.lfs_live.specs.Talking.{HasHeardAll, HasHeardSoFar, Hears, IsLast, first_speaker, has_fault_in, is_due}
 use Rattle.lfs_live.specs.Pieces.{ended_line}
-use Rattle.lfs_live.specs.declared.hearing.Heard.{Heard}
+use Rattle.lfs_hearing.specs.declared.hearing.Heard.{Heard}
 use Rattle.lfs_live.specs.declared.framing.Framing.{Framing}
 use Rattle.lfs_live.specs.declared.talk.Standing.{Standing}
 use Rattle.lfs_audit.specs.declared.asker.Asker.{Asker}

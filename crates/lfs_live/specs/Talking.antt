@@ -25,18 +25,19 @@ use Rattle.lfs_who.specs.WhoText.{IsWhoTold}
 use Rattle.lfs_why.specs.WhyText.{why_text}
 use Rattle.lfs_live.specs.Faulty.{have_fault, is_told}
 use Rattle.lfs_live.specs.Frames.{framed, frames}
-use Rattle.lfs_live.specs.Hearing.{heard_of}
+use Rattle.lfs_hearing.specs.Hearing.{heard_of}
 use Rattle.lfs_live.specs.Held.{Course, Held, MovesOn, Sink, Takes, course_of}
 use Rattle.lfs_live.specs.Talkers.{Talker}
 use Rattle.lfs_live.specs.Pieces.{ended_line}
 use Rattle.lfs_live.specs.Saving.{Saves}
-use Rattle.lfs_live.specs.Telling.{cut_texts, dot_text, fault_line}
+use Rattle.lfs_live.specs.Telling.{cut_texts, dot_text}
+use Rattle.lfs_hearing.specs.FaultLines.{fault_line}
 use Rattle.lfs_live.specs.declared.framing.Framing.{Framing}
-use Rattle.lfs_live.specs.declared.hearing.Dot.TheVariants.{Quit}
-use Rattle.lfs_live.specs.declared.hearing.Heard.{Heard}
-use Rattle.lfs_live.specs.declared.hearing.Heard.TheVariants as heard
-use Rattle.lfs_live.specs.declared.hearing.Inquiry.{Inquiry}
-use Rattle.lfs_live.specs.declared.hearing.Inquiry.TheVariants.{Why, Who}
+use Rattle.lfs_hearing.specs.declared.hearing.Dot.TheVariants.{Quit}
+use Rattle.lfs_hearing.specs.declared.hearing.Heard.{Heard}
+use Rattle.lfs_hearing.specs.declared.hearing.Heard.TheVariants as heard
+use Rattle.lfs_hearing.specs.declared.hearing.Inquiry.{Inquiry}
+use Rattle.lfs_hearing.specs.declared.hearing.Inquiry.TheVariants.{Why, Who}
 
 -- the first line is of session 0, and of the superuser with group 0, who is not init
 abbrev pub first_speaker : Asker

@@ -1,47 +1,20 @@
--- What is told of faults and of the words of the server's own.
+-- What is told behind the last line feed, and of the words of the server's own.
 use Rattle.std.specs.Prelude.{ℕ, List, [], ◌∷◌, ◌++◌, codes, decimal, length, Option, None, Some, if◌then◌else◌}
 use Rattle.lfs_model.specs.declared.journal.Entry.{Entry}
 use Rattle.lfs_model.specs.declared.steps.StepAnswer.{StepAnswer}
 use Rattle.lfs_sinks.specs.Refusals.{run_report}
-use Rattle.lfs_words.specs.declared.fault.FaultKind.{FaultKind}
-use Rattle.lfs_words.specs.declared.fault.FaultKind.TheVariants.{Cut, Bytes, Words, Many, Number, Range, Path, Hex}
-use Rattle.lfs_words.specs.declared.fault.FaultKind.TheVariants.{Cred, Memory}
+use Rattle.lfs_words.specs.declared.fault.FaultKind.TheVariants.{Cut}
 use Rattle.lfs_volume.specs.Seen.{Seen}
-use Rattle.lfs_live.specs.Hearing.{is_long}
+use Rattle.lfs_hearing.specs.Hearing.{is_long}
 use Rattle.lfs_live.specs.Talkers.{Texts}
 use Rattle.lfs_live.specs.HelpText.{help_text}
 use Rattle.lfs_live.specs.JournalText.{journal_text}
 use Rattle.lfs_live.specs.Pieces.{ended_line}
-use Rattle.lfs_live.specs.declared.fault.LineFault.{LineFault}
-use Rattle.lfs_live.specs.declared.fault.LineFault.TheVariants.{TooLong, Kind, NoImage, Unsynced, Unsaved}
-use Rattle.lfs_live.specs.declared.hearing.Dot.{Dot}
-use Rattle.lfs_live.specs.declared.hearing.Dot.TheVariants.{Journal, Map, Segment, Space, Report, Help}
-use Rattle.lfs_live.specs.declared.hearing.Dot.TheVariants.{Quit}
-
--- the word of what is wrong with a line of a script
-abbrev pub kind_word : FaultKind → List ℕ
-kind_word Cut = codes "Cut"
-kind_word Bytes = codes "Bytes"
-kind_word Words = codes "Words"
-kind_word Many = codes "Many"
-kind_word Number = codes "Number"
-kind_word Range = codes "Range"
-kind_word (Path fault) = codes "Path"
-kind_word Hex = codes "Hex"
-kind_word (Cred fault) = codes "Cred"
-kind_word Memory = codes "Memory"
-
-abbrev pub fault_word : LineFault → List ℕ
-fault_word TooLong = codes "TooLong"
-fault_word (Kind kind) = kind_word kind
-fault_word NoImage = codes "NoImage"
-fault_word Unsynced = codes "Unsynced"
-fault_word Unsaved = codes "Unsaved"
-
--- the line of a fault: its word, the number of the line that has it, and where it stands there
-unfoldable pub fault_line : ℕ → LineFault → List ℕ → List ℕ
-fault_line number fault place =
-    codes "fault" ++ 32 ∷ fault_word fault ++ codes " line " ++ decimal number ++ place ++ 10 ∷ []
+use Rattle.lfs_hearing.specs.FaultLines.{fault_line}
+use Rattle.lfs_hearing.specs.declared.fault.LineFault.TheVariants.{TooLong, Kind}
+use Rattle.lfs_hearing.specs.declared.hearing.Dot.{Dot}
+use Rattle.lfs_hearing.specs.declared.hearing.Dot.TheVariants.{Journal, Map, Segment, Space, Report, Help}
+use Rattle.lfs_hearing.specs.declared.hearing.Dot.TheVariants.{Quit}
 
 -- what is told of bytes behind the last line feed, which have this number
 abbrev pub cut_line : ℕ → List ℕ → List ℕ

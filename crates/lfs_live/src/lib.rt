@@ -1,9 +1,7 @@
 //! A server that answers each line before it reads the next.
 #![tactic(auto)]
 
-pub mod fault;
 pub mod framing;
-pub mod hearing;
 pub mod help;
 pub mod journal;
 pub mod line;

@@ -6,8 +6,8 @@ ghost use Rattle.lfs_audit.specs.declared.fault.RunFault.TheVariants.{Read};
 ghost use Rattle.lfs_live.specs.Faults.{IsTalkFault};
 ghost use Rattle.lfs_live.specs.Pieces.{IsPiece, IsUnended};
 
-use crate::hearing::LINE_MAX;
 use lfs_audit::fault::RunFault;
+use lfs_hearing::hearing::LINE_MAX;
 use std::alloc::{AllocError, Global};
 use std::io::Read;
 

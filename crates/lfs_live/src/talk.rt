@@ -16,9 +16,9 @@ ghost use Rattle.lfs_live.specs.Telling.{cut_texts};
 ghost use Rattle.lfs_live.specs.Faults.{IsLateFault, IsTalkFault};
 ghost use Rattle.lfs_live.specs.Faulty.{is_told};
 ghost use Rattle.lfs_live.specs.Frames.{framed, frames};
-ghost use Rattle.lfs_live.specs.Hearing.{heard_of};
-ghost use Rattle.lfs_live.specs.declared.hearing.Dot.TheVariants.{Quit};
-ghost use Rattle.lfs_live.specs.declared.hearing.Heard.TheVariants as heard;
+ghost use Rattle.lfs_hearing.specs.Hearing.{heard_of};
+ghost use Rattle.lfs_hearing.specs.declared.hearing.Dot.TheVariants.{Quit};
+ghost use Rattle.lfs_hearing.specs.declared.hearing.Heard.TheVariants as heard;
 
 use crate::framing::Framing;
 use crate::line::read_line;

@@ -6,10 +6,10 @@ ghost use Rattle.lfs_volume.specs.Journals.{AtPresent};
 ghost use Rattle.lfs_live.specs.Saving.{IsFaultTold, Saves, Syncs};
 ghost use Rattle.lfs_live.specs.Talkers.{talker_of};
 
-use crate::fault::{LineFault, Place};
 use crate::telling::tell_fault;
 use crate::watch::{Unkept, Watch};
 use lfs_checking::standing::ChecksLog;
+use lfs_hearing::fault::{LineFault, Place};
 use lfs_types::answer::{Answer, Resource, Served};
 use lfs_types::cleaned::CleanedStore;
 use lfs_types::request::Request;

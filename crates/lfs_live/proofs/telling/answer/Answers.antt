@@ -1,7 +1,7 @@
 use Rattle.std.proofs.Common.{List, ℕ, ap, rules, subst, sym}
 use Rattle.std.proofs.lemmas.Option.{MatchOption-at_some}
 use Rattle.lfs_volume.specs.Cleanings.{cleaner_of}
-use Rattle.lfs_live.specs.Hearing.{heard_of}
+use Rattle.lfs_hearing.specs.Hearing.{heard_of}
 use Rattle.lfs_live.specs.Steps.{HasAnswered}
 use Rattle.lfs_live.specs.Talkers.{talker_of}
 use Rattle.lfs_live.proofs.TellingLemmas.{asks_answered, check_answered, dot_answered, fault_answered}

@@ -6,7 +6,7 @@ use Rattle.lfs_volume.specs.Cleanings.{cleaner_of}
 use Rattle.lfs_volume.specs.Seen.{Seen}
 use Rattle.lfs_live.specs.Faulty.{is_faulty}
 use Rattle.lfs_live.specs.Frames.{framed}
-use Rattle.lfs_live.specs.Hearing.{heard_of}
+use Rattle.lfs_hearing.specs.Hearing.{heard_of}
 use Rattle.lfs_live.specs.Held.{Held, Moves, sink_of}
 use Rattle.lfs_live.specs.Steps.{HasAnswered, HasTidied}
 use Rattle.lfs_live.specs.Talkers.{talker_of}

@@ -1,8 +1,0 @@
-use Rattle.std.proofs.Common.{ap, map, ◌∙◌}
-use Rattle.lfs_live.proofs.HearingLemmas.{path_there}
-use Rattle.lfs_live.proofs.hearing.path_in.Goals as goal
-
-pub returns : goal.returns
-returns c =
-    path_there c.args.line.now c.in_ok-text.text.now _ c.lone_path.result c.in_ok-text.ensures.0 c.in_ok-text.ensures.1
-    (ap (map (λ x. x.now)) c.as_slice.ensures ∙ c.in_ok-words.ensures) c.lone_path.ensures
