@@ -9,9 +9,9 @@ use Rattle.lfs_types.specs.StoreStates.{StoreState}
 use Rattle.lfs_types.specs.Tree.{World, opening_world}
 use Rattle.lfs_types.specs.declared.level.Level.{Level}
 use Rattle.lfs_calls.specs.Volumes.{IsVolume}
-use Rattle.lfs_staging.specs.declared.parts.Parts.{Parts}
-use Rattle.lfs_staging.specs.Files.{content_of}
-use Rattle.lfs_staging.proofs.FileLemmas.{file_at-none, get-content_of, record_of-past}
+use Rattle.lfs_parts.specs.declared.parts.Parts.{Parts}
+use Rattle.lfs_parts.specs.Files.{content_of}
+use Rattle.lfs_parts.proofs.FileLemmas.{file_at-none, get-content_of, record_of-past}
 use Rattle.lfs_logstore.specs.States.{state_of}
 use Rattle.lfs_trace.specs.Checking.{numbers_of}
 use Rattle.lfs_auditing.specs.Audits.{HasReadNone}

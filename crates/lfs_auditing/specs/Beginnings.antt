@@ -4,7 +4,7 @@ use Rattle.lfs_types.specs.Ranges.{least_frames}
 use Rattle.lfs_types.specs.Tree.{World, opening_world}
 use Rattle.lfs_types.specs.declared.level.Level.{Level}
 use Rattle.lfs_log.specs.Parts.{LogParts}
-use Rattle.lfs_staging.specs.declared.parts.Parts.{Parts}
+use Rattle.lfs_parts.specs.declared.parts.Parts.{Parts}
 use Rattle.lfs_logstore.specs.States.{state_of}
 use Rattle.lfs_calls.specs.Volumes as stores
 use Rattle.lfs_fsck.specs.Stored.{settled}
