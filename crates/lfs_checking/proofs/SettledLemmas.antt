@@ -18,14 +18,14 @@ use Rattle.lfs_bmap.specs.Reading.{Tree, address, data_block, places}
 use Rattle.lfs_bmap.specs.Ways.{code_at}
 use Rattle.lfs_log.specs.Parts.{record_place}
 use Rattle.lfs_log.specs.Parts as log
-use Rattle.lfs_staging.specs.declared.parts.Parts.{Parts}
-use Rattle.lfs_staging.specs.Files.{file_at, file_with}
-use Rattle.lfs_staging.specs.Keys.{log_state}
-use Rattle.lfs_staging.specs.Store.{IsFile, IsPresent, IsSettled, IsStore}
-use Rattle.lfs_staging.specs.View.{key_of, record_of, root_in, tree_of, version_of, waiting_in}
-use Rattle.lfs_staging.proofs.CleanLemmas.{mirrors_none}
-use Rattle.lfs_staging.proofs.ViewLemmas.{record_like}
-use Rattle.lfs_staging.proofs.WaitingLemmas.{none_once}
+use Rattle.lfs_parts.specs.declared.parts.Parts.{Parts}
+use Rattle.lfs_parts.specs.Files.{file_at, file_with}
+use Rattle.lfs_parts.specs.Keys.{log_state}
+use Rattle.lfs_parts.specs.Store.{IsFile, IsPresent, IsSettled, IsStore}
+use Rattle.lfs_parts.specs.View.{key_of, record_of, root_in, tree_of, version_of, waiting_in}
+use Rattle.lfs_parts.proofs.CleanLemmas.{mirrors_none}
+use Rattle.lfs_parts.proofs.ViewLemmas.{record_like}
+use Rattle.lfs_parts.proofs.WaitingLemmas.{none_once}
 use Rattle.lfs_fsck.specs.Stored.{IsStored, stored}
 
 -- frames that hold nothing

@@ -6,9 +6,9 @@ use Rattle.lfs_types.specs.declared.level.Level.{Level}
 use Rattle.lfs_ifile.specs.Inode.{fresh_row}
 use Rattle.lfs_ifile.specs.Tables.{row_of}
 use Rattle.lfs_log.specs.Parts.{LogParts}
-use Rattle.lfs_staging.specs.declared.parts.Parts.{Parts}
-use Rattle.lfs_staging.specs.Files.{content_of}
-use Rattle.lfs_staging.proofs.FileLemmas.{free_shown}
+use Rattle.lfs_parts.specs.declared.parts.Parts.{Parts}
+use Rattle.lfs_parts.specs.Files.{content_of}
+use Rattle.lfs_parts.proofs.FileLemmas.{free_shown}
 use Rattle.lfs_logstore.specs.States.{state_of}
 use Rattle.lfs_calls.specs.Volumes.{HasWorld}
 use Rattle.lfs_fsck.specs.Stored.{IsStored, settled, stored}

@@ -1,16 +1,27 @@
 -- Volumes that are kept in files.
-use Rattle.std.specs.Prelude.{◌≡◌, ℕ, List, Option}
+use Rattle.std.specs.Prelude.{◌≡◌, ℕ, Bool, List, Option, None, Some, if◌then◌else◌}
 use Rattle.std.specs.Io.KnownBytes.{Appends}
 use Rattle.lfs_types.specs.StoreStates.{StoreState}
 use Rattle.lfs_types.specs.declared.level.Level.{Level}
+use Rattle.lfs_types.specs.declared.store.Params.{Params}
 use Rattle.lfs_log.specs.Parts.{LogParts}
-use Rattle.lfs_staging.specs.Store.{IsSettled}
-use Rattle.lfs_staging.specs.declared.parts.Parts.{Parts}
+use Rattle.lfs_parts.specs.Opening.{IsOpeningWith}
+use Rattle.lfs_parts.specs.Store.{IsSettled}
+use Rattle.lfs_parts.specs.declared.parts.Parts.{Parts}
 use Rattle.lfs_logstore.specs.States.{state_of}
 use Rattle.lfs_calls.specs.Volumes.{HasWorld}
 use Rattle.lfs_fsck.specs.Stored.{stored}
 use Rattle.lfs_image.specs.Image.{image_bytes}
 use Rattle.lfs_checking.specs.Volumes.{IsVolume}
+
+-- the serial of the first summary, where summaries have serials
+abbrev pub first_serial : Bool → Option ℕ
+first_serial serials = if serials then Some 1 else None
+
+-- a store was just laid out by these parameters, with serials or without
+abbrev pub IsFreshStore : Bool → Params → Parts → Type 0
+IsFreshStore serials params store =
+    IsOpeningWith (first_serial serials) params.segments params.inodes params.frames store
 
 -- a store with so many frames, all empty, and a securelevel are those of the volume whose image some bytes are
 pub record IsLoaded (frames : ℕ) (store : Parts) (level : Level) : Type 0 where

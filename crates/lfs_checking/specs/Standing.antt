@@ -1,6 +1,6 @@
 -- What a check of a store that runs tells.
 use Rattle.std.specs.Prelude.{◌≡◌, ℕ, ◌||◌, Bool, nat_lt, List, codes, length, if◌then◌else◌}
-use Rattle.lfs_staging.specs.declared.parts.Parts.{Parts}
+use Rattle.lfs_parts.specs.declared.parts.Parts.{Parts}
 use Rattle.lfs_image.specs.Image.{IsLabelled}
 use Rattle.lfs_checking.specs.Volumes.{well_text}
 

@@ -1,7 +1,7 @@
 //! A volume in a file: loaded from its image, and kept as one.
 
 ghost use Rattle.std.specs.Prelude.{IfOk, IfSome, OnOk};
-ghost use Rattle.lfs_staging.specs.Store.{IsSettled};
+ghost use Rattle.lfs_parts.specs.Store.{IsSettled};
 ghost use Rattle.lfs_checking.specs.Files.{HasImage, IsLoaded};
 
 use crate::fault::{CheckFault, KeepFault};

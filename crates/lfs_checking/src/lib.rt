@@ -3,8 +3,8 @@
 #![tactic(auto)]
 
 pub mod fault;
+pub mod fresh;
 pub mod keeping;
-pub mod options;
 pub mod program;
 pub mod reading;
 pub mod saving;

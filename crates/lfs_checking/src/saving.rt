@@ -2,7 +2,7 @@
 
 ghost use Rattle.std.specs.Prelude.{◌≡◌, IfOk, OnOk};
 ghost use Rattle.std.specs.Io.KnownBytes.{Appends};
-ghost use Rattle.lfs_staging.specs.Store.{IsSettled};
+ghost use Rattle.lfs_parts.specs.Store.{IsSettled};
 ghost use Rattle.lfs_image.specs.Image.{image_bytes};
 
 use crate::fault::CheckFault;

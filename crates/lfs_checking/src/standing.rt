@@ -2,7 +2,7 @@
 
 ghost use Rattle.std.specs.Prelude.{◌≡◌, ℕ, List, codes, IfOk};
 ghost use Rattle.lfs_calls.specs.Volumes.{HasWorld};
-ghost use Rattle.lfs_staging.specs.Store.{IsStore};
+ghost use Rattle.lfs_parts.specs.Store.{IsStore};
 ghost use Rattle.lfs_logstore.specs.States.{state_of};
 ghost use Rattle.lfs_checking.specs.Standing.{IsCheckTold, waits};
 

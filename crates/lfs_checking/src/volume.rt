@@ -40,7 +40,7 @@ fn volume_text(alloc: Global, bytes: &[u8]) -> Result<Vec<u8>, VolumeFault>
     ensures fault { IfErr result (IsVolumeFaultOf bytes.now) }
 {
     let (mut store, level) = store_in(alloc, bytes, LEAST_FRAMES)?;
-    let text = text_of(alloc, &store)?;
+    let text = well_text(alloc, &store)?;
     check_names(alloc, &mut store, level, bytes)?;
     Ok(text)
 }
@@ -83,8 +83,12 @@ fn store_in(alloc: Global, bytes: &[u8], frames: u32) -> Result<(LogStore, Level
     }
 }
 
-/// That a volume is well, and how full it is.
-fn text_of(alloc: Global, store: &LogStore) -> Result<Vec<u8>, AllocError>
+/// What is told of the volume of a store: that it is well, and how full it is.
+///
+/// # Errors
+///
+/// A growth was refused.
+pub fn well_text(alloc: Global, store: &LogStore) -> Result<Vec<u8>, AllocError>
     ensures { IfOk result (λ text. text.items ≡ codes "ok\n" ++ space_text store.now) }
 {
     let mut text = Vec::new(alloc);
