@@ -1,5 +1,5 @@
--- The last of some partial segments (`last_more`), where they start (`starts_more`), and what is judged of a log: that it
--- is what a memory tells (`is_recovered`).
+-- The last of some partial segments (`last_more`), and what is judged of a log: that it is what a memory tells
+-- (`is_recovered`).
 use Rattle.std.proofs.Common.{◌≡◌, ◌≢◌, ℕ, zero, suc, ◌+◌, ◌*◌, ◌<◌, ◌≤◌, ◌↔◌, Bool, true, false, ◌==◌, nat_lt, List, []}
 use Rattle.std.proofs.Common.{◌∷◌, ◌++◌, Option, Some, None, length, get_or, set, replicate}
 use Rattle.std.proofs.Common.{sym, ap, subst, ◌∙◌, ⊎_elim, arith}
@@ -9,10 +9,8 @@ use Rattle.std.proofs.lemmas.Bool.Decides.{eqb_tells}
 use Rattle.std.proofs.lemmas.List.{get_or-set_other, get_or-set_same, length-set}
 use Rattle.std.proofs.lemmas.List.Elements.{Contains-append_cases, Contains-append_left, Contains-append_right}
 use Rattle.std.proofs.lemmas.List.Elements.{Contains-push, Contains-push_cases}
-use Rattle.lfs_segments.specs.Memory.{SegmentMemory, block_at, next_address}
+use Rattle.lfs_segments.specs.Memory.{SegmentMemory, block_at}
 use Rattle.lfs_types.specs.Blocks.{zero_block}
-use Rattle.lfs_segments.specs.Serial.{without_serial}
-use Rattle.lfs_segments.proofs.BytesLemmas.{get_or-replicate_same}
 use Rattle.lfs_log.specs.Parts.{LogParts}
 use Rattle.lfs_recovery.specs.declared.places.PartialSegment.{PartialSegment}
 use Rattle.lfs_recovery.specs.declared.places.RecordPlace.{RecordPlace}
@@ -20,7 +18,7 @@ use Rattle.lfs_recovery.specs.Logs.{AreLogs, IsLogged, joined, log_place}
 use Rattle.lfs_recovery.specs.Newest.{IsNewest}
 use Rattle.lfs_recovery.proofs.LogLemmas.{longest_one}
 use Rattle.lfs_reach.specs.Reach.{Reaches}
-use Rattle.lfs_rescue.specs.Recovering.{AreAt, AreKept, AreStarts, IsBehind, IsKept, IsKeptAt, IsLastOf, IsRecovered, later}
+use Rattle.lfs_rescue.specs.Recovering.{AreAt, AreKept, EndsBehind, IsBehind, IsKept, IsLastOf, IsRecovered, later}
 
 -- ---- logs
 
@@ -89,80 +87,25 @@ last_more ps (Some last) p is = ⊎_elim
     ))
     (cases_lt p.serial last.serial)
 
--- ---- where they start
-
-pub starts_none : (n : ℕ) → AreStarts [] (replicate n false)
-starts_none n address below = (
-  λ e. let none = get_or-replicate_same n false address in absurd (cc),
-  λ w. let no = w.1.0.1 in absurd (omega arith),
-)
-
-pub starts_marked : (ps : List PartialSegment) (starts : List Bool) (p : PartialSegment) → p.address < length starts
-    → AreStarts ps starts → AreStarts (ps ++ p ∷ []) (set starts p.address true)
-starts_marked ps starts p inside are address below =
-    let long = length-set starts p.address true in
-    let low : address < length starts = omega arith in
-    ⊎_elim
-    (λ (same : ((address == p.address) ≡ true) × (address ≡ p.address)). (
-      λ e. (p, (Contains-push ps p, sym same.1)),
-      λ w. ap (λ (a : ℕ). get_or (set starts p.address true) a false) same.1
-          ∙ get_or-set_same starts p.address true false inside,
-    ))
-    (λ (other : ((address == p.address) ≡ false) × (address ≢ p.address)).
-    let kept = get_or-set_other starts p.address address true false other.1 in (
-      λ e. let w = (are address low).0 (sym kept ∙ e) in
-          (w.0, (Contains-append_left ps (p ∷ []) w.0 w.1.0, w.1.1)),
-      λ w. ⊎_elim
-          (λ (before : Contains ps w.0). kept ∙ (are address low).1 (w.0, (before, w.1.1)))
-          (λ (here : p ≡ w.0). absurd (other.1 (sym w.1.1 ∙ ap (λ (q : PartialSegment). q.address) (sym here))))
-          (Contains-push_cases ps p w.0 w.1.0),
-    ))
-    (eqb_tells address p.address)
-
-pub starts_past : (ps : List PartialSegment) (starts : List Bool) (p : PartialSegment) → length starts ≤ p.address
-    → AreStarts ps starts → AreStarts (ps ++ p ∷ []) starts
-starts_past ps starts p past are address below = (
-  λ e. let w = (are address below).0 e in (w.0, (Contains-append_left ps (p ∷ []) w.0 w.1.0, w.1.1)),
-  λ w. ⊎_elim
-      (λ (before : Contains ps w.0). (are address below).1 (w.0, (before, w.1.1)))
-      (λ (here : p ≡ w.0). let at = w.1.1 in let same = ap (λ (q : PartialSegment). q.address) here in absurd (omega arith))
-      (Contains-push_cases ps p w.0 w.1.0),
-)
-
 -- ---- what is judged
-
-kept_of : (m : SegmentMemory) (new : SegmentMemory) (ps : List PartialSegment) (starts : List Bool) (address : ℕ)
-    → AreLogs m ps → AreStarts ps starts → address < length starts
-    → IsKeptAt (get_or starts address false) m new address → IsKept m new address
-kept_of m new ps starts address logs are below k = record {
-  same = λ not_behind none. ⊎_elim
-      (λ (yes : get_or starts address false ≡ true).
-      let w = (are address below).0 yes in absurd (none (w.0, (listed_logged m ps w.0 logs w.1.0, w.1.1))))
-      (λ (no : get_or starts address false ≡ false). k.same not_behind no)
-      (cases_Bool (get_or starts address false));
-  plain = λ not_behind start. k.plain not_behind
-      ((are address below).1 (start.0, (logged_listed m ps start.0 logs start.1.0, start.1.1)));
-  zeros = k.zeros;
-}
 
 -- all that was judged
 pub record IsJudged (m : SegmentMemory) (l : LogParts) (ps : List PartialSegment) (last : PartialSegment)
-    (starts marks : List Bool) (places : List (Option RecordPlace)) : Type 0 where
+    (marks : List Bool) (places : List (Option RecordPlace)) : Type 0 where
   pub logs : AreLogs m ps
   pub last_of : IsLastOf ps (Some last)
-  pub starts_of : AreStarts ps starts
-  pub starts_long : length starts ≡ m.segments * 64
+  pub counted : last.serial < 4294967295
   pub newest : (n : ℕ) → n < 4096 → IsNewest m n (get_or places n None)
   pub reached : (n : ℕ) → (get_or marks n false ≡ true) ↔ Reaches m places n
   pub numbers : AreAt l places marks
-  pub end : next_address l.memory ≡ last.address + 1 + last.count
+  pub ends : EndsBehind last l.memory
   pub segments : l.memory.segments ≡ m.segments
-  pub kept : AreKept starts m l.memory
+  pub kept : AreKept m l.memory
 
 pub is_recovered : (m : SegmentMemory) (l : LogParts) (ps : List PartialSegment) (last : PartialSegment)
-    (starts marks : List Bool) (places : List (Option RecordPlace)) → IsJudged m l ps last starts marks places
+    (marks : List Bool) (places : List (Option RecordPlace)) → IsJudged m l ps last marks places
     → IsRecovered m l
-is_recovered m l ps last starts marks places j = record {
+is_recovered m l ps last marks places j = record {
   places = places;
   newest = j.newest;
   named = λ n below. let at = (j.numbers n below).0 in let reached = j.reached n in
@@ -171,31 +114,24 @@ is_recovered m l ps last starts marks places j = record {
   last = last;
   logged = listed_logged m ps last j.logs j.last_of.0;
   latest = λ p logged. j.last_of.1 p (logged_listed m ps p j.logs logged);
-  end = j.end;
+  counted = j.counted;
+  ends = j.ends;
   segments = j.segments;
-  kept = λ address below. let long = j.starts_long in
-      kept_of m l.memory ps starts address j.logs j.starts_of (omega arith) (j.kept address below);
+  kept = j.kept;
 }
 
 -- ---- one block
 
-pub kept_behind : (starts : Bool) (old new : SegmentMemory) (address : ℕ) → IsBehind new address
-    → (block_at new address ≡ zero_block) ↔ IsKeptAt starts old new address
-kept_behind starts old new address behind = (
-  λ e. record { same = λ no. absurd (no behind); plain = λ no. absurd (no behind); zeros = λ _. e },
+pub kept_behind : (old new : SegmentMemory) (address : ℕ) → IsBehind new address
+    → (block_at new address ≡ zero_block) ↔ IsKept old new address
+kept_behind old new address behind = (
+  λ e. record { same = λ no. absurd (no behind); zeros = λ _. e },
   λ k. k.zeros behind,
 )
 
-pub kept_start : (starts : Bool) (old new : SegmentMemory) (address : ℕ) → (IsBehind new address → ⊥) → starts ≡ true
-    → (block_at new address ≡ without_serial (block_at old address)) ↔ IsKeptAt starts old new address
-kept_start starts old new address ahead begun = (
-  λ e. record { same = λ _ none. absurd (false≢true (sym none ∙ begun)); plain = λ _ _. e; zeros = λ behind. absurd (ahead behind) },
-  λ k. k.plain ahead begun,
-)
-
-pub kept_same : (starts : Bool) (old new : SegmentMemory) (address : ℕ) → (IsBehind new address → ⊥) → starts ≡ false
-    → (block_at new address ≡ block_at old address) ↔ IsKeptAt starts old new address
-kept_same starts old new address ahead none = (
-  λ e. record { same = λ _ _. e; plain = λ _ begun. absurd (false≢true (sym none ∙ begun)); zeros = λ behind. absurd (ahead behind) },
-  λ k. k.same ahead none,
+pub kept_same : (old new : SegmentMemory) (address : ℕ) → (IsBehind new address → ⊥)
+    → (block_at new address ≡ block_at old address) ↔ IsKept old new address
+kept_same old new address ahead = (
+  λ e. record { same = λ _. e; zeros = λ behind. absurd (ahead behind) },
+  λ k. k.same ahead,
 )

@@ -6,7 +6,6 @@ use Rattle.lfs_types.specs.declared.limits.TheConstants.{SEGMENT_BLOCKS}
 use Rattle.lfs_types.specs.Blocks.{zero_block}
 use Rattle.lfs_types.specs.Ranges.{most_inodes}
 use Rattle.lfs_segments.specs.Memory.{SegmentMemory, block_at, next_address}
-use Rattle.lfs_segments.specs.Serial.{without_serial}
 use Rattle.lfs_ifile.specs.declared.inode.InodePlace.{InodePlace}
 use Rattle.lfs_ifile.specs.Tables.{place_of}
 use Rattle.lfs_log.specs.Parts.{LogParts}
@@ -16,7 +15,8 @@ use Rattle.lfs_recovery.specs.Logs.{IsLogged}
 use Rattle.lfs_recovery.specs.Newest.{IsNewest}
 use Rattle.lfs_reach.specs.Reach.{Reaches}
 use Rattle.lfs_rescue.specs.declared.fault.RecoverFault.{RecoverFault}
-use Rattle.lfs_rescue.specs.declared.fault.RecoverFault.TheVariants.{Empty, Volume, Number, End, Block, Segments, Memory}
+use Rattle.lfs_rescue.specs.declared.fault.RecoverFault.TheVariants.{Empty, Volume, Number, End, Serial, Block}
+use Rattle.lfs_rescue.specs.declared.fault.RecoverFault.TheVariants.{LastSerial, Length, Segments, Memory}
 
 -- ---- what callers see
 
@@ -31,20 +31,30 @@ HasNewest (Some place) (Some newest) =
 abbrev pub IsBehind : SegmentMemory → ℕ → Type 0
 IsBehind m address = (address / SEGMENT_BLOCKS ≡ m.active) × (next_address m ≤ address)
 
--- a partial segment of a log starts at an address
-abbrev pub IsStart : SegmentMemory → ℕ → Type 0
-IsStart m address = (p : PartialSegment) × (IsLogged m p × (p.address ≡ address))
-
--- a block is as it was; a summary has lost its serial; behind the end of the log there are zeros
+-- a block is as it was; behind the end of the log there are zeros
 pub record IsKept (old new : SegmentMemory) (address : ℕ) : Type 0 where
-  pub same : (IsBehind new address → ⊥) → (IsStart old address → ⊥) → block_at new address ≡ block_at old address
-  pub plain : (IsBehind new address → ⊥) → IsStart old address
-      → block_at new address ≡ without_serial (block_at old address)
+  pub same : (IsBehind new address → ⊥) → block_at new address ≡ block_at old address
   pub zeros : IsBehind new address → block_at new address ≡ zero_block
+
+-- the last serial, 2 ^ 32 - 1, which each summary gets from then on: so it doesn't tell which is the newest
+abbrev pub last_serial : ℕ
+last_serial = 4294967295
+
+-- the next summary gets the serial behind the last one
+abbrev pub GoesOn : Option ℕ → ℕ → Type 0
+GoesOn None last = ⊥
+GoesOn (Some serial) last = serial ≡ last + 1
+
+-- a log ends behind a partial segment, whose segment is the active one, and its next summary gets the serial behind that
+pub record EndsBehind (last : PartialSegment) (m : SegmentMemory) : Type 0 where
+  pub active : m.active ≡ last.address / SEGMENT_BLOCKS
+  pub end : next_address m ≡ last.address + 1 + last.count
+  pub serial : GoesOn m.serial last.serial
 
 -- A log is what a memory of blocks tells. Of each number there is one newest record; a number is in use exactly where
 -- names lead to it from the root on, and then has its newest record. The log ends behind the partial segment of the
--- highest serial, and all other blocks are the memory's.
+-- highest serial, which isn't the last serial that there is, goes on with the serial behind that, and all other blocks
+-- are the memory's.
 pub record IsRecovered (m : SegmentMemory) (l : LogParts) : Type 0 where
   pub places : List (Option RecordPlace)
   pub newest : (n : ℕ) → n < most_inodes → IsNewest m n (slice_index_or places n None)
@@ -53,17 +63,27 @@ pub record IsRecovered (m : SegmentMemory) (l : LogParts) : Type 0 where
   pub last : PartialSegment
   pub logged : IsLogged m last
   pub latest : (p : PartialSegment) → IsLogged m p → p.serial ≤ last.serial
-  pub end : next_address l.memory ≡ last.address + 1 + last.count
+  pub counted : last.serial < last_serial
+  pub ends : EndsBehind last l.memory
   pub segments : l.memory.segments ≡ m.segments
   pub kept : (address : ℕ) → address < m.segments * SEGMENT_BLOCKS → IsKept m l.memory address
 
--- what a fault says of a memory: Empty, that no log has a partial segment
+-- Two memories tell the same: their logs have the same partial segments, and each number has the same newest record. So
+-- what is recovered can be recovered again.
+pub record TellsTheSame (old new : SegmentMemory) : Type 0 where
+  pub logged : (p : PartialSegment) → IsLogged new p ↔ IsLogged old p
+  pub newest : (n : ℕ) (r : Option RecordPlace) → IsNewest new n r ↔ IsNewest old n r
+
+-- what a fault says of a memory: Empty, that no log has a partial segment; LastSerial, that one has the last serial
 abbrev pub IsRecoverFaultOf : SegmentMemory → RecoverFault → Type 0
 IsRecoverFaultOf m Empty = (p : PartialSegment) → IsLogged m p → ⊥
 IsRecoverFaultOf m (Volume fault) = ⊤
 IsRecoverFaultOf m (Number number) = ⊤
 IsRecoverFaultOf m End = ⊤
+IsRecoverFaultOf m Serial = ⊤
 IsRecoverFaultOf m (Block address) = ⊤
+IsRecoverFaultOf m LastSerial = (p : PartialSegment) × (IsLogged m p × (p.serial ≡ last_serial))
+IsRecoverFaultOf m Length = ⊥
 IsRecoverFaultOf m Segments = ⊤
 IsRecoverFaultOf m Memory = ⊤
 
@@ -81,21 +101,8 @@ abbrev pub AreAt : LogParts → List (Option RecordPlace) → List Bool → Type
 AreAt l places marks = (n : ℕ) → n < length l.tables.rows
     → StandsAt (place_of l.tables n) (slice_index_or places n None) (slice_index_or marks n false)
 
--- so of a block, where it is told whether a partial segment starts there
-pub record IsKeptAt (starts : Bool) (old new : SegmentMemory) (address : ℕ) : Type 0 where
-  pub same : (IsBehind new address → ⊥) → starts ≡ false → block_at new address ≡ block_at old address
-  pub plain : (IsBehind new address → ⊥) → starts ≡ true
-      → block_at new address ≡ without_serial (block_at old address)
-  pub zeros : IsBehind new address → block_at new address ≡ zero_block
-
-abbrev pub AreKept : List Bool → SegmentMemory → SegmentMemory → Type 0
-AreKept starts old new = (address : ℕ) → address < old.segments * SEGMENT_BLOCKS
-    → IsKeptAt (slice_index_or starts address false) old new address
-
--- addresses are marked just where a partial segment starts
-abbrev pub AreStarts : List PartialSegment → List Bool → Type 0
-AreStarts ps starts = (address : ℕ) → address < length starts
-    → (slice_index_or starts address false ≡ true) ↔ ((p : PartialSegment) × (Contains ps p × (p.address ≡ address)))
+abbrev pub AreKept : SegmentMemory → SegmentMemory → Type 0
+AreKept old new = (address : ℕ) → address < old.segments * SEGMENT_BLOCKS → IsKept old new address
 
 -- the one of the higher serial
 abbrev pub later : Option PartialSegment → PartialSegment → PartialSegment

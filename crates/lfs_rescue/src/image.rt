@@ -1,11 +1,9 @@
 //! The image of the volume that the newest records tell.
 
-ghost use Rattle.std.specs.Prelude.{◌≡◌, ◌*◌, ◌<◌, ◌≤◌, length};
-ghost use Rattle.lfs_types.specs.declared.limits.TheConstants.{SEGMENT_BLOCKS};
+ghost use Rattle.std.specs.Prelude.{◌≡◌, ◌<◌, ◌≤◌, length};
 ghost use Rattle.lfs_types.specs.Ranges.{most_inodes};
 
 use crate::counting::count_file;
-use crate::starts::without_serial;
 use byteorder::{BigEndian, ByteOrder};
 use lfs_inodes::inode::Inode;
 use lfs_reach::record_of;
@@ -32,18 +30,16 @@ const DIRTY: u32 = 1;
 
 const ACTIVE: u32 = 2;
 
-/// The image of the volume that ends behind a partial segment, where each number that is marked is in use: its head, its
-/// blocks with zeros behind the end and summaries without serials, its ifile.
+/// The image of the volume that ends behind a partial segment, where each number that is marked is in use: its head with
+/// the next serial, its blocks with zeros behind the end, its ifile.
 pub(crate) fn image_of(
     alloc: Global,
     memory: &Segments,
     level: Level,
     last: &PartialSegment,
-    starts: &[bool],
     places: &[Option<RecordPlace>],
     marks: &[bool],
 ) -> Result<Vec<u8>, AllocError>
-    requires starts { length starts.now ≡ memory.now.segments * SEGMENT_BLOCKS }
     requires places { length places.now ≡ most_inodes }
     requires marks { length marks.now ≡ most_inodes }
 {
@@ -63,10 +59,11 @@ pub(crate) fn image_of(
             active,
             used,
             level_word(level),
+            last.serial.saturating_add(1),
         ],
     )?;
-    image.extend_from_slice(&ZERO_BLOCK[28..])?;
-    push_blocks(&mut image, memory, starts, active, end)?;
+    image.extend_from_slice(&ZERO_BLOCK[32..])?;
+    push_blocks(&mut image, memory, active, end)?;
     push_ifile(alloc, &mut image, memory, active, inodes, places, marks)?;
     Ok(image)
 }
@@ -104,22 +101,16 @@ fn push_words(image: &mut Vec<u8>, words: &[u32]) -> Result<(), AllocError> {
     Ok(())
 }
 
-/// Adds the blocks, with zeros in the active segment from an address on, and without the serial where a partial segment
-/// starts.
+/// Adds the blocks, with zeros in the active segment from an address on.
 fn push_blocks(
     image: &mut Vec<u8>,
     memory: &Segments,
-    starts: &[bool],
     active: u32,
     end: u32,
-) -> Result<(), AllocError>
-    requires { length starts.now ≡ memory.now.segments * SEGMENT_BLOCKS }
-{
+) -> Result<(), AllocError> {
     for address in 0..memory.segments() * SEGMENT_BLOCKS {
         if address / SEGMENT_BLOCKS == active && address >= end {
             image.extend_from_slice(&ZERO_BLOCK)?;
-        } else if starts[address as usize] {
-            image.extend_from_slice(&without_serial(memory.block(address)))?;
         } else {
             image.extend_from_slice(memory.block(address))?;
         }

@@ -1,13 +1,12 @@
 //! Whether a volume is the one that the newest records of some blocks tell.
 
-ghost use Rattle.std.specs.Prelude.{◌≡◌, ◌<◌, ◌*◌, ◌+◌, ◌↔◌, IfErr, IsTrue, OnOk, Some, length};
+ghost use Rattle.std.specs.Prelude.{◌≡◌, ◌<◌, ◌*◌, ◌+◌, ◌/◌, ◌↔◌, IfErr, IsTrue, OnOk, Some, length};
 ghost use Rattle.lfs_types.specs.declared.limits.TheConstants.{SEGMENT_BLOCKS};
 ghost use Rattle.lfs_types.specs.Ranges.{most_inodes};
 ghost use Rattle.lfs_segments.specs.Memory.{next_address};
-ghost use Rattle.lfs_rescue.specs.Recovering.{AreAt, AreKept, HasNewest, IsBehind, IsKeptAt, IsOther, StandsAt};
+ghost use Rattle.lfs_rescue.specs.Recovering.{AreAt, AreKept, GoesOn, HasNewest, IsBehind, IsKept, IsOther, StandsAt};
 
 use crate::fault::RecoverFault;
-use crate::starts::without_serial;
 use lfs_ifile::InodePlace;
 use lfs_log::Log;
 use lfs_recovery::{PartialSegment, RecordPlace};
@@ -19,24 +18,51 @@ pub(crate) fn judge(
     log: &Log,
     memory: &Segments,
     last: &PartialSegment,
-    starts: &[bool],
     places: &[Option<RecordPlace>],
     marks: &[bool],
 ) -> Result<(), RecoverFault>
-    requires starts { length starts.now ≡ memory.now.segments * SEGMENT_BLOCKS }
     requires places { length places.now ≡ most_inodes }
     requires marks { length marks.now ≡ most_inodes }
     ensures numbers { OnOk result (AreAt log.now places.now marks.now) }
+    ensures active { OnOk result (log.now.memory.active ≡ last.now.address / SEGMENT_BLOCKS) }
     ensures end { OnOk result (next_address log.now.memory ≡ last.now.address + 1 + last.now.count) }
+    ensures serial { OnOk result (GoesOn log.now.memory.serial last.now.serial) }
     ensures segments { OnOk result (log.now.memory.segments ≡ memory.now.segments) }
-    ensures kept { OnOk result (AreKept starts.now memory.now log.now.memory) }
+    ensures kept { OnOk result (AreKept memory.now log.now.memory) }
     ensures fault { IfErr result IsOther }
 {
     check_numbers(log, places, marks)?;
+    check_end(log, last)?;
+    check_blocks(log, memory)
+}
+
+/// Whether a log ends behind a partial segment, in its segment, and goes on with the next serial.
+fn check_end(log: &Log, last: &PartialSegment) -> Result<(), RecoverFault>
+    ensures active { OnOk result (log.now.memory.active ≡ last.now.address / SEGMENT_BLOCKS) }
+    ensures end { OnOk result (next_address log.now.memory ≡ last.now.address + 1 + last.now.count) }
+    ensures serial { OnOk result (GoesOn log.now.memory.serial last.now.serial) }
+    ensures fault { IfErr result IsOther }
+{
+    if log.active() != last.address / SEGMENT_BLOCKS {
+        return Err(RecoverFault::End);
+    }
     if u64::from(log.next_address()) != u64::from(last.address) + u64::from(last.count) + 1 {
         return Err(RecoverFault::End);
     }
-    check_blocks(log, memory, starts)
+    if !goes_on(log.serial(), last.serial) {
+        return Err(RecoverFault::Serial);
+    }
+    Ok(())
+}
+
+/// Whether the next summary gets the serial behind the last one.
+fn goes_on(next: Option<u32>, last: u32) -> bool
+    ensures { IsTrue result ↔ GoesOn next last }
+{
+    match next {
+        Some(next) => u64::from(next) == u64::from(last) + 1,
+        None => false,
+    }
 }
 
 /// The first number that has not its newest record, or is not in use exactly where it is marked.
@@ -86,36 +112,31 @@ fn is_newest(place: InodePlace, newest: &Option<RecordPlace>) -> bool
 }
 
 /// The first block that is not kept.
-fn check_blocks(log: &Log, memory: &Segments, starts: &[bool]) -> Result<(), RecoverFault>
-    requires { length starts.now ≡ memory.now.segments * SEGMENT_BLOCKS }
+fn check_blocks(log: &Log, memory: &Segments) -> Result<(), RecoverFault>
     ensures segments { OnOk result (log.now.memory.segments ≡ memory.now.segments) }
-    ensures kept { OnOk result (AreKept starts.now memory.now log.now.memory) }
+    ensures kept { OnOk result (AreKept memory.now log.now.memory) }
     ensures fault { IfErr result IsOther }
 {
     if log.segments() != memory.segments() {
         return Err(RecoverFault::Segments);
     }
     for address in 0..memory.segments() * SEGMENT_BLOCKS {
-        if !is_kept(log, memory, starts[address as usize], address) {
+        if !is_kept(log, memory, address) {
             return Err(RecoverFault::Block { address });
         }
     }
     Ok(())
 }
 
-/// Whether a block is as it was, but for the serial where a partial segment starts, or is zeros behind the end of the
-/// active segment's log.
-fn is_kept(log: &Log, memory: &Segments, starts: bool, address: u32) -> bool
+/// Whether a block is as it was, or is zeros behind the end of the active segment's log.
+fn is_kept(log: &Log, memory: &Segments, address: u32) -> bool
     requires here { address < memory.now.segments * SEGMENT_BLOCKS }
     requires there { address < log.now.memory.segments * SEGMENT_BLOCKS }
-    ensures { IsTrue result ↔ IsKeptAt starts memory.now log.now.memory address }
+    ensures { IsTrue result ↔ IsKept memory.now log.now.memory address }
 {
     let block = log.block(address);
     if is_behind(log, address) {
         return same(block, &ZERO_BLOCK);
-    }
-    if starts {
-        return same(block, &without_serial(memory.block(address)));
     }
     same(block, memory.block(address))
 }

@@ -1,14 +1,19 @@
 //! A volume found again from its blocks alone, whose summaries have serials (this project's profile).
 #![tactic(auto)]
 
+mod blocks;
 mod counting;
 mod fault;
 mod image;
 mod judging;
+mod options;
+pub mod program;
 mod recovering;
-mod starts;
+mod telling;
 #[cfg(test)]
 mod tests;
 
-pub use fault::RecoverFault;
+pub use blocks::recover_blocks;
+pub use fault::{RecoverFault, RescueFault};
+pub use options::{Options, not_utf8, options_of};
 pub use recovering::recover;

@@ -1,16 +1,15 @@
 //! A volume found again.
 
-ghost use Rattle.std.specs.Prelude.{◌≡◌, ◌≤◌, IfErr, IfOk};
+ghost use Rattle.std.specs.Prelude.{◌≡◌, ◌≤◌, ◌<◌, IfErr, IfOk, false, true};
 ghost use Rattle.lfs_types.specs.Ranges.{least_frames, most_frames};
 ghost use Rattle.lfs_calls.specs.Volumes.{HasWorld};
 ghost use Rattle.lfs_logstore.specs.States.{state_of};
 ghost use Rattle.lfs_fsck.specs.Stored.{IsStored, stored};
-ghost use Rattle.lfs_rescue.specs.Recovering.{IsLastOf, IsOther, IsRecovered, IsRecoverFaultOf, later};
+ghost use Rattle.lfs_rescue.specs.Recovering.{IsLastOf, IsOther, IsRecovered, IsRecoverFaultOf, TellsTheSame, last_serial, later};
 
 use crate::fault::RecoverFault;
 use crate::image::image_of;
 use crate::judging::judge;
-use crate::starts::starts_of;
 use lfs_checking::fault::VolumeFault;
 use lfs_checking::volume::load_volume;
 use lfs_logstore::LogStore;
@@ -21,13 +20,14 @@ use lfs_types::level::Level;
 use std::alloc::Global;
 
 /// The store of the volume whose blocks a memory has, at any moment of a flush too, with a cache of so many frames, 32
-/// to 1,024, all empty. Nothing waits in the store, and it writes no serials. The securelevel is no part of the blocks:
-/// whoever recovers has to know it. Each block is read some few times, and an image is made of all of them.
+/// to 1,024, all empty. Nothing waits in the store. Its summaries have serials, and the next one gets that behind the highest:
+/// so what it writes is found again too. The securelevel is no part of the blocks: whoever recovers has to know it. Each
+/// block is read some few times, and an image is made of all of them.
 ///
 /// # Errors
 ///
-/// No log has a partial segment; what the blocks tell is no volume, or another one was made of them; or there is no
-/// memory.
+/// No log has a partial segment; one has the last serial, which others may have too; what the blocks tell is no volume, or
+/// another one was made of them; or there is no memory.
 pub fn recover(
     alloc: Global,
     memory: &Segments,
@@ -37,6 +37,8 @@ pub fn recover(
     requires at_least { least_frames ≤ frames }
     requires at_most { frames ≤ most_frames }
     ensures recovered { IfOk result (λ store. IsRecovered memory.now store.log) }
+    // Its blocks tell the same, so it can be recovered again.
+    ensures again { IfOk result (λ store. TellsTheSame memory.now store.log.memory) }
     ensures stored { IfOk result (λ store. IsStored store.log) }
     ensures settled { IfOk result (λ store. store ≡ stored frames store.log) }
     ensures world { IfOk result (λ store. HasWorld (state_of store)) }
@@ -46,12 +48,14 @@ pub fn recover(
     let Some(last) = last_of(&partials) else {
         return Err(RecoverFault::Empty);
     };
+    if is_used_up(&last) {
+        return Err(RecoverFault::LastSerial);
+    }
     let places = newest_records(alloc, memory)?;
     let marks = reached(alloc, memory, &places)?;
-    let starts = starts_of(alloc, memory, &partials)?;
-    let image = image_of(alloc, memory, level, &last, &starts, &places, &marks)?;
+    let image = image_of(alloc, memory, level, &last, &places, &marks)?;
     let store = store_in(alloc, &image, frames)?;
-    judge(&store.parts().log, memory, &last, &starts, &places, &marks)?;
+    judge(&store.parts().log, memory, &last, &places, &marks)?;
     Ok(store)
 }
 
@@ -64,6 +68,14 @@ fn last_of(partials: &[PartialSegment]) -> Option<PartialSegment>
         last = Some(later(last, partials[index]));
     }
     last
+}
+
+/// Whether a partial segment has the last serial.
+fn is_used_up(partial: &PartialSegment) -> bool
+    ensures used { result ≡ true → partial.now.serial ≡ last_serial }
+    ensures counted { result ≡ false → partial.now.serial < last_serial }
+{
+    partial.serial == u32::MAX
 }
 
 /// The one of the higher serial.

@@ -3,13 +3,15 @@
 ghost use Rattle.std.specs.Prelude.{◌≤◌, length};
 ghost use Rattle.lfs_types.specs.declared.block.TheConstants.{BLOCK_SIZE};
 
-use crate::{RecoverFault, recover};
+use crate::telling::fault_line;
+use crate::{RecoverFault, recover, recover_blocks};
 use lfs_ifile::InodePlace;
 use lfs_logstore::LogStore;
-use lfs_segments::segments::Segments;
+use lfs_segments::segments::{SEGMENT_BLOCKS, Segments};
 use lfs_types::block::{Block, ZERO_BLOCK};
 use lfs_types::level::Level;
 use lfs_types::limits::LEAST_FRAMES;
+use lfs_types::store::Params;
 use std::alloc::Global;
 use std::process::Abort;
 
@@ -65,6 +67,13 @@ fn root_and_file(address: u8) -> Block {
     block
 }
 
+/// The blocks of a partial segment: a summary at address 1, the root's only block, and an inode block.
+fn partial(serial: u8, listed: &[u8], records: Block) -> [Block; 3]
+    requires { length listed.now ≤ BLOCK_SIZE }
+{
+    [summary(1, serial), block_of(listed), records]
+}
+
 /// A memory with these blocks from address 1 on.
 fn memory_of(rt: &impl Abort, alloc: Global, blocks: &[Block]) -> Segments {
     let mut memory = Segments::format(alloc, 6, 16).expect(rt, "a volume");
@@ -90,6 +99,30 @@ fn expect_found(
     assert!(rt; place == Some(root));
     let place = log.place(4).map(|place: InodePlace| (place.addr, place.slot, place.version));
     assert!(rt; place == file);
+}
+
+/// Asserts in which line it is told that no volume is found in a memory with these blocks.
+fn expect_lost(rt: &impl Abort, alloc: Global, blocks: &[Block], line: &[u8]) {
+    let memory = memory_of(rt, alloc, blocks);
+    match recover(alloc, &memory, Level::HighlySecure, LEAST_FRAMES) {
+        Ok(_) => assert!(rt; false),
+        Err(fault) => {
+            let told = fault_line(alloc, fault).expect(rt, "memory");
+            assert!(rt; told.as_slice() == line);
+        }
+    }
+}
+
+/// The bytes of a store's blocks.
+fn bytes_of(rt: &impl Abort, alloc: Global, store: &LogStore) -> Vec<u8> {
+    let log = &store.parts().log;
+    let mut bytes = Vec::new(alloc);
+    for address in 0..log.segments() * SEGMENT_BLOCKS {
+        bytes
+            .extend_from_slice(log.block(address))
+            .expect(rt, "memory");
+    }
+    bytes
 }
 
 #[test]
@@ -135,5 +168,99 @@ fn nothing_is_found_where_nothing_was_written(rt: HostRuntime) {
     match recover(rt.alloc(), &memory, Level::Insecure, LEAST_FRAMES) {
         Ok(_) => assert!(&rt; false),
         Err(fault) => assert!(&rt; fault == RecoverFault::Empty),
+    }
+}
+
+#[test]
+fn last_serial_tells_no_order(rt: HostRuntime) {
+    let mut blocks = partial(0xff, &LISTED, root_and_file(2));
+    blocks[0][12..15].copy_from_slice(&[0xff, 0xff, 0xff]);
+    let line = b"fault: the last serial is given out, and does not tell which is the newest\n";
+    expect_lost(&rt, rt.alloc(), &blocks, line);
+    blocks[0][15] = 0xfe;
+    let memory = memory_of(&rt, rt.alloc(), &blocks);
+    let store = recover(rt.alloc(), &memory, Level::Insecure, LEAST_FRAMES).expect(&rt, "a volume");
+    assert!(&rt; store.parts().log.serial() == Some(0xffff_ffff));
+}
+
+#[test]
+fn record_of_another_block_is_told(rt: HostRuntime) {
+    let alloc = rt.alloc();
+    let mut far = root_and_file(2);
+    far[38..40].copy_from_slice(&[1, 0x80]);
+    let line = b"fault: block 131 of number 2 has an address past the volume's blocks\n";
+    expect_lost(&rt, alloc, &partial(1, &LISTED, far), line);
+    let mut newer = root_and_file(2);
+    newer[11] = 2;
+    let line =
+        b"fault: the log names another block, or none, at the address of block 131 of number 2\n";
+    expect_lost(&rt, alloc, &partial(1, &LISTED, newer), line);
+}
+
+#[test]
+fn names_of_no_tree_are_told(rt: HostRuntime) {
+    let alloc = rt.alloc();
+    let unused = [0, 0, 0, 5, 1, b'f'];
+    let line = b"fault: directory 2 lists number 5, which is not in use\n";
+    expect_lost(&rt, alloc, &partial(1, &unused, root(2)), line);
+    let twice = [0, 0, 0, 4, 1, b'f', 0, 0, 0, 4, 1, b'g'];
+    let line = b"fault: number 4 is listed twice\n";
+    expect_lost(&rt, alloc, &partial(1, &twice, root_and_file(2)), line);
+    let same = [0, 0, 0, 4, 1, b'f', 0, 0, 0, 4, 1, b'f'];
+    let line = b"fault: block 0 of directory 2 is no directory block\n";
+    expect_lost(&rt, alloc, &partial(1, &same, root_and_file(2)), line);
+    let itself = [0, 0, 0, 2, 1, b'f'];
+    let line = b"fault: directory 2 lists the root\n";
+    expect_lost(&rt, alloc, &partial(1, &itself, root(2)), line);
+    let line = b"fault: the root is no directory\n";
+    expect_lost(&rt, alloc, &partial(1, &LISTED, block_of(&FILE)), line);
+}
+
+#[test]
+fn volume_is_found_twice(rt: HostRuntime) {
+    let blocks = [
+        summary(1, 1),
+        block_of(&LISTED),
+        root_and_file(2),
+        summary(4, 7),
+        block_of(&LISTED),
+    ];
+    let alloc = rt.alloc();
+    let memory = memory_of(&rt, alloc, &blocks);
+    let store = recover(alloc, &memory, Level::Insecure, LEAST_FRAMES).expect(&rt, "a volume");
+    assert!(&rt; store.parts().log.serial() == Some(2));
+    let bytes = bytes_of(&rt, alloc, &store);
+    let again = recover_blocks(alloc, &bytes, Level::Insecure, LEAST_FRAMES).expect(
+        &rt, "a volume",
+    );
+    expect_found(&rt, &again, 4, (3, 0), Some((3, 1, 3)));
+    assert!(&rt; again.parts().log.serial() == Some(2));
+}
+
+#[test]
+fn store_with_serials_is_found(rt: HostRuntime) {
+    let params = Params {
+        segments: 6,
+        inodes: 16,
+        frames: 32,
+        journal: 1,
+    };
+    let alloc = rt.alloc();
+    let Ok(store) = LogStore::format_with_serials(alloc, params) else {
+        panic!(&rt; "no store");
+    };
+    let bytes = bytes_of(&rt, alloc, &store);
+    let found = recover_blocks(alloc, &bytes, Level::Insecure, LEAST_FRAMES).expect(
+        &rt, "a volume",
+    );
+    expect_found(&rt, &found, 3, (2, 0), None);
+    assert!(&rt; found.parts().log.serial() == Some(2));
+}
+
+#[test]
+fn bytes_of_other_lengths_are_no_blocks(rt: HostRuntime) {
+    match recover_blocks(rt.alloc(), &[0; 512], Level::Insecure, LEAST_FRAMES) {
+        Ok(_) => assert!(&rt; false),
+        Err(fault) => assert!(&rt; fault == RecoverFault::Length),
     }
 }

@@ -1,0 +1,381 @@
+-- What is recovered tells the same: where blocks are kept up to the end of the last partial segment of the highest serial,
+-- and zeros stand behind it, the logs have the same partial segments (`logged_kept`, `kept_logged`), and each number the
+-- same newest record (`tells_same`, `recovered_same`).
+use Rattle.std.proofs.Common.{◌≡◌, ◌≢◌, ◌↔◌, ◌⊎◌, ℕ, zero, suc, ◌+◌, ◌*◌, ◌/◌, ◌<◌, ◌≤◌, List, [], ◌∷◌, ◌++◌, Option, Some, Bool, true, false, ◌==◌}
+use Rattle.std.proofs.Common.{None, length, get_or, inl, inr, refl, sym, ap, subst, ◌∙◌, ⊎_elim, arith}
+use Rattle.std.specs.List.{Contains}
+use Rattle.std.proofs.lemmas.Bool.{cases_lt}
+use Rattle.std.proofs.lemmas.Bool.Decides.{eqb_tells}
+use Rattle.std.proofs.lemmas.List.Elements.{Contains-append_right, Contains-push, Contains-push_cases}
+use Rattle.std.proofs.lemmas.Nat.{div-mul-add}
+use Rattle.std.proofs.lemmas.Option.{none-some}
+use Rattle.lfs_types.specs.Blocks.{zero_block}
+use Rattle.lfs_inodes.specs.Reading.{fields_in}
+use Rattle.lfs_inodes.specs.Slots.{slot_of}
+use Rattle.lfs_segments.specs.Bytes.{word_at}
+use Rattle.lfs_segments.specs.Memory.{SegmentMemory, block_at, log_start, next_address}
+use Rattle.lfs_segments.specs.Serial.{told_in}
+use Rattle.lfs_segments.proofs.BytesLemmas.{get_or-replicate_same}
+use Rattle.lfs_segments.proofs.SerialLemmas.{told_in-zero}
+use Rattle.lfs_log.specs.Parts.{LogParts}
+use Rattle.lfs_recovery.specs.declared.places.PartialSegment.{PartialSegment}
+use Rattle.lfs_recovery.specs.declared.places.RecordPlace.{RecordPlace}
+use Rattle.lfs_recovery.specs.Logs.{AreLogs, IsChain, IsLink, IsLog, IsLogged, log_place}
+use Rattle.lfs_recovery.specs.Newest.{IsNewest, IsRecord}
+use Rattle.lfs_recovery.specs.Whole.{IsWhole, has_record, is_there}
+use Rattle.lfs_recovery.proofs.LogLemmas.{longest_one}
+use Rattle.lfs_rescue.specs.Recovering.{EndsBehind, IsBehind, IsKept, IsRecovered, TellsTheSame}
+
+-- ---- the first of a list and the others
+
+cons_at : {A : Type 0} (q p : A) (rest : List A) (k : ℕ) → k < length (q ∷ rest) → get_or (q ∷ rest) k p ≡ p
+    → (q ≡ p) ⊎ Contains rest p
+cons_at q p rest zero low e = inl e
+cons_at q p rest (suc k) low e = inr (k, omega arith, e)
+
+cons_cases : {A : Type 0} (q p : A) (rest : List A) → Contains (q ∷ rest) p → (q ≡ p) ⊎ Contains rest p
+cons_cases q p rest there = cons_at q p rest there.0 there.1 there.2
+
+cons_there : {A : Type 0} (q p : A) (rest : List A) → Contains rest p → Contains (q ∷ rest) p
+cons_there q p rest there = Contains-append_right (q ∷ []) rest p there
+
+cons_first : {A : Type 0} (q : A) (rest : List A) → Contains (q ∷ rest) q
+cons_first q rest = (0, omega arith, refl)
+
+-- ---- chains
+
+-- where a partial segment of a chain stands
+record IsInChain (m : SegmentMemory) (segment address above : ℕ) (p : PartialSegment) : Type 0 where
+  whole : IsWhole m p
+  low : address ≤ p.address
+  high : p.address + p.count < (segment + 1) * 64
+  rises : above < p.serial
+
+in_chain : (m : SegmentMemory) (segment address above : ℕ) (ps : List PartialSegment) (p : PartialSegment)
+    → IsChain m segment address above ps → Contains ps p → IsInChain m segment address above p
+in_chain m segment address above [] p chain there = let below = there.1 in absurd (omega arith)
+in_chain m segment address above (q ∷ rest) p chain there = ⊎_elim
+    (λ (same : q ≡ p). subst (λ (r : PartialSegment). IsInChain m segment address above r) same (record {
+      whole = chain.0.whole;
+      low = let at = chain.0.place in omega arith;
+      high = chain.0.inside;
+      rises = chain.0.rises;
+    }))
+    (λ (behind : Contains rest p).
+    let at = chain.0.place in
+    let newer = chain.0.rises in
+    let is = in_chain m segment (q.address + 1 + q.count) q.serial rest p chain.1 behind in
+    let low = is.low in
+    let rises = is.rises in
+    record { whole = is.whole; low = omega arith; high = is.high; rises = omega arith })
+    (cons_cases q p rest there)
+
+-- none has a serial above that of one
+abbrev pub IsHighest : List PartialSegment → PartialSegment → Type 0
+IsHighest ps last = (q : PartialSegment) → Contains ps q → q.serial ≤ last.serial
+
+-- in a chain the partial segment of the highest serial is the last one
+ends_last : (m : SegmentMemory) (segment address above : ℕ) (ps : List PartialSegment) (last p : PartialSegment)
+    → IsChain m segment address above ps → Contains ps last → IsHighest ps last → Contains ps p
+    → p.address + p.count ≤ last.address + last.count
+ends_last m segment address above [] last p chain there highest here = let below = there.1 in absurd (omega arith)
+ends_last m segment address above (q ∷ rest) last p chain there highest here = ⊎_elim
+    (λ (first : q ≡ last).
+    let serial = ap (λ (r : PartialSegment). r.serial) first in
+    let start = ap (λ (r : PartialSegment). r.address) first in
+    let count = ap (λ (r : PartialSegment). r.count) first in
+    ⊎_elim
+    (λ (same : q ≡ p).
+    let from = ap (λ (r : PartialSegment). r.address) same in
+    let long = ap (λ (r : PartialSegment). r.count) same in omega arith)
+    (λ (behind : Contains rest p).
+    let rises = (in_chain m segment (q.address + 1 + q.count) q.serial rest p chain.1 behind).rises in
+    let most = highest p here in absurd (omega arith))
+    (cons_cases q p rest here))
+    (λ (later : Contains rest last). ⊎_elim
+    (λ (same : q ≡ p).
+    let low = (in_chain m segment (q.address + 1 + q.count) q.serial rest last chain.1 later).low in
+    let from = ap (λ (r : PartialSegment). r.address) same in
+    let long = ap (λ (r : PartialSegment). r.count) same in omega arith)
+    (λ (behind : Contains rest p).
+    ends_last m segment (q.address + 1 + q.count) q.serial rest last p chain.1 later
+    (λ r in_rest. highest r (cons_there q r rest in_rest)) behind)
+    (cons_cases q p rest here))
+    (cons_cases q last rest there)
+
+-- behind one without others the next one stands
+next_alone : (m : SegmentMemory) (segment : ℕ) (rest : List PartialSegment) (q p : PartialSegment)
+    → IsChain m segment (q.address + 1 + q.count) q.serial (rest ++ p ∷ []) → IsHighest rest q
+    → p.address ≡ q.address + 1 + q.count
+next_alone m segment [] q p chain highest = chain.0.place
+next_alone m segment (r ∷ rest) q p chain highest =
+    let rises = chain.0.rises in
+    let most = highest r (cons_first r rest) in absurd (omega arith)
+
+-- and so behind the last one
+next_last : (m : SegmentMemory) (segment address above : ℕ) (ps : List PartialSegment) (last p : PartialSegment)
+    → IsChain m segment address above (ps ++ p ∷ []) → Contains ps last → IsHighest ps last
+    → p.address ≡ last.address + 1 + last.count
+next_last m segment address above [] last p chain there highest = let below = there.1 in absurd (omega arith)
+next_last m segment address above (q ∷ rest) last p chain there highest = ⊎_elim
+    (λ (first : q ≡ last).
+    subst (λ (r : PartialSegment). p.address ≡ r.address + 1 + r.count) first
+    (next_alone m segment rest q p chain.1
+    (λ r in_rest. let most = highest r (cons_there q r rest in_rest) in
+    let serial = ap (λ (s : PartialSegment). s.serial) first in omega arith)))
+    (λ (later : Contains rest last).
+    next_last m segment (q.address + 1 + q.count) q.serial rest last p chain.1 later
+    (λ r in_rest. highest r (cons_there q r rest in_rest)))
+    (cons_cases q last rest there)
+
+-- ---- the same blocks
+
+-- two memories have the same summary and the same last block of a partial segment
+abbrev HasSame : SegmentMemory → SegmentMemory → PartialSegment → Type 0
+HasSame m n p = (block_at n p.address ≡ block_at m p.address)
+    × (block_at n (p.address + p.count) ≡ block_at m (p.address + p.count))
+
+whole_same : (m n : SegmentMemory) (p : PartialSegment) → HasSame m n p → IsWhole m p → IsWhole n p
+unfolding has_record
+whole_same m n p same w = record {
+  told = w.told;
+  spelled = ap (λ (b : List ℕ). told_in b) same.0 ∙ w.spelled;
+  serial = w.serial;
+  count = w.count;
+  segment = w.segment;
+  offset = w.offset;
+  last = w.last;
+  record_there = ap (λ (b : List ℕ). is_there (fields_in (slot_of b 0))) same.1 ∙ w.record_there;
+}
+
+chain_same : (m n : SegmentMemory) (segment address above : ℕ) (ps : List PartialSegment)
+    → ((p : PartialSegment) → Contains ps p → HasSame m n p) → IsChain m segment address above ps
+    → IsChain n segment address above ps
+chain_same m n segment address above [] same chain = tt
+chain_same m n segment address above (q ∷ rest) same chain =
+    let link : IsLink n segment address above q = record {
+      whole = whole_same m n q (same q (cons_first q rest)) chain.0.whole;
+      place = chain.0.place;
+      inside = chain.0.inside;
+      rises = chain.0.rises;
+    } in (
+      link,
+      chain_same m n segment (q.address + 1 + q.count) q.serial rest
+          (λ p in_rest. same p (cons_there q p rest in_rest)) chain.1,
+    )
+
+-- zeros are no summary
+zeros_tell : told_in zero_block ≡ None
+unfolding zero_block
+zeros_tell = told_in-zero zero_block (omega (
+  arith,
+  get_or-replicate_same {A = ℕ} 512 0 12,
+  get_or-replicate_same {A = ℕ} 512 0 13,
+  get_or-replicate_same {A = ℕ} 512 0 14,
+  get_or-replicate_same {A = ℕ} 512 0 15,
+))
+
+-- ---- what is kept
+
+-- blocks are kept up to the end of the last partial segment, and zeros stand behind it
+pub record IsKeptTo (m n : SegmentMemory) (last : PartialSegment) : Type 0 where
+  pub segments : n.segments ≡ m.segments
+  pub ends : EndsBehind last n
+  pub kept : (address : ℕ) → address < m.segments * 64 → IsKept m n address
+  pub logged : IsLogged m last
+  pub latest : (p : PartialSegment) → IsLogged m p → p.serial ≤ last.serial
+
+in_segment : (segment x : ℕ) → segment * 64 ≤ x → x < (segment + 1) * 64 → x / 64 ≡ segment
+in_segment segment x low high = omega arith
+
+-- the last one stands in the log of the active segment
+last_there : (m n : SegmentMemory) (last : PartialSegment) (ps : List PartialSegment) (k : IsKeptTo m n last)
+    → IsLog m n.active ps → Contains ps last
+last_there m n last ps k is =
+    let l = k.logged in
+    let c = in_chain m l.segment (log_place l.segment) 0 l.log last l.is.chain l.there in
+    let low = c.low in
+    let high = c.high in
+    let from : l.segment * 64 ≤ last.address = omega arith in
+    let here : last.address / 64 ≡ l.segment = in_segment l.segment last.address from (omega arith) in
+    let active : n.active ≡ l.segment = k.ends.active ∙ here in
+    let same : l.log ≡ ps = longest_one m l.segment (log_place l.segment) 0 l.log ps l.is
+    (subst (λ (s : ℕ). IsLog m s ps) active is) in
+    subst (λ (xs : List PartialSegment). Contains xs last) same l.there
+
+-- no block of a partial segment of a log stands behind the end
+ahead : (m n : SegmentMemory) (last : PartialSegment) (segment : ℕ) (ps : List PartialSegment) (p : PartialSegment) (x : ℕ)
+    → IsKeptTo m n last → segment < m.segments → IsLog m segment ps → Contains ps p → p.address ≤ x
+    → x ≤ p.address + p.count → IsBehind n x → ⊥
+ahead m n last segment ps p x k below is there low high behind =
+    let c = in_chain m segment (log_place segment) 0 ps p is.chain there in
+    let from = c.low in
+    let to = c.high in
+    let here : x / 64 ≡ segment = in_segment segment x (omega arith) (omega arith) in
+    let active : n.active ≡ segment = sym behind.0 ∙ here in
+    let in_active : IsLog m n.active ps = subst (λ (s : ℕ). IsLog m s ps) (sym active) is in
+    let ends = ends_last m segment (log_place segment) 0 ps last p is.chain (last_there m n last ps k in_active)
+    (λ q in_ps. k.latest q (record { segment = segment; log = ps; below = below; is = is; there = in_ps })) there in
+    let end = k.ends.end in
+    let past = behind.1 in
+    omega arith
+
+-- so each is kept
+same_block : (m n : SegmentMemory) (last : PartialSegment) (segment : ℕ) (ps : List PartialSegment) (p : PartialSegment)
+    (x : ℕ) → IsKeptTo m n last → segment < m.segments → IsLog m segment ps → Contains ps p → p.address ≤ x
+    → x ≤ p.address + p.count → block_at n x ≡ block_at m x
+same_block m n last segment ps p x k below is there low high =
+    let high_ = (in_chain m segment (log_place segment) 0 ps p is.chain there).high in
+    let inside : x < m.segments * 64 = omega arith in
+    (k.kept x inside).same (ahead m n last segment ps p x k below is there low high)
+
+same_ends : (m n : SegmentMemory) (last : PartialSegment) (segment : ℕ) (ps : List PartialSegment) (p : PartialSegment)
+    → IsKeptTo m n last → segment < m.segments → IsLog m segment ps → Contains ps p → HasSame m n p
+same_ends m n last segment ps p k below is there = (
+  same_block m n last segment ps p p.address k below is there (omega arith) (omega arith),
+  same_block m n last segment ps p (p.address + p.count) k below is there (omega arith) (omega arith),
+)
+
+-- what goes on behind a log, by the blocks that are kept, did so before
+no_more : (m n : SegmentMemory) (last : PartialSegment) (segment : ℕ) (ps : List PartialSegment) (p : PartialSegment)
+    → IsKeptTo m n last → segment < m.segments → IsLog m segment ps
+    → IsChain n segment (log_place segment) 0 (ps ++ p ∷ []) → ⊥
+no_more m n last segment ps p k below is chain =
+    let c = in_chain n segment (log_place segment) 0 (ps ++ p ∷ []) p chain (Contains-push ps p) in
+    let low = c.low in
+    let high = c.high in
+    let from : segment * 64 ≤ p.address = omega arith in
+    let here : (x : ℕ) → p.address ≤ x → x ≤ p.address + p.count → x / 64 ≡ segment =
+    λ x above under. in_segment segment x (omega arith) (omega arith) in
+    ⊎_elim
+    (λ (active : ((n.active == segment) ≡ true) × (n.active ≡ segment)).
+    let there = last_there m n last ps k (subst (λ (s : ℕ). IsLog m s ps) (sym active.1) is) in
+    let next = next_last n segment (log_place segment) 0 ps last p chain there
+    (λ q in_ps. k.latest q (record { segment = segment; log = ps; below = below; is = is; there = in_ps })) in
+    let end = k.ends.end in
+    let behind : IsBehind n p.address = (here p.address (omega arith) (omega arith) ∙ sym active.1, omega arith) in
+    let zeros = (k.kept p.address (omega arith)).zeros behind in
+    none-some c.whole.told (sym zeros_tell ∙ ap (λ (b : List ℕ). told_in b) (sym zeros) ∙ c.whole.spelled))
+    (λ (other : ((n.active == segment) ≡ false) × (n.active ≢ segment)).
+    let kept : (x : ℕ) → p.address ≤ x → x ≤ p.address + p.count → block_at m x ≡ block_at n x =
+    λ x above under. sym ((k.kept x (omega arith)).same
+    (λ behind. other.1 (sym behind.0 ∙ here x above under))) in
+    is.ended p (chain_same n m segment (log_place segment) 0 (ps ++ p ∷ [])
+    (λ q in_all. ⊎_elim
+    (λ (in_ps : Contains ps q). let s = same_ends m n last segment ps q k below is in_ps in (sym s.0, sym s.1))
+    (λ (it : p ≡ q). subst (λ (r : PartialSegment). HasSame n m r) it
+    (kept p.address (omega arith) (omega arith), kept (p.address + p.count) (omega arith) (omega arith)))
+    (Contains-push_cases ps p q in_all)) chain))
+    (eqb_tells n.active segment)
+
+log_kept : (m n : SegmentMemory) (last : PartialSegment) (segment : ℕ) (ps : List PartialSegment) → IsKeptTo m n last
+    → segment < m.segments → IsLog m segment ps → IsLog n segment ps
+log_kept m n last segment ps k below is = record {
+  chain = chain_same m n segment (log_place segment) 0 ps (λ p there. same_ends m n last segment ps p k below is there)
+      is.chain;
+  ended = λ p chain. no_more m n last segment ps p k below is chain;
+}
+
+logged_kept : (m n : SegmentMemory) (last p : PartialSegment) → IsKeptTo m n last → IsLogged m p → IsLogged n p
+logged_kept m n last p k l =
+    let segments = k.segments in
+    let below = l.below in
+    record {
+      segment = l.segment;
+      log = l.log;
+      below = omega arith;
+      is = log_kept m n last l.segment l.log k l.below l.is;
+      there = l.there;
+    }
+
+kept_logged : (m n : SegmentMemory) (last p : PartialSegment) (list : List PartialSegment) → IsKeptTo m n last
+    → AreLogs m list → IsLogged n p → IsLogged m p
+kept_logged m n last p list k a l =
+    let segments = k.segments in
+    let under = l.below in
+    let below : l.segment < m.segments = omega arith in
+    let was = a.each l.segment below in
+    let same : l.log ≡ a.logs l.segment = longest_one n l.segment (log_place l.segment) 0 l.log (a.logs l.segment) l.is
+    (log_kept m n last l.segment (a.logs l.segment) k below was) in
+    record {
+      segment = l.segment;
+      log = a.logs l.segment;
+      below = below;
+      is = was;
+      there = subst (λ (xs : List PartialSegment). Contains xs p) same l.there;
+    }
+
+-- ---- records
+
+-- the blocks of a partial segment are the same
+record HasKept (m n : SegmentMemory) (p : PartialSegment) : Type 0 where
+  block : (x : ℕ) → p.address ≤ x → x ≤ p.address + p.count → block_at n x ≡ block_at m x
+
+record_same : (m n : SegmentMemory) (r : RecordPlace) (i : IsRecord m r) → IsLogged n i.segment → HasKept m n i.segment
+    → IsRecord n r
+record_same m n r i logged kept =
+    let at = i.address in
+    let named = i.named in
+    record {
+      segment = i.segment;
+      logged = logged;
+      told = i.told;
+      spelled = ap (λ (b : List ℕ). told_in b) (kept.block i.segment.address (omega arith) (omega arith)) ∙ i.spelled;
+      entry = i.entry;
+      named = i.named;
+      inodes = i.inodes;
+      serial = i.serial;
+      address = i.address;
+      slot = i.slot;
+      fields = i.fields;
+      read = ap (λ (b : List ℕ). fields_in (slot_of b r.slot)) (kept.block r.address (omega arith) (omega arith)) ∙ i.read;
+      number = i.number;
+      version = i.version;
+    }
+
+record_kept : (m n : SegmentMemory) (last : PartialSegment) (r : RecordPlace) → IsKeptTo m n last → IsRecord m r
+    → IsRecord n r
+record_kept m n last r k i =
+    let l = i.logged in
+    record_same m n r i (logged_kept m n last i.segment k l) (record {
+      block = λ x low high. same_block m n last l.segment l.log i.segment x k l.below l.is l.there low high;
+    })
+
+kept_record : (m n : SegmentMemory) (last : PartialSegment) (r : RecordPlace) (list : List PartialSegment)
+    → IsKeptTo m n last → AreLogs m list → IsRecord n r → IsRecord m r
+kept_record m n last r list k a i =
+    let l = kept_logged m n last i.segment list k a i.logged in
+    record_same n m r i l (record {
+      block = λ x low high. sym (same_block m n last l.segment l.log i.segment x k l.below l.is l.there low high);
+    })
+
+newest_same : (m n : SegmentMemory) (number : ℕ) (newest : Option RecordPlace)
+    → ((r : RecordPlace) → IsRecord m r → IsRecord n r) → ((r : RecordPlace) → IsRecord n r → IsRecord m r)
+    → IsNewest m number newest → IsNewest n number newest
+newest_same m n number None there back is = λ r in_n e. is r (back r in_n) e
+newest_same m n number (Some s) there back is =
+    (there s is.0, (is.1.0, λ r in_n e. is.1.1 r (back r in_n) e))
+
+pub tells_same : (m n : SegmentMemory) (last : PartialSegment) (list : List PartialSegment) → IsKeptTo m n last
+    → AreLogs m list → TellsTheSame m n
+tells_same m n last list k a =
+    let there : (r : RecordPlace) → IsRecord m r → IsRecord n r = λ r i. record_kept m n last r k i in
+    let back : (r : RecordPlace) → IsRecord n r → IsRecord m r = λ r i. kept_record m n last r list k a i in
+    record {
+      logged = λ p. (λ l. kept_logged m n last p list k a l, λ l. logged_kept m n last p k l);
+      newest = λ number newest. (
+        λ is. newest_same n m number newest back there is,
+        λ is. newest_same m n number newest there back is,
+      );
+    }
+
+-- so what is recovered
+pub recovered_same : (m : SegmentMemory) (l : LogParts) (list : List PartialSegment) → AreLogs m list → IsRecovered m l
+    → TellsTheSame m l.memory
+recovered_same m l list a r = tells_same m l.memory r.last list (record {
+  segments = r.segments;
+  ends = r.ends;
+  kept = r.kept;
+  logged = r.logged;
+  latest = r.latest;
+}) a

@@ -1,0 +1,24 @@
+use Rattle.std.proofs.Common.{◌++◌, ◌∙◌, ap, refl, subst, sym}
+use Rattle.std.specs.Prelude.{codes}
+use Rattle.lfs_parts.specs.declared.parts.Parts.{Parts}
+use Rattle.lfs_parts.specs.Store.{IsSettled}
+use Rattle.lfs_logstore.specs.States.{state_of}
+use Rattle.lfs_calls.specs.Volumes.{HasWorld}
+use Rattle.lfs_view.specs.SpaceText.{space_text}
+use Rattle.lfs_rescue.proofs.telling.finding.Goals as goal
+
+pub keep-requires : goal.keep-requires
+keep-requires g c =
+    subst (λ (p : Parts). IsSettled p) (sym c.in-Ok.ensures.settled) (record { no_record = refl; no_frame = refl })
+
+pub returns-in_ok-text-in-Ok-clause-told : goal.returns-in_ok-text-in-Ok-clause-told
+returns-in_ok-text-in-Ok-clause-told g c =
+    let is = c.in-Ok.ensures in
+    record {
+      log = c.in-Ok.store.log;
+      found = is.found;
+      stored = is.stored;
+      world = subst (λ (p : Parts). HasWorld (state_of p)) is.settled is.world;
+      told = c.in_ok-text-in-Ok.ensures ∙ ap (λ (p : Parts). codes "ok\n" ++ space_text p) is.settled;
+      kept = c.in_ok-keep-in-Ok.ensures.kept;
+    }

@@ -1,0 +1,106 @@
+//! What the arguments of `lfs_check` ask for.
+
+ghost use Rattle.std.specs.Prelude.{◌≡◌, IfOk, IsSome, true};
+ghost use Rattle.clap.specs.Values.{kind_of};
+ghost use Rattle.lfs_command.specs.Ends.{IsRefusal};
+
+use clap::{Arg, ArgAction, Command, Error};
+use lfs_command::refusing::{self, wrong_value};
+use std::alloc::{AllocError, Global};
+use std::convert::AsStr;
+
+/// The word that names the file of the image or of the blocks.
+const IMAGE: &str = "image";
+
+/// The option for blocks in place of an image.
+const RECOVER: &str = "recover";
+
+/// The option that takes the file of the image that is made.
+const SAVE: &str = "save";
+
+/// What `--help` tells behind the options.
+const MORE: &str =
+    "Status 0: the image is that of a volume, or one is found in the blocks, and how full it is is told; 1: it is none,
+and why is told in a line, or a fault; 2: wrong arguments.";
+
+/// What `lfs_check` is asked to do.
+#[derive(Clone, Copy, Debug)]
+pub struct Options<'a> {
+    /// The file that is read, where it is not standard input.
+    pub image: Option<&'a str>,
+    /// Whether it has the blocks of a volume alone, and the volume is to be found in them.
+    pub recovers: bool,
+    /// The file that the image of the volume that is found is kept in, where one is asked for.
+    pub save: Option<&'a str>,
+}
+
+/// The options that words ask for; the first word is the program's name.
+///
+/// # Errors
+///
+/// What the parser tells, with its exit code: 2 for a word that is no option, or `--save` alone, 0 for `--help`; or want
+/// of memory.
+pub fn options_of<'a, S: AsStr>(alloc: Global, words: &'a [S]) -> Result<Options<'a>, Error>
+    ensures { IfOk result (λ options. IsSome options.save → options.recovers ≡ true) }
+{
+    let mut command = command(alloc)?;
+    let matches = command.try_get_matches_from_mut(words)?;
+    let recovers = matches.get_flag(RECOVER);
+    let save = matches.get_str(SAVE);
+    if save.is_some() && !recovers {
+        return Err(wrong_value(&mut command, "--save takes --recover"));
+    }
+    Ok(Options {
+        image: matches.get_str(IMAGE),
+        recovers,
+        save,
+    })
+}
+
+/// The error of arguments that are no text, with exit code 2; or want of memory.
+pub fn not_utf8(alloc: Global) -> Error
+    ensures { IsRefusal (kind_of result) }
+{
+    refusing::not_utf8(command(alloc))
+}
+
+/// The command line.
+fn command<'a>(alloc: Global) -> Result<Command<'a>, AllocError> {
+    Command::new(alloc, "lfs_check")
+        .about(
+            "Reads the image of a volume, and says whether it is one, and how full it is, or what is wrong with it",
+        )
+        .after_help(MORE)
+        .arg(recover(alloc))?
+        .arg(save(alloc))?
+        .arg(image(alloc))
+}
+
+/// The option for blocks.
+fn recover<'a>(alloc: Global) -> Arg<'a> {
+    Arg::new(alloc, RECOVER)
+        .long(RECOVER)
+        .action(ArgAction::SetTrue)
+        .help(
+            "IMAGE has the blocks of a volume alone, whose summaries have serials: finds the volume in them",
+        )
+}
+
+/// The option for the file of the image that is made.
+fn save<'a>(alloc: Global) -> Arg<'a> {
+    Arg::new(alloc, SAVE)
+        .long(SAVE)
+        .value_name("FILE")
+        .action(ArgAction::Set)
+        .help(
+            "With --recover, writes the image of the volume that is found to FILE, at the highest securelevel",
+        )
+}
+
+/// The word for the file of the image.
+fn image<'a>(alloc: Global) -> Arg<'a> {
+    Arg::new(alloc, IMAGE)
+        .value_name("IMAGE")
+        .action(ArgAction::Set)
+        .help("The file of the image; without it, the image is read from standard input")
+}
