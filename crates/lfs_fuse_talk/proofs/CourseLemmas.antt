@@ -11,7 +11,7 @@ use Rattle.lfs_sinks.proofs.NumberedLemmas.{numbered-joined}
 use Rattle.lfs_fuse_wire.specs.declared.framing.Frame.{Frame}
 use Rattle.lfs_fuse_wire.specs.declared.header.Header.{Header}
 use Rattle.lfs_types.specs.StoreStates.{StoreState}
-use Rattle.lfs_staging.specs.declared.parts.Parts.{Parts as Log}
+use Rattle.lfs_parts.specs.declared.parts.Parts.{Parts as Log}
 use Rattle.lfs_mount.specs.Runs.{GoesOn}
 use Rattle.lfs_fuse_talk.specs.Filing.{HasFile, HasLines, IsCurrent, IsFirst, IsHandedOut, IsLetGo, IsShut, MovesOn, Stays}
 use Rattle.lfs_fuse_talk.specs.Filing.{Takes, is_open, lost_reply}

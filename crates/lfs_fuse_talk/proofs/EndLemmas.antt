@@ -2,7 +2,7 @@
 use Rattle.std.proofs.Common.{◌≡◌, ℕ, ◌≤◌, ◌⊎◌, inl, inr, Bool, true, false, List, Option, Result, Ok, Err, IfOk, IfErr}
 use Rattle.std.proofs.Common.{IsSome, arith, sym, subst, ◌∙◌}
 use Rattle.std.specs.Prelude.{MatchResult, OnOk}
-use Rattle.lfs_staging.specs.declared.parts.Parts.{Parts as Log}
+use Rattle.lfs_parts.specs.declared.parts.Parts.{Parts as Log}
 use Rattle.lfs_fuse_wire.specs.declared.framing.Frame.{Frame}
 use Rattle.lfs_fuse_wire.specs.declared.framing.Frame.TheVariants.{Partial, Bad}
 use Rattle.lfs_fuse_talk.specs.Ends.{EndsServing, IsBroken, status_of}

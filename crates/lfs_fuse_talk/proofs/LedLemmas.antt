@@ -42,7 +42,7 @@ module _ {F : Type 0} (state : F → StoreState) where
         shown = here.shown;
         at_level = here.at_level;
         within = omega arith;
-        space = tt;
+        space = λ none. tt;
       })
 
   pub led_first : (base : Seen F) → base.journal ≡ [] → base.since ≡ base.store → base.since_level ≡ base.level

@@ -1,5 +1,6 @@
 pub mod CourseLemmas
 pub mod EndLemmas
+pub mod FilingLemmas
 pub mod FrontLemmas
 pub mod LedLemmas
 pub mod TalkLemmas

@@ -6,8 +6,8 @@ use Rattle.clap.specs.declared.error.Error.{Error}
 use Rattle.lfs_types.specs.declared.fault.FormatFault.{FormatFault}
 use Rattle.lfs_types.specs.declared.fault.FormatFault.TheVariants as format
 use Rattle.lfs_types.specs.declared.store.Params.{Params}
-use Rattle.lfs_staging.specs.Opening.{IsTooFew, IsTooMany}
-use Rattle.lfs_staging.specs.declared.parts.Parts.{Parts as Log}
+use Rattle.lfs_parts.specs.Opening.{IsTooFew, IsTooMany}
+use Rattle.lfs_parts.specs.declared.parts.Parts.{Parts as Log}
 use Rattle.lfs_fuse_wire.specs.declared.framing.Frame.{Frame}
 use Rattle.lfs_fuse_wire.specs.declared.framing.Frame.TheVariants.{Partial, Bad}
 use Rattle.lfs_command.specs.Ends.{EndsUnasked}

@@ -3,20 +3,20 @@ use Rattle.std.specs.Prelude.{◌≡◌, ◌⊎◌, ℕ, List, [], Option, IsSom
 use Rattle.lfs_types.specs.Tree.{opening_world}
 use Rattle.lfs_types.specs.declared.level.Level.{Level}
 use Rattle.lfs_types.specs.declared.level.Level.TheVariants.{Insecure}
-use Rattle.lfs_staging.specs.Opening.{IsOpening}
-use Rattle.lfs_staging.specs.declared.parts.Parts.{Parts}
+use Rattle.lfs_parts.specs.declared.parts.Parts.{Parts}
 use Rattle.lfs_logstore.specs.States.{state_of}
 use Rattle.lfs_volume.specs.Journals.{AtPresent, Begins}
 use Rattle.lfs_volume.specs.Seen.{Seen}
-use Rattle.lfs_checking.specs.Files.{IsLoaded, IsSaved}
+use Rattle.lfs_checking.specs.Files.{IsFreshStore, IsLoaded, IsSaved}
 use Rattle.lfs_fuse_talk.specs.declared.options.Options.{Options}
 
 -- what a mount begins with: a fresh log of the segments, inode numbers and frames that are asked for, as it is laid
--- out, at securelevel 0, which shows the opening world; or, where an image is asked for, it may be the volume of one
+-- out, with serials where they are asked for, at securelevel 0, which shows the opening world; or, where an image is
+-- asked for, it may be the volume of one
 abbrev pub BeginsWith : Options → Parts → Level → Type 0
 BeginsWith options store level =
     let p = options.params in
-    (IsOpening p.segments p.inodes p.frames store × (level ≡ Insecure)
+    (IsFreshStore options.serials p store × (level ≡ Insecure)
     × Begins (state_of store) level opening_world)
     ⊎ (IsSome options.image × IsLoaded p.frames store level)
 

@@ -5,8 +5,8 @@ use Rattle.std.specs.List.{list_any}
 use Rattle.lfs_types.specs.StoreStates.{StoreState}
 use Rattle.lfs_volume.specs.Seen.{Seen}
 use Rattle.lfs_model.specs.declared.journal.Entry.{Entry}
-use Rattle.lfs_staging.specs.Store.{IsSettled}
-use Rattle.lfs_staging.specs.declared.parts.Parts.{Parts as Log}
+use Rattle.lfs_parts.specs.Store.{IsSettled}
+use Rattle.lfs_parts.specs.declared.parts.Parts.{Parts as Log}
 use Rattle.lfs_logstore.specs.States.{state_of}
 use Rattle.lfs_nodes.specs.declared.parts.Parts.{Parts}
 use Rattle.lfs_fuse_wire.specs.Header.{header_in}

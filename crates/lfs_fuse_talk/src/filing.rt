@@ -1,6 +1,8 @@
 //! The journal of a mount, whose entries go to a file, where one is asked for.
 
-ghost use Rattle.std.specs.Prelude.{◌≡◌, ◌⊎◌, None, false, true, IfErr, IfOk, IfSome, IsSome, OnErr, OnOk, is_some};
+ghost use Rattle.std.specs.Prelude.{◌≡◌, ◌<◌, ◌⊎◌, None, false, true, if◌then◌else◌, length, IfErr, IfOk, IfSome, IsSome, OnErr, OnOk, is_some};
+ghost use Rattle.lfs_fuse_talk.specs.declared.filing.Keeping.TheVariants.{Nowhere};
+ghost use Rattle.lfs_fuse_talk.specs.declared.filing.TheConstants.{LET_GO};
 ghost use Rattle.lfs_mount.specs.Tending.{let_go};
 ghost use Rattle.lfs_fuse_talk.specs.Filing.{IsFirst, IsHandedOut, IsLetGo, IsShut, Stays, Takes, is_open, lost_reply};
 
@@ -65,6 +67,35 @@ pub struct Ledger<W: Write + Drop> {
     keeping: Keeping<W>,
     /// Room for a journal.
     spare: SpareRoom,
+}
+
+/// Where entries go nowhere, so many are let go together, which are those of a write of 131,072 bytes: few, so that the
+/// memory that they took is at hand for the next ones.
+const LET_GO: usize = 32;
+
+#[tactic(auto, using(crate::proofs::FilingLemmas::few_kept))]
+/// Lets the entries of a mount's journal go, where there are 32, or there is room for few more.
+///
+/// # Errors
+///
+/// Memory ran out for the room of a journal, and the entries are still there.
+fn let_entries_go<F: FileStore + Drop>(
+    alloc: Global,
+    mount: &mut Mount<F>,
+) -> Result<bool, AllocError>
+    ensures let_go { IfOk result (λ did. mount.new.tree.volume
+        ≡ (if did then let_go mount.old.tree.volume else mount.old.tree.volume)) }
+    ensures few { OnOk result (length mount.new.tree.volume.journal < LET_GO) }
+    ensures nodes { mount.new.tree.nodes ≡ mount.old.tree.nodes }
+    ensures beside { mount.new.beside ≡ mount.old.beside }
+    ensures sizes { mount.new.sizes ≡ mount.old.sizes }
+{
+    if mount.journal().len() < LET_GO {
+        return mount.make_room(alloc);
+    }
+    let room = Vec::with_capacity(alloc, mount.journal_limit() as usize)?;
+    let _ = mount.hand_out(room);
+    Ok(true)
 }
 
 /// A file takes the entries of a mount's journal, and they are handed out.
@@ -147,7 +178,7 @@ impl<W: Write + Drop> Ledger<W> {
         }
     }
 
-    /// Gives the file the entries, where there is one, and else lets them go where there is little room for more.
+    /// Gives the file the entries, where there is one, and else lets them go once there are 32, or there is little room.
     pub(crate) fn go_on<F: FileStore + Drop, D: Write>(
         &mut self,
         alloc: Global,
@@ -164,12 +195,13 @@ impl<W: Write + Drop> Ledger<W> {
             mount.old.tree.volume mount.new.tree.volume)) }
         ensures silent { OnOk result (is_open self.new.keeping ≡ true
             → (is_open self.old.keeping ≡ true) × (teller.new ≡ teller.old)) }
+        ensures few { OnOk result (self.old.keeping ≡ Nowhere → length mount.new.tree.volume.journal < LET_GO) }
         ensures nodes { mount.new.tree.nodes ≡ mount.old.tree.nodes }
         ensures beside { mount.new.beside ≡ mount.old.beside }
         ensures sizes { mount.new.sizes ≡ mount.old.sizes }
     {
         if let Keeping::Nowhere = self.keeping {
-            mount.make_room(alloc)?;
+            let_entries_go(alloc, mount)?;
             return Ok(());
         }
         let _ = self.give(mount, teller);

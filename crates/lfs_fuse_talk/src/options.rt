@@ -51,6 +51,9 @@ const JOURNAL: NumberOption = NumberOption {
 /// The name of the option for an image.
 const IMAGE: &str = "image";
 
+/// The name of the option for summaries with serials.
+const SERIALS: &str = "serials";
+
 /// The name of the option for the file of the journal.
 const JOURNAL_OUT: &str = "journal-out";
 
@@ -68,6 +71,8 @@ pub struct Options<'a> {
     pub params: Params,
     /// The file from which the volume is loaded, where there is one, and in which it is saved at the end.
     pub image: Option<&'a str>,
+    /// Whether the summaries of a fresh volume have serials, so that it can be found again from its blocks alone.
+    pub serials: bool,
     /// The file that is made for the journal's entries, where one is asked for.
     pub journal_out: Option<&'a str>,
     /// Whether the messages are a recording, whose processes are gone.
@@ -89,11 +94,13 @@ pub fn options_of<'a, S: AsStr>(alloc: Global, words: &'a [S]) -> Result<Options
         Err(refusal) => return Err(wrong_value(&mut command, refusal)),
     };
     let image = matches.get_str(IMAGE);
+    let serials = matches.get_flag(SERIALS);
     let journal_out = matches.get_str(JOURNAL_OUT);
     let recorded = matches.get_flag(RECORDED);
     Ok(Options {
         params,
         image,
+        serials,
         journal_out,
         recorded,
     })
@@ -133,6 +140,7 @@ fn command<'a>(alloc: Global) -> Result<Command<'a>, AllocError> {
         .arg(JOURNAL.arg(alloc))?
         .arg(journal_out(alloc))?
         .arg(image(alloc))?
+        .arg(serials(alloc))?
         .arg(recorded(alloc))
 }
 
@@ -144,6 +152,16 @@ fn image<'a>(alloc: Global) -> Arg<'a> {
         .action(ArgAction::Set)
         .help(
             "Loads the volume from FILE where there is one, with its segments and numbers, and saves it there at the end",
+        )
+}
+
+/// The option for serials.
+fn serials<'a>(alloc: Global) -> Arg<'a> {
+    Arg::new(alloc, SERIALS)
+        .long(SERIALS)
+        .action(ArgAction::SetTrue)
+        .help(
+            "Gives each summary of a fresh volume a serial, by which lfs_check --recover finds the volume in its blocks",
         )
 }
 

@@ -10,6 +10,7 @@ ghost use Rattle.lfs_fuse_talk.specs.declared.fault.TalkFault.TheVariants.{Memor
 use crate::fault::TalkFault;
 use crate::options::Options;
 use lfs_checking::fault::{CheckFault, KeepFault};
+use lfs_checking::fresh::fresh_store;
 use lfs_checking::keeping::{load_file, save_file};
 use lfs_fuse_wire::attributes::Time;
 use lfs_logstore::LogStore;
@@ -47,13 +48,13 @@ pub(crate) fn mounted<S: Files>(
     }
 }
 
-/// A mount of a fresh volume, whose root is made now.
+/// A mount of a fresh volume, whose root is made now; its summaries have serials where that is asked for.
 fn fresh(alloc: Global, options: &Options<'_>, now: Time) -> Result<Mount<LogStore>, TalkFault>
     ensures begun { IfOk result (λ mount. HasBegun options.now mount.tree.volume) }
     ensures fault { IfErr result (IsUnbegun options.now) }
 {
     let params = options.params;
-    let store = LogStore::format(alloc, params)?;
+    let store = fresh_store(alloc, params, options.serials)?;
     let volume = Volume::new(alloc, store, params.journal)?;
     let sizes = Sizes {
         segments: params.segments,

@@ -1,7 +1,7 @@
 use Rattle.std.proofs.Common.{subst, rules, tests}
 use Rattle.std.specs.Prelude.{OnOk}
 use Rattle.lfs_types.specs.declared.level.Level.{Level}
-use Rattle.lfs_staging.specs.declared.parts.Parts.{Parts}
+use Rattle.lfs_parts.specs.declared.parts.Parts.{Parts}
 use Rattle.lfs_checking.specs.Files.{HasImage}
 use Rattle.lfs_fuse_talk.proofs.VolumeLemmas.{ok_map}
 use Rattle.lfs_fuse_talk.proofs.volume.save.Goals as goal
