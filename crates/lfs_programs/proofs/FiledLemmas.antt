@@ -13,7 +13,7 @@ use Rattle.lfs_server.specs.Fresh.{IsFormatFault, IsFreshLog}
 use Rattle.lfs_server.specs.Serving.{IsInRange}
 use Rattle.lfs_sinks.specs.Numbered.{numbered_text}
 use Rattle.lfs_sinks.specs.Refusals.{refusals_of}
-use Rattle.lfs_staging.specs.declared.parts.Parts.{Parts}
+use Rattle.lfs_parts.specs.declared.parts.Parts.{Parts}
 use Rattle.lfs_volume.specs.Journals.{Begins}
 use Rattle.lfs_volume.specs.Seen.{Seen}
 use Rattle.lfs_audit.specs.Faults.{IsRead, MayHaveWritten}

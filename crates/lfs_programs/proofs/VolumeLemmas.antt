@@ -5,7 +5,7 @@ use Rattle.std.proofs.Common.{subst, ◌∙◌, ◌==◌, is_some}
 use Rattle.std.specs.Io.Buffered.{reader_buffer, reader_capacity, reader_inner, reader_remaining}
 use Rattle.std.proofs.KnownBytes.{prepend_known-nil}
 use Rattle.std.specs.declared.io.buffered.BufReader.{BufReader}
-use Rattle.lfs_staging.specs.declared.parts.Parts.{Parts}
+use Rattle.lfs_parts.specs.declared.parts.Parts.{Parts}
 use Rattle.lfs_volume.specs.Seen.{Seen}
 use Rattle.lfs_live.specs.Held.{HasBegun, Held, Sink, course_of}
 use Rattle.lfs_live.specs.Scripts.{HasHeardOver, IsJournalOf, Manner}

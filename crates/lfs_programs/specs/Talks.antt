@@ -13,7 +13,7 @@ use Rattle.lfs_live.specs.Held.{Held, Sink}
 use Rattle.lfs_live.specs.Scripts.{HasHeardOver, IsKeptTalkOver, IsLogFault, IsTalkOver, Manner}
 use Rattle.lfs_live.specs.Talking.{IsKeptTalk, has_fault_in}
 use Rattle.lfs_programs.specs.Volumes.{HasSaved, IsBegun, keeps_image, shell_talker}
-use Rattle.lfs_staging.specs.declared.parts.Parts.{Parts}
+use Rattle.lfs_parts.specs.declared.parts.Parts.{Parts}
 use Rattle.lfs_volume.specs.Seen.{Seen}
 use Rattle.lfs_command.specs.Ends.{EndsUnasked}
 use Rattle.lfs_programs.specs.declared.fault.FilmFault.{FilmFault}

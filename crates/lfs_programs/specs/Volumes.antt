@@ -1,14 +1,15 @@
 -- The volume that a talk begins with, and the file in which it is kept.
 use Rattle.std.specs.Prelude.{◌≡◌, ◌⊎◌, ℕ, List, [], Option, IsSome}
+use Rattle.lfs_types.specs.Tree.{opening_world}
 use Rattle.lfs_types.specs.declared.level.Level.{Level}
-use Rattle.lfs_staging.specs.declared.parts.Parts.{Parts}
-use Rattle.lfs_logstore.specs.States.{state_of}
+use Rattle.lfs_parts.specs.declared.parts.Parts.{Parts}
+use Rattle.lfs_logstore.specs.States.{opening_state, state_of}
 use Rattle.lfs_volume.specs.Journals.{AtPresent, Begins}
 use Rattle.lfs_volume.specs.Seen.{Seen}
 use Rattle.lfs_server.specs.Fresh.{IsFormatFault}
-use Rattle.lfs_checking.specs.Files.{HasImage, IsLoaded, IsSaved}
+use Rattle.lfs_checking.specs.Files.{HasImage, IsFreshStore, IsLoaded, IsSaved}
 use Rattle.lfs_audit.specs.declared.fault.RunFault.TheVariants as run
-use Rattle.lfs_live.specs.Scripts.{IsFresh, log_talker}
+use Rattle.lfs_live.specs.Scripts.{log_talker}
 use Rattle.lfs_live.specs.Talkers.{Talker}
 use Rattle.lfs_programs.specs.declared.fault.ShellFault.{ShellFault}
 use Rattle.lfs_programs.specs.declared.fault.ShellFault.TheVariants.{Talk, Image}
@@ -23,11 +24,18 @@ pub record IsOfImage (options : ShellOptions) (v : Seen Parts) : Type 0 where
   pub since : v.since ≡ v.store
   pub since_level : v.since_level ≡ v.level
 
--- a volume is fresh, with the numbers that are asked for; or, where an image is asked for, it may be that of one
+-- a volume is fresh, with the numbers that are asked for: its log was just laid out, with serials where they are asked
+-- for, and its journal begins in the opening world
+pub record IsFresh (options : ShellOptions) (v : Seen Parts) : Type 0 where
+  pub opening : state_of v.store ≡ opening_state options.params.segments options.params.inodes
+  pub laid_out : IsFreshStore options.serials options.params v.store
+  pub empty : v.journal ≡ []
+  pub begins : Begins (state_of v.since) v.since_level opening_world
+  pub room : v.limit ≡ options.params.journal
+
+-- a volume is fresh; or, where an image is asked for, it may be that of one
 abbrev pub IsBegun : ShellOptions → Seen Parts → Type 0
-IsBegun options v =
-    let p = options.params in
-    IsFresh p.segments p.inodes p.frames p.journal v ⊎ (IsSome options.image × IsOfImage options v)
+IsBegun options v = IsFresh options v ⊎ (IsSome options.image × IsOfImage options v)
 
 -- a talk has no volume to begin with, for this fault
 abbrev pub IsUnbegun : ShellOptions → ShellFault → Type 0

@@ -78,6 +78,9 @@ const VERSION: &str = "1.0";
 /// The option of `lfs_shell` that takes the file of an image.
 const IMAGE: &str = "image";
 
+/// The option of `lfs_shell` for summaries with serials.
+const SERIALS: &str = "serials";
+
 /// The option of `lfs_shell` that takes the file of a film.
 const FILM: &str = "film";
 
@@ -173,6 +176,8 @@ pub struct ShellOptions<'a> {
     pub script: Option<&'a str>,
     /// The file that the volume is loaded from, where there is one, and in which it is kept at the end.
     pub image: Option<&'a str>,
+    /// Whether the summaries of a fresh volume have serials, so that it can be found again from its blocks alone.
+    pub serials: bool,
     /// Whether the status is 1 where a line has a fault.
     pub strict: bool,
     /// How the answers are framed.
@@ -208,6 +213,7 @@ pub fn shell_options_of<'a, S: AsStr>(
                 journal_out,
                 script: matches.get_str(SCRIPT),
                 image: matches.get_str(IMAGE),
+                serials: matches.get_flag(SERIALS),
                 strict: matches.get_flag(STRICT),
                 framing: framing_in(&matches),
             })
@@ -286,6 +292,7 @@ fn shell_command<'a>(alloc: Global) -> Result<Command<'a>, AllocError> {
         .arg(SHELL_JOURNAL.arg(alloc))?
         .arg(journal_out(alloc))?
         .arg(image(alloc))?
+        .arg(serials(alloc))?
         .arg(clean(alloc))?
         .arg(film(alloc))?
         .arg(strict(alloc))?
@@ -323,6 +330,16 @@ fn image<'a>(alloc: Global) -> Arg<'a> {
         .action(ArgAction::Set)
         .help(
             "Loads the volume from FILE where there is one, with its segments and numbers, and saves it there at the end",
+        )
+}
+
+/// The option for serials.
+fn serials<'a>(alloc: Global) -> Arg<'a> {
+    Arg::new(alloc, SERIALS)
+        .long(SERIALS)
+        .action(ArgAction::SetTrue)
+        .help(
+            "Gives each summary of a fresh volume a serial, by which lfs_check --recover finds the volume in its blocks",
         )
 }
 

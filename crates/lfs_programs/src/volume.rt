@@ -2,19 +2,21 @@
 
 ghost use Rattle.std.specs.Prelude.{◌≡◌, false, true, IfErr, IfOk, IfSome, IsSome, OnOk};
 ghost use Rattle.lfs_checking.specs.Files.{IsLoaded};
-ghost use Rattle.lfs_programs.specs.Volumes.{HasSaved, IsBegun, IsUnbegun};
+ghost use Rattle.lfs_server.specs.Fresh.{IsFormatFault};
+ghost use Rattle.lfs_programs.specs.Volumes.{HasSaved, IsBegun, IsFresh, IsUnbegun};
 
 use crate::fault::ShellFault;
 use crate::filming::NAME;
 use crate::options::ShellOptions;
 use lfs_audit::fault::RunFault;
 use lfs_checking::fault::KeepFault;
+use lfs_checking::fresh::fresh_store;
 use lfs_checking::keeping::{load_file, save_file};
 use lfs_io::tell::tell;
 use lfs_live::tended::Tended;
 use lfs_logstore::LogStore;
-use lfs_server::fresh::fresh_volume;
 use lfs_sinks::sink::JournalSink;
+use lfs_types::fault::FormatFault;
 use lfs_types::level::Level;
 use lfs_volume::volume::Volume;
 use std::alloc::{AllocError, Global};
@@ -50,10 +52,21 @@ fn fresh(alloc: Global, options: &ShellOptions<'_>) -> Result<Volume<LogStore>, 
     ensures begun { IfOk result (IsBegun options.now) }
     ensures fault { IfErr result (IsUnbegun options.now) }
 {
-    match fresh_volume(alloc, options.params) {
+    match laid_out(alloc, options) {
         Ok(volume) => Ok(volume),
         Err(fault) => Err(ShellFault::Talk(RunFault::Format(fault))),
     }
+}
+
+/// A volume over a store that is laid out anew, whose summaries have serials where they are asked for.
+fn laid_out(alloc: Global, options: &ShellOptions<'_>) -> Result<Volume<LogStore>, FormatFault>
+    ensures begun { IfOk result (IsFresh options.now) }
+    ensures fault { IfErr result (IsFormatFault
+        options.now.params.segments options.now.params.inodes options.now.params.frames) }
+{
+    let store = fresh_store(alloc, options.params, options.serials)?;
+    let volume = Volume::new(alloc, store, options.params.journal)?;
+    Ok(volume)
 }
 
 /// A volume over the store of an image.
