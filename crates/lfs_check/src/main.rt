@@ -1,8 +1,8 @@
 //! A check of an image: it reads one, says whether it is that of a volume, and how full that is, or what is wrong with
-//! it.
+//! it. Or it finds a volume in its blocks alone.
 #![tactic(auto)]
 
-use lfs_checking::program::lfs_check;
+use lfs_rescue::program::lfs_check;
 use std::process::ExitCode;
 
 fn main(rt: HostRuntime) -> ExitCode {
