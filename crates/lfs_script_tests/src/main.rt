@@ -3,11 +3,13 @@
 //! with files.
 #![tactic(auto)]
 
+mod rescue;
 mod shell;
 mod statuses;
 mod stored;
 mod talks;
 
+use rescue::is_found_by_serials;
 use std::fs;
 use std::process::ExitCode;
 use stored::is_as_stored;
@@ -34,6 +36,9 @@ fn main(rt: HostRuntime) -> anyhow::Result<ExitCode> {
         }
     }
     if !shell::is_as_told(&rt)? {
+        code = ExitCode::FAILURE;
+    }
+    if !is_found_by_serials(&rt)? {
         code = ExitCode::FAILURE;
     }
     if !statuses::are_as_told(&rt)? {

@@ -55,7 +55,7 @@ impl Ended {
 }
 
 /// Runs `lfs_shell` with these words on this input.
-fn run<R: Files + AllocGlobal>(rt: &R, words: &[&str], input: &str) -> Ended {
+pub fn run<R: Files + AllocGlobal>(rt: &R, words: &[&str], input: &str) -> Ended {
     let alloc = rt.alloc();
     let mut out = Vec::new(alloc);
     let mut err = Vec::new(alloc);
