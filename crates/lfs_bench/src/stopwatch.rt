@@ -62,6 +62,10 @@ impl<'a, R: Wait + Clock + Sync> Gate for Stopwatch<'a, R> {
             self.times.lock(self.rt).end = now;
         }
     }
+
+    fn is_open(&self, _session: u8, _index: u32) -> bool {
+        true
+    }
 }
 
 /// Whether this is a session on a thread of its own, and not the cleaner or the setup.
