@@ -99,6 +99,67 @@ fn each_call_passes_the_gate_in_turn(rt: HostRuntime) {
     assert_in_turn(&rt, &gate.made, &CALLS);
 }
 
+/// Holds session 1 until the cleaner has made its one call. Behind that it stands open, but between this call of the session
+/// and the next. It notes the calls that it is told of.
+#[derive(Drop)]
+struct Open<'a, R: Wait> {
+    begun: Watch<'a, R>,
+    made: Watch<'a, R>,
+    held: u32,
+}
+
+impl<'a, R: Wait + Sync> Gate for Open<'a, R> {
+    fn before(&self, session: u8, index: u32) {
+        if session == 1 && index == 0 {
+            self.made.wait_for(CLEANER, 0);
+        }
+        self.begun.note(session, index);
+    }
+
+    fn after(&self, session: u8, index: u32) {
+        self.made.note(session, index);
+    }
+
+    fn is_open(&self, _session: u8, index: u32) -> bool {
+        index != self.held
+    }
+}
+
+/// Whether a gate was told that each of these calls of session 1 was begun.
+fn are_begun<R: Wait>(gate: &Open<'_, R>, indices: [u32; 6]) -> [bool; 6] {
+    let [a, b, c, d, e, f] = indices;
+    let begun = &gate.begun;
+    [
+        begun.has(1, a),
+        begun.has(1, b),
+        begun.has(1, c),
+        begun.has(1, d),
+        begun.has(1, e),
+        begun.has(1, f),
+    ]
+}
+
+#[test]
+fn calls_are_made_in_one_holding_where_the_gate_is_open(rt: HostRuntime) {
+    let gate = Open {
+        begun: Watch::new(&rt, rt.alloc()),
+        made: Watch::new(&rt, rt.alloc()),
+        held: 20,
+    };
+    let mut script = String::new(rt.alloc());
+    push(&rt, &mut script, "session 1\n");
+    push(
+        &rt,
+        &mut script,
+        repeated(&rt, rt.alloc(), "sync\n", 40).as_str(),
+    );
+    let closed = serve_plain(&rt, rt.alloc(), script.as_str(), &gate);
+    expect_eq(&rt, closed.volume.journal().len(), 40);
+    let found = are_begun(&gate, [0, 1, 16, 21, 32, 39]);
+    expect_eq(&rt, found, [true, false, true, true, true, false]);
+    assert!(&rt; gate.made.has(1, 20) && gate.made.has(1, 39) && !gate.made.has(1, 38));
+}
+
 /// Notes the calls that the cleaner begins.
 #[derive(Drop)]
 struct Cleanings<'a, R: Wait> {
