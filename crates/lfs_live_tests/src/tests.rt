@@ -1,5 +1,5 @@
 //! What no clause says of a live server: that its sessions come and go, that they run beside each other and are answered as
-//! they must be, that the cleaner is called, and that the cache has the frames that were asked for.
+//! they must be, that the cleaner is called and let to the lock, and that the cache has the frames that were asked for.
 
 mod bell;
 mod frames;
@@ -8,6 +8,7 @@ mod meeting;
 mod rings;
 mod rounds;
 mod watch;
+mod yielding;
 
 use lfs_logstore::LogStore;
 use lfs_script::plan::{Act, Plan, Step};

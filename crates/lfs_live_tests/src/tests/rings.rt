@@ -25,7 +25,8 @@ const REFUSED: usize = 22;
 /// The index of the last call: the file is made, and in each round written and synced.
 const LAST: u32 = 120;
 
-/// Holds the cleaner's first call until session 1 has made its last, so that all rings but the first wait.
+/// Holds the cleaner's first call until session 1 has made its last, so that all rings but the first wait. It stands open
+/// between the session's calls, so that those which don't want the cleaner share a holding of the lock.
 #[derive(Drop)]
 struct Late<'a, R: Wait> {
     watch: Watch<'a, R>,
@@ -42,6 +43,10 @@ impl<'a, R: Wait + Sync> Gate for Late<'a, R> {
         if session == 1 && index == LAST {
             self.watch.note(1, LAST);
         }
+    }
+
+    fn is_open(&self, _session: u8, _index: u32) -> bool {
+        true
     }
 }
 

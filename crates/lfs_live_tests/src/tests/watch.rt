@@ -8,6 +8,16 @@ use std::thread;
 /// How often a gate that waits looks.
 const LOOKS: u32 = 1_000_000;
 
+/// How often one that pauses lets others get on.
+const PAUSE: u32 = 200_000;
+
+/// Lets others get on for a while.
+pub fn pause() {
+    for _ in 0..PAUSE {
+        thread::yield_now();
+    }
+}
+
 /// What gates have noted.
 #[derive(Drop)]
 struct Noted {
@@ -45,7 +55,7 @@ impl<'a, R: Wait> Watch<'a, R> {
     }
 
     /// Whether that call is noted.
-    fn has(&self, session: u8, index: u32) -> bool {
+    pub fn has(&self, session: u8, index: u32) -> bool {
         self.noted.lock(self.rt).calls.contains(&(session, index))
     }
 
