@@ -32,6 +32,18 @@ const LAST: [u8; 28] = [
     0, 5,
 ];
 
+/// Segment 0, offset 1, serial 1, entries for the first and the last block of file 4 in version 1.
+const FIRST: [u8; 40] = [
+    0x4c, 0x46, 0x53, 0x53, 0, 0, 0, 0, 0, 1, 0, 2, 0, 0, 0, 1, // two entries, serial 1
+    0, 0, 0, 4, 0, 0, 0, 1, 0, 0, 0, 0, // block 0
+    0, 0, 0, 4, 0, 0, 0, 1, 0, 0, 0x40, 0x8b, // block 16,523
+];
+
+/// Segment 0, offset 4, serial 2, one entry for block 5 of file 4 in version 1.
+const SECOND: [u8; 28] = [
+    0x4c, 0x46, 0x53, 0x53, 0, 0, 0, 0, 0, 4, 0, 1, 0, 0, 0, 2, 0, 0, 0, 4, 0, 0, 0, 1, 0, 0, 0, 5,
+];
+
 /// The entry of a data block of file 4 in its first version.
 fn data(index: u32) -> SummaryEntry
     requires { index < 16524 }
@@ -256,6 +268,26 @@ fn partial_segments_follow_one_another(rt: HostRuntime) {
     expect_bytes(&rt, segments.block(65_475), &block_of(&LAST));
     has(&rt, &segments, 65_474, &[9; 512]);
     expect_eq(&rt, [log_start(0), log_start(1)], [1, 0]);
+}
+
+#[test]
+fn serials_are_counted_from_1(rt: HostRuntime) {
+    let mut segments = Segments::format_with_serials(rt.alloc(), 6, 16).expect(&rt, "a memory");
+    expect_eq(&rt, segments.serial(), Some(1));
+    expect_eq(&rt, written(&mut segments), [1, 2, 3, 4]);
+    expect_bytes(&rt, segments.block(1), &block_of(&FIRST));
+    expect_bytes(&rt, segments.block(4), &block_of(&SECOND));
+    expect_eq(&rt, segments.serial(), Some(3));
+}
+
+#[test]
+fn a_memory_without_serials_writes_none(rt: HostRuntime) {
+    let mut segments = Segments::format(rt.alloc(), 6, 16).expect(&rt, "a memory");
+    expect_eq(&rt, written(&mut segments), [1, 2, 3, 4]);
+    let mut plain = block_of(&SECOND);
+    plain[15] = 0;
+    expect_bytes(&rt, segments.block(4), &plain);
+    expect_eq(&rt, segments.serial(), None);
 }
 
 #[test]
