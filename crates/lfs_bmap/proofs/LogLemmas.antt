@@ -1,5 +1,5 @@
 -- `IsLog` holds still when blocks are written, when a key takes or loses a place and when a number is renewed
--- (`written_log`, `taken_log`, `left_log`, `renewed_log`, for `lfs_staging` and `lfs_segwrite`). Keys are two sorts,
+-- (`written_log`, `taken_log`, `left_log`, `renewed_log`, for `lfs_parts`, `lfs_staging` and `lfs_segwrite`). Keys are two sorts,
 -- the one that was placed and all others (`placed-cases`), and the sums move by what the key weighs; `spared` pays for
 -- it: blocks are written first, which makes bytes spare, and keys then use them up. A key that took more than `MayTake`
 -- has spare would break `spared`, by which no segment's live bytes run over.

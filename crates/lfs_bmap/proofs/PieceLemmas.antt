@@ -1,5 +1,5 @@
 -- Blocks that were put, cut or read one by one are the file's `splice`, `resized` and `slice_of` (`put_splice`,
--- `cut_resized`, `got_slice`, for the growth, the cut and the reading of `lfs_staging`). Byte i of a file is byte i %
+-- `cut_resized`, `got_slice`, for the growth and the cut of `lfs_staging`, the reading of `lfs_parts`). Byte i of a file is byte i %
 -- 512 of block i / 512 (`file_bytes-at`), so each law of the whole file is one of a single byte; past the size it rests
 -- on `IsPadded`, the zeros behind the last byte. A block that keeps other bytes past the size breaks `padded-at`, and
 -- with it every file that grows again.

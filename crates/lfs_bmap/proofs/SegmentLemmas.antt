@@ -1,5 +1,5 @@
 -- `IsLog` holds of a new log, behind an opening and behind a cleaning (`empty_log`, `opened_log`, `cleaned_log`, for
--- OpeningLemmas of `lfs_staging`, RoomLemmas of `lfs_segwrite` and ReclaimLemmas of `lfs_logstore`). A clean segment
+-- OpeningLemmas of `lfs_parts`, RoomLemmas of `lfs_segwrite` and ReclaimLemmas of `lfs_logstore`). A clean segment
 -- has no key, since each key's place lies in one that isn't (`not_in_clean`), so what it named may go; and a segment
 -- without live bytes has none, as live bytes are a sum over keys (`empty_has_none`). Were `live` not counted from all
 -- keys, cleaning could take a block that a file has.

@@ -1,5 +1,5 @@
 -- In the order of codes each block comes behind what holds its address (`table_of-less`), and a later data block's
--- holder has no lesser code (`table_of-later`): that is why `Parts::drop_tables` of `lfs_staging` and the flush of
+-- holder has no lesser code (`table_of-later`): that is why `drop_tables` of `lfs_staging` and the flush of
 -- `lfs_segwrite` may go by codes. `data_table` takes a holder apart into record, single block and child of the double
 -- one, and arithmetic does the rest; the hard one is `codes_on-behind`, where a child shares the double block, code 2,
 -- with all the others. Other numbers in `code_of` must keep this order, or blocks would be given back before what they
