@@ -1,0 +1,61 @@
+#!/usr/bin/env python3
+"""Cuts a log behind each of its blocks, as a crash would, and has the volume found in what is left.
+
+cut-logs.py SHELL CHECK, where SHELL is a built lfs_shell and CHECK a built lfs_check. Files are made and written, each with a
+Sync behind it, on volumes of 6 segments that are made with `--serials`. What is found is to be the tree behind one of the
+Syncs, each with its bytes, and one no older than the last whose blocks all stand. Prints how many cuts were tried; the status
+is 1 where one was told otherwise.
+"""
+import pathlib
+import subprocess
+import sys
+import tempfile
+
+BLOCK = 512
+BLOCKS = 6 * 64
+FILES = 20
+
+
+def run(program, *words, given=""):
+    return subprocess.run([program, *words], input=given, text=True, capture_output=True)
+
+
+def bytes_of(file):
+    return f"{file:02x}" * 600
+
+
+def files_in(shell, image):
+    """How many files the volume has, if they are the first ones with their bytes, the last perhaps still empty."""
+    names = run(shell, "--image", image, given="list /\n").stdout.split("\n")[0].split()[2:]
+    count = len(names)
+    if set(names) != {f"f{file}" for file in range(count)}:
+        return None
+    script = "".join(f"read /f{file} 0 700\n" for file in range(count))
+    read = [line.split()[-1] for line in run(shell, "--image", image, given=script).stdout.split("\n")[:count]]
+    return count if read == [bytes_of(file) for file in range(count)] else None
+
+
+def main(shell, check):
+    with tempfile.TemporaryDirectory() as room:
+        image, cut, found = (f"{room}/{name}" for name in ("image", "cut", "found"))
+        ends, failed, tried = [], 0, 0
+        for files in range(FILES + 1):
+            pathlib.Path(image).unlink(missing_ok=True)
+            script = "".join(f"create /f{it} 0644\nwrite /f{it} at 0 {bytes_of(it)}\nsync\n" for it in range(files))
+            run(shell, "--serials", "--segments", "6", "--image", image, given=script or "sync\n")
+            blocks = pathlib.Path(image).read_bytes()[BLOCK:BLOCK * (BLOCKS + 1)]
+            ends.append(1 + max(at for at in range(BLOCKS) if any(blocks[at * BLOCK:(at + 1) * BLOCK])))
+        for end in range(ends[0], ends[-1] + 1):
+            pathlib.Path(cut).write_bytes(blocks[:end * BLOCK] + bytes((BLOCKS - end) * BLOCK))
+            told = run(check, "--recover", cut, "--save", found)
+            wanted = max(files for files in range(FILES + 1) if ends[files] <= end)
+            tried += 1
+            if told.returncode or files_in(shell, found) != wanted:
+                failed += 1
+                print(f"cut at {end}: {told.stdout.strip()}, {wanted} files were wanted")
+    print(f"{tried} cuts, {failed} failed")
+    return failed > 0
+
+
+if __name__ == "__main__":
+    sys.exit(main(*sys.argv[1:3]))
