@@ -2,7 +2,7 @@
 -- that is opened gets a slot in which none is, and one that is closed goes from its own.
 use Rattle.std.proofs.Common.{◌≡◌, ◌≢◌, ℕ, zero, suc, ◌==◌, Bool, true, false, List, [], ◌∷◌, refl, sym, ap, subst, ◌∙◌, arith}
 use Rattle.std.proofs.Common.{Option, None, Some, IfSome}
-use Rattle.std.specs.Prelude.{◌-◌, option_map, slice_index_or, slice_set, if◌then◌else◌}
+use Rattle.std.specs.Prelude.{◌-◌, slice_index_or, slice_set, if◌then◌else◌}
 use Rattle.lfs_types.specs.Caller.{Caller}
 use Rattle.lfs_types.specs.StoreStates.{StoreState}
 use Rattle.lfs_volume.specs.Seen.{Seen}
@@ -22,7 +22,7 @@ use Rattle.lfs_mount.specs.Answered.{IsHeard, IsToldDated, IsToldKept}
 use Rattle.lfs_mount.specs.Keeping.{AreStillKept, IsStillKept, StaysUnless, ChangesIf, is_closed, is_slot}
 use Rattle.lfs_opens.specs.Opens.{AreLeft, AreSettled, AreUnkept, IsFree}
 use Rattle.lfs_mount.specs.Leaving.{ArePreparedFor, IsLeaving, IsPrepared, OnKept, is_taken, taken_at}
-use Rattle.lfs_opens.specs.Opens.{closed_at, opened_in, opened_on, opener_of, slot_of, unkept}
+use Rattle.lfs_opens.specs.Opens.{closed_at, opened_in, slot_of, unkept}
 use Rattle.lfs_mount.specs.Leaving.{kept_for, OnOpener, IsKept}
 use Rattle.lfs_opens.specs.Rewritten.{AreChangedIf, Shown, bytes_kept, file_behind, is_rewrite, kept_behind, shown_slot}
 use Rattle.lfs_opens.specs.declared.kept.Kept.{Kept}
@@ -202,11 +202,11 @@ changed_if true change node before after slot file is are =
 changed_if false change node before after slot file is are = are slot ∙ ap (λ o. shown_slot o) is
 
 module _ {F : Type 0} (state : F → StoreState) (is_settled : F → Type 0) (sizes : Sizes) (now : Time) (caller : Caller)
-    (nodes : Parts) (node : ℕ) (reply : Told) (old new : Seen F) (before after : Beside) where
+    (nodes nodes_after : Parts) (node : ℕ) (reply : Told) (old new : Seen F) (before after : Beside) where
   still_kept : (message : Said) (o : Option Kept) (slot : ℕ) (file : OpenFile)
       → slice_index_or before.opens.files.items slot None ≡ Some file → hang_in (known nodes file.node) ≡ Some Gone
       → OnKept o (IsToldKept now caller node message reply old new before after)
-      (IsToldDated state is_settled sizes now caller nodes node message reply old new before after)
+      (IsToldDated state is_settled sizes now caller nodes nodes_after node message reply old new before after)
       → IsStillKept now caller node message reply o slot file (slice_index_or after.opens.files.items slot None)
   still_kept message (Some kept) slot file is gone h =
       changed_if (is_rewrite message reply) (kept_behind now caller message) node before.opens.files.items
@@ -218,7 +218,7 @@ module _ {F : Type 0} (state : F → StoreState) (is_settled : F → Type 0) (si
       (free_slot _ h.prepared h.slot h.free) message h.opens
 
   pub heard_keeps : (message : Option Said) (wanted : Bool)
-      → IsHeard state is_settled sizes now caller nodes node message reply wanted old new before after
+      → IsHeard state is_settled sizes now caller nodes nodes_after node message reply wanted old new before after
       → IfSome message (λ m. AreStillKept now caller nodes node m reply before.opens.files.items
       after.opens.files.items)
   heard_keeps None wanted h = tt

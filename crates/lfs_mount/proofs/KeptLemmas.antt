@@ -45,15 +45,15 @@ pub write_kept : {F : Type 0} (now : Time) (caller : Caller) (nodes : Parts) (no
     → TellsWritten (LacksRoom (write fields bytes) node (length kept.bytes.items) before.opens.files.items)
     (length (part_of bytes)) (end_of (write fields bytes) (length kept.bytes.items)) reply
     → AreRewritten now caller node (write fields bytes) reply before.opens.files.items after.opens.files.items
-    → after.times ≡ before.times → after.loans ≡ before.loans
+    → after.times ≡ before.times → after.loans ≡ before.loans → after.listings ≡ before.listings
     → OnKept (kept_for nodes (write fields bytes) before.opens.files.items node caller)
     (λ k. IsSomeAnd (Some reply) (λ t. IsToldKept now caller node (write fields bytes) t old old before after k))
     (Some reply ≡ None)
-write_kept now caller nodes node fields bytes kept reply old before after gone is tells files times loans =
+write_kept now caller nodes node fields bytes kept reply old before after gone is tells files times loans listings =
     let Answers = λ (o : Option Kept). OnKept o
     (λ k. IsSomeAnd (Some reply) (λ t. IsToldKept now caller node (write fields bytes) t old old before after k))
     (Some reply ≡ None) in
     subst (λ h. Answers (where_gone h (kept_to writes (file_at_slot before.opens.files.items (slot_of fields.handle))
     node caller))) (sym gone)
     (subst (λ o. Answers o) (sym is)
-    (record { tells = tells; none = refl; times = times; loans = loans; opens = files }))
+    (record { tells = tells; none = refl; times = times; loans = loans; listings = listings; opens = files }))

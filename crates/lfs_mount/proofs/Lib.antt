@@ -1,9 +1,12 @@
+pub mod EntryLemmas
+pub mod ForgettingLemmas
 pub mod GoingLemmas
 pub mod GoneLemmas
 pub mod HandledLemmas
 pub mod JudgedLemmas
 pub mod KeepingLemmas
 pub mod KeptLemmas
+pub mod ListingLemmas
 pub mod LookedForLemmas
 pub mod LookedLemmas
 pub mod MakingLemmas

@@ -23,6 +23,7 @@ use Rattle.lfs_fuse_calls.specs.Telling.{named_in, refusal_in, refusal_told, see
 use Rattle.lfs_fuse_calls.specs.declared.telling.Seen.{Seen as Sight}
 use Rattle.lfs_fuse_calls.specs.declared.told.Told.{Told}
 use Rattle.lfs_fuse_wire.specs.declared.attributes.SetAttr.{SetAttr}
+use Rattle.lfs_fuse_wire.specs.declared.handles.Open.{Open}
 use Rattle.lfs_fuse_wire.specs.declared.ioctl.Command.{Command}
 use Rattle.lfs_fuse_wire.specs.declared.ioctl.Command.TheVariants as command
 use Rattle.lfs_fuse_wire.specs.declared.ioctl.Ioctl.{Ioctl}
@@ -31,9 +32,10 @@ use Rattle.lfs_fuse_wire.specs.Said.{setattr, access, mknod, mkdir, create, unli
 use Rattle.lfs_fuse_wire.specs.Said.{write, flush, release, fsync, opendir, readdir, readdirplus, releasedir}
 use Rattle.lfs_fuse_wire.specs.Said.{fsyncdir, statfs, ioctl, unserved, unknown}
 use Rattle.lfs_mount.specs.Flags.{flags_wanted}
-use Rattle.lfs_mount.specs.Handled.{Behind, GoesOnFlags, IsFlagged, IsLookedAt, IsReleased, IsSet, IsSetAttr}
+use Rattle.lfs_mount.specs.Handled.{Behind, GoesOnFlags, IsDirectoryOpened, IsFlagged, IsLookedAt, IsReleased, IsSet, IsSetAttr}
 use Rattle.lfs_mount.specs.Handled.{IsSetJudged, IsSynced, Unless}
 use Rattle.lfs_mount.specs.Making.{AreMade, GoUpTo}
+use Rattle.lfs_mount.specs.declared.listing.Listings.{Listings}
 use Rattle.lfs_mount.specs.Trees.{AreLedAndMade, LeavesNodes, MovesRow, StayTrue, UnlessRefused}
 use Rattle.lfs_mount.proofs.JudgedLemmas.{AreJudged, judged_made}
 use Rattle.lfs_mount.proofs.TreeLemmas.{KeepNames, emptied_nodes, found_nodes, judged_kept, keep_open, keep_read, keep_set}
@@ -251,6 +253,16 @@ module _ {F : Type 0} (state : F → StoreState) (is_settled : F → Type 0) whe
         → IsSynced state is_settled caller reply old new → StayTrue state old nodes new nodes
     synced_stay caller reply old new (inl done) = kept_stay caller (Sync ∷ []) done.answers old new (tt, tt) done.made
     synced_stay caller reply old new (inr refused) = unchanged old new nodes refused.none
+
+    -- a directory was opened
+    pub listed_stay : (caller : Caller) (hangs : ℕ → Option Hang) (node : ℕ) (fields : Open) (lists listed : Listings)
+        (reply : Told) (old new : Seen F)
+        → IsDirectoryOpened state is_settled caller hangs node fields lists listed reply old new
+        → StayTrue state old nodes new nodes
+    listed_stay caller hangs node fields lists listed reply old new (inl opened) =
+        kept_stay caller (asked (opendir fields) opened.made.path) opened.answers old new (tt, tt) opened.made.made
+    listed_stay caller hangs node fields lists listed reply old new (inr unlisted) =
+        unchanged old new nodes unlisted.refused.none
 
     -- a file was closed
     pub released_stay : (caller : Caller) (hangs : ℕ → Option Hang) (node : ℕ) (due : Option ℕ) (reply : Told)

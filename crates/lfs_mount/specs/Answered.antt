@@ -19,8 +19,9 @@ use Rattle.lfs_fuse_calls.specs.declared.told.Told.{Told}
 use Rattle.lfs_fuse_calls.specs.declared.told.Told.TheVariants.{Error}
 use Rattle.lfs_stamps.specs.Change.{change_of, other_node}
 use Rattle.lfs_stamps.specs.Times.{dated, stamped}
-use Rattle.lfs_mount.specs.Handled.{IsTold, hangs_in}
+use Rattle.lfs_mount.specs.Handled.{IsTold}
 use Rattle.lfs_mount.specs.Keeping.{AreStillKept}
+use Rattle.lfs_mount.specs.Listing.{AreListed}
 use Rattle.lfs_opens.specs.Loans.{due, noted, with_handle}
 use Rattle.lfs_opens.specs.Opens.{AreLeft, IsFree, TellsKept}
 use Rattle.lfs_mount.specs.Leaving.{ArePreparedFor, IsLastLook, IsLastMiss, IsLeaving, IsLooked, NoneLeaves, OnKept}
@@ -46,11 +47,12 @@ live_in parts node = live_of (hang_in (known parts node)) (rows_in parts node)
 
 -- What comes of a message that comes now: its calls; the files that it changed, as what is told of it says, have the
 -- present time, all others keep theirs, and attributes are told with their times; what is put down of files that are
--- made with more than their mode; and which files are open then. Before a node is taken from its place, its file may be
--- looked at as each who opened it, which changes nothing that the store shows.
+-- made with more than their mode; and which files and directories are open then. Before a node is taken from its place,
+-- its file may be looked at as each who opened it, which changes nothing that the store shows.
 pub record IsToldDated {F : Type 0} (state : F → StoreState) (is_settled : F → Type 0)
     (sizes : Sizes) (now : Time)
-    (caller : Caller) (nodes : Parts) (node : ℕ) (message : Said) (reply : Told) (old new : Seen F)
+    (caller : Caller) (nodes nodes_after : Parts) (node : ℕ) (message : Said) (reply : Told)
+    (old new : Seen F)
     (before after : Beside) : Type 0 where
   pub told : Told
   pub between : Seen F
@@ -62,8 +64,8 @@ pub record IsToldDated {F : Type 0} (state : F → StoreState) (is_settled : F �
   pub kept : ArePreparedFor (IsLastLook state before.times.stamps.items nodes old)
       (IsLastMiss state nodes old) left before.opens.files.items prepared
   pub is : IsTold state is_settled sizes (due message before.loans.modes.items (live_in nodes node))
-      caller
-      (hangs_in nodes) node message told between new
+      caller nodes nodes_after before.listings after.listings node message told between new
+  pub listed : AreListed message before.listings after.listings
   pub times : after.times.stamps.items ≡ stamped now (rows_in nodes node)
       (rows_in nodes (other_node message))
       (change_of message told) before.times.stamps.items
@@ -81,27 +83,32 @@ pub record IsToldKept {F : Type 0} (now : Time) (caller : Caller) (node : ℕ) (
   pub none : new ≡ old
   pub times : after.times ≡ before.times
   pub loans : after.loans ≡ before.loans
+  pub listings : after.listings ≡ before.listings
   pub opens : AreRewritten now caller node message reply before.opens.files.items
       after.opens.files.items
 
 -- what comes of a message: what is kept that answers it, or its calls
 abbrev pub IsToldKeptOrDated : {F : Type 0} → (F → StoreState) → (F → Type 0) → Sizes → Time
-    → Caller → Parts → ℕ → Said → Told → Seen F → Seen F → Beside → Beside → Type 0
-IsToldKeptOrDated state is_settled sizes now caller nodes node message reply old new before after =
+    → Caller → Parts → Parts → ℕ → Said → Told → Seen F → Seen F → Beside → Beside → Type 0
+IsToldKeptOrDated state is_settled sizes now caller nodes nodes_after node message reply old new
+    before after =
     OnKept (kept_for nodes message before.opens.files.items node caller)
     (IsToldKept now caller node message reply old new before after)
-    (IsToldDated state is_settled sizes now caller nodes node message reply old new before after)
+    (IsToldDated state is_settled sizes now caller nodes nodes_after node message reply old new
+    before after)
 
 -- what comes of a message, or of bytes that are none: those are EINVAL, and no call is made; and whether a reply is
 -- wanted
 abbrev pub IsHeard : {F : Type 0} → (F → StoreState) → (F → Type 0) → Sizes → Time → Caller → Parts
-    → ℕ → Option Said
+    → Parts → ℕ → Option Said
     → Told → Bool → Seen F → Seen F → Beside → Beside → Type 0
-IsHeard state is_settled sizes now caller nodes node None reply wanted old new before after =
+IsHeard state is_settled sizes now caller nodes nodes_after node None reply wanted old new before
+    after =
     (reply ≡ Error EINVAL) × (wanted ≡ true) × (new ≡ old) × (after ≡ before)
-IsHeard state is_settled sizes now caller nodes node
+IsHeard state is_settled sizes now caller nodes nodes_after node
     (Some message) reply wanted old new before after =
-    IsToldKeptOrDated state is_settled sizes now caller nodes node message reply old new before after
+    IsToldKeptOrDated state is_settled sizes now caller nodes nodes_after node message reply old new
+    before after
     × (wanted ≡ has_reply message)
 
 -- bytes, with the reply to the message of this number behind them, or with none
@@ -113,32 +120,34 @@ replied false unique reply out = out
 -- header's caller, with the other groups of the process; and what is kept of removed files is kept still.
 pub record IsReplied {F : Type 0} (state : F → StoreState) (is_settled : F → Type 0) (sizes : Sizes)
     (now : Time)
-    (nodes : Parts) (others : List ℕ) (header : Header) (message : Option Said)
+    (nodes nodes_after : Parts) (others : List ℕ) (header : Header) (message : Option Said)
     (out_before out_after : List ℕ)
     (old new : Seen F) (before after : Beside) : Type 0 where
   pub reply : Told
   pub wanted : Bool
   pub heard : IsHeard state is_settled sizes now
-      (caller_of header others) nodes header.node message reply wanted old new before after
+      (caller_of header others) nodes nodes_after header.node message reply wanted old new before
+      after
   pub keeps : IfSome message (λ m. AreStillKept now (caller_of header others) nodes header.node m reply
       before.opens.files.items after.opens.files.items)
   pub written : out_after ≡ replied wanted header.unique reply out_before
 
 -- What comes of bytes: of those without a header nothing, else one reply or none.
 abbrev pub IsAnsweredOf : {F : Type 0} → (F → StoreState) → (F → Type 0) → Sizes → Time → Parts
-    → List ℕ → Option Header
+    → Parts → List ℕ → Option Header
     → Option Said → List ℕ → List ℕ → Seen F → Seen F → Beside → Beside → Type 0
-IsAnsweredOf state is_settled sizes now nodes others None message out_before out_after old new
-    before after =
+IsAnsweredOf state is_settled sizes now nodes nodes_after others None message out_before out_after
+    old new before after =
     (out_after ≡ out_before) × (new ≡ old) × (after ≡ before)
-IsAnsweredOf state is_settled sizes now nodes others
+IsAnsweredOf state is_settled sizes now nodes nodes_after others
     (Some header) message out_before out_after old new before after =
-    IsReplied state is_settled sizes now nodes others header message out_before out_after old new
-    before after
+    IsReplied state is_settled sizes now nodes nodes_after others header message out_before
+    out_after old new before after
 
 abbrev pub IsAnswered : {F : Type 0} → (F → StoreState) → (F → Type 0) → Sizes → Time → Parts
-    → List ℕ → List ℕ → List ℕ
+    → Parts → List ℕ → List ℕ → List ℕ
     → List ℕ → Seen F → Seen F → Beside → Beside → Type 0
-IsAnswered state is_settled sizes now nodes others bytes out_before out_after old new before after =
-    IsAnsweredOf state is_settled sizes now nodes others (header_in bytes)
+IsAnswered state is_settled sizes now nodes nodes_after others bytes out_before out_after old new
+    before after =
+    IsAnsweredOf state is_settled sizes now nodes nodes_after others (header_in bytes)
     (said bytes) out_before out_after old new before after

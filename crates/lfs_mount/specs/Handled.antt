@@ -1,5 +1,5 @@
 -- What comes of a message.
-use Rattle.std.specs.Prelude.{◌≡◌, ⊤, ℕ, ◌⊎◌, Bool, true, false, List, [], ◌∷◌, Option, None, Some}
+use Rattle.std.specs.Prelude.{◌≡◌, ℕ, ◌⊎◌, Bool, true, false, List, [], ◌∷◌, Option, None, Some}
 use Rattle.lfs_types.specs.Caller.{Caller}
 use Rattle.lfs_types.specs.StoreStates.{StoreState}
 use Rattle.lfs_types.specs.declared.answer.Answer.{Answer}
@@ -15,6 +15,7 @@ use Rattle.lfs_fuse_wire.specs.Said.{Said, init, lookup, getattr, setattr, acces
 use Rattle.lfs_fuse_wire.specs.Said.{rename, opening, read, write, fsync, opendir, readdir, readdirplus, release}
 use Rattle.lfs_fuse_wire.specs.Said.{fsyncdir, statfs, ioctl, unserved, unknown}
 use Rattle.lfs_fuse_wire.specs.declared.attributes.SetAttr.{SetAttr}
+use Rattle.lfs_fuse_wire.specs.declared.handles.Open.{Open}
 use Rattle.lfs_fuse_wire.specs.declared.ioctl.Command.{Command}
 use Rattle.lfs_fuse_wire.specs.declared.ioctl.Command.TheVariants as command
 use Rattle.lfs_fuse_wire.specs.declared.ioctl.Ioctl.{Ioctl}
@@ -28,27 +29,23 @@ use Rattle.lfs_fuse_reply.specs.declared.errno.Errno.{Errno}
 use Rattle.lfs_fuse_reply.specs.declared.errno.Errno.TheVariants as errno
 use Rattle.lfs_fuse_calls.specs.Asked.{asked, asked_to_set}
 use Rattle.lfs_fuse_calls.specs.Paths.{IsPathError, IsPathOf}
-use Rattle.lfs_fuse_calls.specs.Telling.{Says, SaysOr, attr_told, named_in, refusal_in, seen_in}
+use Rattle.lfs_fuse_calls.specs.Telling.{Says, SaysOr, attr_told, named_in, refusal_in, refusal_told, seen_in}
 use Rattle.lfs_fuse_calls.specs.declared.telling.Seen.{Seen as Stat}
 use Rattle.lfs_fuse_calls.specs.declared.told.Told.{Told}
 use Rattle.lfs_fuse_calls.specs.declared.told.Told.TheVariants as told
 use Rattle.lfs_stamps.specs.Leave.{dating_refusal}
+use Rattle.lfs_mount.specs.Entries.{NodesFollow}
 use Rattle.lfs_mount.specs.Flags.{flags_shown, flags_wanted}
+use Rattle.lfs_mount.specs.Listing.{KeepsShown, TellsEntries, names_at, names_in}
 use Rattle.lfs_mount.specs.Making.{AreMade}
-use Rattle.lfs_mount.specs.Room.{IsRoom}
+use Rattle.lfs_mount.specs.Room.{IsRoom, init_told}
+use Rattle.lfs_mount.specs.Trees.{UnlessRefused}
+use Rattle.lfs_mount.specs.declared.listing.Listings.{Listings}
 use Rattle.lfs_mount.specs.declared.mount.Sizes.{Sizes}
 
 -- where each node of a mount hangs
 abbrev pub hangs_in : Parts → ℕ → Option Hang
 hangs_in parts node = hang_in (node_at parts.table node)
-
--- why a node is wanting, where a call was served
-abbrev pub IsNodeFault : Errno → Type 0
-IsNodeFault errno.ESTALE = ⊤
-IsNodeFault errno.EOVERFLOW = ⊤
-IsNodeFault errno.ENOMEM = ⊤
-IsNodeFault errno.EIO = ⊤
-IsNodeFault error = ⊥
 
 abbrev pub IsFault : Errno → Told → Type 0
 IsFault error reply = reply ≡ told.Error error
@@ -67,26 +64,30 @@ pub record AreAskedAndMade {F : Type 0} (state : F → StoreState) (is_settled :
   pub leads : IsPathOf hangs node (named_in message) path
   pub made : AreMade state is_settled caller (asked message path) answers old new
 
--- A message was handled: the calls that it asks for were made as this caller, and the reply says what their answers
--- say.
+-- A message was handled: the calls that it asks for were made as this caller, the reply says what their answers say, and
+-- the nodes follow from these; behind a refusal they stay as they are.
 pub record IsCalled {F : Type 0} (state : F → StoreState) (is_settled : F → Type 0)
     (caller : Caller)
-    (hangs : ℕ → Option Hang) (node : ℕ) (message : Said) (reply : Told)
+    (nodes nodes_after : Parts) (node : ℕ) (message : Said) (reply : Told)
     (old new : Seen F) : Type 0 where
   pub answers : List Answer
-  pub made : AreAskedAndMade state is_settled caller hangs node message answers old new
+  pub made : AreAskedAndMade state is_settled caller (hangs_in nodes) node message answers old new
   pub says : Says caller message answers reply
+  pub follows : UnlessRefused (refusal_told message answers)
+      (NodesFollow message node (seen_in answers) reply nodes nodes_after) nodes nodes_after
 
 -- No call was made, and an error is told: why there is no path, or that memory is wanting.
 pub record IsRefused {F : Type 0} (reply : Told) (old new : Seen F) : Type 0 where
   pub error : IsError reply
   pub none : new ≡ old
 
-abbrev pub IsHandled : {F : Type 0} → (F → StoreState) → (F → Type 0) → Caller → (ℕ → Option Hang)
-    → ℕ → Said → Told
+-- the same, or no call was made, and the nodes stay as they are
+abbrev pub IsHandled : {F : Type 0} → (F → StoreState) → (F → Type 0) → Caller → Parts → Parts → ℕ
+    → Said → Told
     → Seen F → Seen F → Type 0
-IsHandled state is_settled caller hangs node message reply old new =
-    IsCalled state is_settled caller hangs node message reply old new ⊎ IsRefused reply old new
+IsHandled state is_settled caller nodes nodes_after node message reply old new =
+    IsCalled state is_settled caller nodes nodes_after node message reply old new
+    ⊎ (IsRefused reply old new × (nodes_after ≡ nodes))
 
 -- a call that shows nothing is told as done, or as refused
 abbrev pub SaysDone : Told → List Answer → Type 0
@@ -299,6 +300,29 @@ IsReleased state is_settled caller hangs node None reply old new = (reply ≡ to
 IsReleased state is_settled caller hangs node (Some mode) reply old new =
     (reply ≡ told.Done) × IsGivenOrNot state is_settled caller hangs node mode old new
 
+-- ---- a directory that is opened
+
+-- Its names were asked for, as this caller, and the handle that is told keeps those that the answer shows; or the error
+-- of the answer is told.
+pub record IsListed {F : Type 0} (state : F → StoreState) (is_settled : F → Type 0) (caller : Caller)
+    (hangs : ℕ → Option Hang) (node : ℕ) (message : Said) (lists listed : Listings) (reply : Told)
+    (old new : Seen F) : Type 0 where
+  pub answers : List Answer
+  pub made : AreAskedAndMade state is_settled caller hangs node message answers old new
+  pub keeps : Unless (refusal_in answers) reply (listed ≡ lists)
+      (KeepsShown (names_in answers) lists listed reply)
+
+-- no call was made, and no directory opened
+pub record IsUnlisted {F : Type 0} (lists listed : Listings) (reply : Told) (old new : Seen F) : Type 0 where
+  pub refused : IsRefused reply old new
+  pub same : listed ≡ lists
+
+abbrev pub IsDirectoryOpened : {F : Type 0} → (F → StoreState) → (F → Type 0) → Caller
+    → (ℕ → Option Hang) → ℕ → Open → Listings → Listings → Told → Seen F → Seen F → Type 0
+IsDirectoryOpened state is_settled caller hangs node fields lists listed reply old new =
+    IsListed state is_settled caller hangs node (opendir fields) lists listed reply old new
+    ⊎ IsUnlisted lists listed reply old new
+
 -- ---- any message
 
 -- no call is made
@@ -316,17 +340,6 @@ error_of_unserved kinds.Fallocate = errno.EOPNOTSUPP
 error_of_unserved kinds.Tmpfile = errno.EOPNOTSUPP
 error_of_unserved kind = errno.ENOSYS
 
--- entries of a directory, which must be open, or want of memory for them
-abbrev pub TellsEntries : Told → Type 0
-TellsEntries (told.Bytes bytes) = ⊤
-TellsEntries (told.Error errno.EBADF) = ⊤
-TellsEntries (told.Error errno.ENOMEM) = ⊤
-TellsEntries reply = ⊥
-
-abbrev pub IsOpening : Told → Type 0
-IsOpening (told.Init given) = ⊤
-IsOpening reply = ⊥
-
 -- a device, a pipe or a link isn't made
 abbrev pub IsMade : {F : Type 0} → Option FileKind → Type 0 → Told → Seen F → Seen F → Type 0
 IsMade (Some Regular) Goes reply old new = Goes
@@ -342,59 +355,59 @@ IsRename mode.Other Replaces Seeks reply old new = IsIdle (IsFault errno.EINVAL)
 -- What comes of a message to a node: which calls it makes, as this caller and no other, and what their answers have it
 -- told.
 abbrev pub IsTold : {F : Type 0} → (F → StoreState) → (F → Type 0) → Sizes → Option ℕ → Caller
-    → (ℕ → Option Hang) → ℕ
+    → Parts → Parts → Listings → Listings → ℕ
     → Said → Told → Seen F → Seen F → Type 0
-IsTold state is_settled sizes due caller hangs node (lookup name) reply old new =
-    IsHandled state is_settled caller hangs node (lookup name) reply old new
-IsTold state is_settled sizes due caller hangs node (getattr fields) reply old new =
-    IsHandled state is_settled caller hangs node (getattr fields) reply old new
-IsTold state is_settled sizes due caller hangs node (access wanted) reply old new =
-    IsHandled state is_settled caller hangs node (access wanted) reply old new
-IsTold state is_settled sizes due caller hangs node (mknod fields name) reply old new =
-    IsMade fields.kind (IsHandled state is_settled caller hangs node
+IsTold state is_settled sizes due caller nodes nodes_after lists listed node (lookup name) reply old new =
+    IsHandled state is_settled caller nodes nodes_after node (lookup name) reply old new
+IsTold state is_settled sizes due caller nodes nodes_after lists listed node (getattr fields) reply old new =
+    IsHandled state is_settled caller nodes nodes_after node (getattr fields) reply old new
+IsTold state is_settled sizes due caller nodes nodes_after lists listed node (access wanted) reply old new =
+    IsHandled state is_settled caller nodes nodes_after node (access wanted) reply old new
+IsTold state is_settled sizes due caller nodes nodes_after lists listed node (mknod fields name) reply old new =
+    IsMade fields.kind (IsHandled state is_settled caller nodes nodes_after node
     (mknod fields name) reply old new) reply old new
-IsTold state is_settled sizes due caller hangs node (mkdir fields name) reply old new =
-    IsHandled state is_settled caller hangs node (mkdir fields name) reply old new
-IsTold state is_settled sizes due caller hangs node (create fields name) reply old new =
-    IsHandled state is_settled caller hangs node (create fields name) reply old new
-IsTold state is_settled sizes due caller hangs node (unlink name) reply old new =
-    IsHandled state is_settled caller hangs node (unlink name) reply old new
-IsTold state is_settled sizes due caller hangs node (rmdir name) reply old new =
-    IsHandled state is_settled caller hangs node (rmdir name) reply old new
-IsTold state is_settled sizes due caller hangs node (opening fields) reply old new =
-    IsHandled state is_settled caller hangs node (opening fields) reply old new
-IsTold state is_settled sizes due caller hangs node (read fields) reply old new =
-    IsHandled state is_settled caller hangs node (read fields) reply old new
-IsTold state is_settled sizes due caller hangs node (write fields bytes) reply old new =
-    IsHandled state is_settled caller hangs node (write fields bytes) reply old new
-IsTold state is_settled sizes due caller hangs node (opendir fields) reply old new =
-    IsHandled state is_settled caller hangs node (opendir fields) reply old new
-IsTold state is_settled sizes due caller hangs node (setattr fields) reply old new =
-    IsSetAttr state is_settled caller hangs node fields reply old new
-IsTold state is_settled sizes due caller hangs node (ioctl fields) reply old new =
-    IsFlagged state is_settled caller hangs node fields reply old new
-IsTold state is_settled sizes due caller hangs node (rename fields name new_name) reply old new =
-    IsRename fields.mode (IsRenamed state is_settled caller hangs node name fields.directory
+IsTold state is_settled sizes due caller nodes nodes_after lists listed node (mkdir fields name) reply old new =
+    IsHandled state is_settled caller nodes nodes_after node (mkdir fields name) reply old new
+IsTold state is_settled sizes due caller nodes nodes_after lists listed node (create fields name) reply old new =
+    IsHandled state is_settled caller nodes nodes_after node (create fields name) reply old new
+IsTold state is_settled sizes due caller nodes nodes_after lists listed node (unlink name) reply old new =
+    IsHandled state is_settled caller nodes nodes_after node (unlink name) reply old new
+IsTold state is_settled sizes due caller nodes nodes_after lists listed node (rmdir name) reply old new =
+    IsHandled state is_settled caller nodes nodes_after node (rmdir name) reply old new
+IsTold state is_settled sizes due caller nodes nodes_after lists listed node (opening fields) reply old new =
+    IsHandled state is_settled caller nodes nodes_after node (opening fields) reply old new
+IsTold state is_settled sizes due caller nodes nodes_after lists listed node (read fields) reply old new =
+    IsHandled state is_settled caller nodes nodes_after node (read fields) reply old new
+IsTold state is_settled sizes due caller nodes nodes_after lists listed node (write fields bytes) reply old new =
+    IsHandled state is_settled caller nodes nodes_after node (write fields bytes) reply old new
+IsTold state is_settled sizes due caller nodes nodes_after lists listed node (opendir fields) reply old new =
+    IsDirectoryOpened state is_settled caller (hangs_in nodes) node fields lists listed reply old new
+IsTold state is_settled sizes due caller nodes nodes_after lists listed node (setattr fields) reply old new =
+    IsSetAttr state is_settled caller (hangs_in nodes) node fields reply old new
+IsTold state is_settled sizes due caller nodes nodes_after lists listed node (ioctl fields) reply old new =
+    IsFlagged state is_settled caller (hangs_in nodes) node fields reply old new
+IsTold state is_settled sizes due caller nodes nodes_after lists listed node (rename fields name new_name) reply old new =
+    IsRename fields.mode (IsRenamed state is_settled caller (hangs_in nodes) node name fields.directory
     new_name reply old new)
-    (IsRenamedToFree state is_settled caller hangs node name fields.directory new_name reply old
+    (IsRenamedToFree state is_settled caller (hangs_in nodes) node name fields.directory new_name reply old
     new) reply old new
-IsTold state is_settled sizes due caller hangs node (fsync fields) reply old new =
+IsTold state is_settled sizes due caller nodes nodes_after lists listed node (fsync fields) reply old new =
     IsSynced state is_settled caller reply old new
-IsTold state is_settled sizes due caller hangs node (fsyncdir fields) reply old new =
+IsTold state is_settled sizes due caller nodes nodes_after lists listed node (fsyncdir fields) reply old new =
     IsSynced state is_settled caller reply old new
-IsTold state is_settled sizes due caller hangs node (init fields) reply old new =
-    IsIdle IsOpening reply old new
-IsTold state is_settled sizes due caller hangs node statfs reply old new =
+IsTold state is_settled sizes due caller nodes nodes_after lists listed node (init fields) reply old new =
+    IsIdle (λ it. it ≡ told.Init (init_told fields)) reply old new
+IsTold state is_settled sizes due caller nodes nodes_after lists listed node statfs reply old new =
     IsIdle (IsRoom sizes (state old.store)) reply old new
-IsTold state is_settled sizes due caller hangs node (readdir fields) reply old new =
-    IsIdle TellsEntries reply old new
-IsTold state is_settled sizes due caller hangs node (readdirplus fields) reply old new =
+IsTold state is_settled sizes due caller nodes nodes_after lists listed node (readdir fields) reply old new =
+    IsIdle (TellsEntries (names_at lists fields.handle) fields) reply old new
+IsTold state is_settled sizes due caller nodes nodes_after lists listed node (readdirplus fields) reply old new =
     IsIdle (IsFault errno.ENOSYS) reply old new
-IsTold state is_settled sizes due caller hangs node (unserved kind) reply old new =
+IsTold state is_settled sizes due caller nodes nodes_after lists listed node (unserved kind) reply old new =
     IsIdle (IsFault (error_of_unserved kind)) reply old new
-IsTold state is_settled sizes due caller hangs node (unknown number) reply old new =
+IsTold state is_settled sizes due caller nodes nodes_after lists listed node (unknown number) reply old new =
     IsIdle (IsFault errno.ENOSYS) reply old new
-IsTold state is_settled sizes due caller hangs node (release fields) reply old new =
-    IsReleased state is_settled caller hangs node due reply old new
-IsTold state is_settled sizes due caller hangs node message reply old new =
+IsTold state is_settled sizes due caller nodes nodes_after lists listed node (release fields) reply old new =
+    IsReleased state is_settled caller (hangs_in nodes) node due reply old new
+IsTold state is_settled sizes due caller nodes nodes_after lists listed node message reply old new =
     IsIdle (λ it. it ≡ told.Done) reply old new

@@ -1,8 +1,11 @@
 pub mod Answered
+pub mod Entries
 pub mod Flags
+pub mod Forgetting
 pub mod Handled
 pub mod Keeping
 pub mod Leaving
+pub mod Listing
 pub mod Making
 pub mod Room
 pub mod Runs

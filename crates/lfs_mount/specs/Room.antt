@@ -4,11 +4,14 @@ use Rattle.lfs_types.specs.StoreStates.{StoreState}
 use Rattle.lfs_types.specs.Stored.{shown_attrs}
 use Rattle.lfs_types.specs.Tree.{Content}
 use Rattle.lfs_types.specs.declared.attrs.Attrs.{Attrs}
+use Rattle.lfs_fuse_wire.specs.declared.init.Init.{Init}
+use Rattle.lfs_fuse_reply.specs.declared.reply.InitReply.{InitReply}
 use Rattle.lfs_fuse_reply.specs.declared.reply.Statfs.{Statfs}
 use Rattle.lfs_fuse_calls.specs.Attrs.{blocks_told}
 use Rattle.lfs_fuse_calls.specs.declared.told.Told.{Told}
 use Rattle.lfs_fuse_calls.specs.declared.told.Told.TheVariants as told
 use Rattle.lfs_mount.specs.declared.mount.Sizes.{Sizes}
+use Rattle.std.specs.Int.RustNames.{bit_and}
 
 -- the blocks that the bytes of a file take, if there is one
 abbrev pub blocks_of : Option Attrs → ℕ
@@ -54,3 +57,19 @@ room_of sizes state =
 abbrev pub IsRoom : Sizes → StoreState → Told → Type 0
 IsRoom sizes state (told.Statfs room) = room ≡ room_of sizes state
 IsRoom sizes state reply = ⊥
+
+-- What a kernel is told at the beginning: the protocol's version 7.38; of its offer larger writes, O_TRUNC in OPEN,
+-- control calls of directories, set-id bits as the volume's matter, messages of 32 pages and mmap beside direct I/O; and
+-- at most 131,072 bytes by one message.
+abbrev pub init_told : Init → InitReply
+init_told init = record {
+  major = 7;
+  minor = 38;
+  max_readahead = min init.max_readahead 131072;
+  flags = record { 0 = bit_and init.flags.0 0x1040480828 };
+  max_background = 12;
+  congestion_threshold = 9;
+  max_write = 131072;
+  time_granularity = 1;
+  max_pages = 32;
+}

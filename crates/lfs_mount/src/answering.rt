@@ -1,12 +1,27 @@
 //! One message, and its reply.
 
-ghost use Rattle.std.specs.Prelude.{◌≡◌, IsSomeAnd, None, OnOk, min};
+ghost use Rattle.std.specs.Prelude.{◌≡◌, IsSome, IsSomeAnd, None, OnOk, min};
 ghost use Rattle.lfs_types.specs.Stored.{slice_of};
 ghost use Rattle.lfs_fuse_calls.specs.Telling.{TellsBytes};
+ghost use Rattle.lfs_fuse_wire.specs.Header.{header_in};
 ghost use Rattle.lfs_fuse_wire.specs.Said.{said};
 ghost use Rattle.lfs_fuse_wire.specs.Views.{view};
 ghost use Rattle.lfs_nodes.specs.Staying.{IdsStay};
-ghost use Rattle.lfs_mount.specs.Answered.{IsAnswered, IsHeard, IsToldDated, IsToldKept, IsToldKeptOrDated, live_in, replied};
+ghost use Rattle.lfs_mount.specs.Answered.{
+  IsAnswered,
+  IsHeard,
+  IsToldDated,
+  IsToldKept,
+  IsToldKeptOrDated,
+  live_in,
+  replied,
+};
+ghost use Rattle.lfs_mount.specs.Forgetting.{
+  ForgetsNothing,
+  IsForgetting,
+  IsForgettingIn,
+  IsForgettingOf,
+};
 ghost use Rattle.lfs_mount.specs.Leaving.{OnKept, kept_for};
 ghost use Rattle.lfs_mount.specs.Runs.{GoesOn};
 ghost use Rattle.lfs_mount.specs.Trees.{StayTrue};
@@ -51,8 +66,8 @@ fn part_told(alloc: Global, bytes: &[u8], offset: u64, size: u32) -> Told
 }
 
 impl<F: FileStore + Drop> Mount<F> {
-    /// What is told of a file that was removed while it was open, where that answers a message, which may change what is
-    /// kept of the file.
+    /// What is told of a file that was removed while it was open, where that answers a message,
+    /// which may change what is kept of the file.
     fn kept_told(
         &mut self,
         alloc: Global,
@@ -67,6 +82,7 @@ impl<F: FileStore + Drop> Mount<F> {
             self.old.tree.volume self.new.tree.volume self.old.beside self.new.beside kept))
             (result ≡ None) }
         ensures none { result ≡ None → self.new ≡ self.old }
+        ensures plain { IsSome result → ForgetsNothing (view message.now) }
         ensures tree { self.new.tree ≡ self.old.tree }
         ensures sizes { self.new.sizes ≡ self.old.sizes }
     {
@@ -103,7 +119,8 @@ impl<F: FileStore + Drop> Mount<F> {
     }
 
     #[tactic(auto, using(crate::proofs::KeptLemmas::told_kept, crate::proofs::KeptLemmas::told_dated))]
-    /// What a message comes to, which comes now: what is kept of a file that was removed, or its calls.
+    /// What a message comes to, which comes now: what is kept of a file that was removed, or its
+    /// calls.
     fn told(
         &mut self,
         alloc: Global,
@@ -113,9 +130,11 @@ impl<F: FileStore + Drop> Mount<F> {
         cred: &Cred,
     ) -> Told
         ensures told { IsToldKeptOrDated F.state F.is_settled self.old.sizes now cred.now
-            self.old.tree.nodes node
+            self.old.tree.nodes self.new.tree.nodes node
             (view message.now) result self.old.tree.volume self.new.tree.volume
             self.old.beside self.new.beside }
+        ensures forgets { IsForgetting (view message.now) node
+            self.old.tree.nodes self.new.tree.nodes }
         ensures stay { StayTrue F.state self.old.tree.volume self.old.tree.nodes
             self.new.tree.volume self.new.tree.nodes }
         ensures ids { IdsStay self.old.tree.nodes self.new.tree.nodes }
@@ -127,8 +146,9 @@ impl<F: FileStore + Drop> Mount<F> {
         }
     }
 
-    /// What the calls of a message come to, which comes now: what it changed has the present time, and attributes are
-    /// told with their times. Of a file that it removes, and that is open, the bytes are kept.
+    /// What the calls of a message come to, which comes now: what it changed has the present time,
+    /// and attributes are told with their times. Of a file that it removes, and that is open, the
+    /// bytes are kept.
     fn called(
         &mut self,
         alloc: Global,
@@ -138,9 +158,11 @@ impl<F: FileStore + Drop> Mount<F> {
         cred: &Cred,
     ) -> Told
         ensures told { IsToldDated F.state F.is_settled self.old.sizes now cred.now
-            self.old.tree.nodes node
+            self.old.tree.nodes self.new.tree.nodes node
             (view message.now) result self.old.tree.volume self.new.tree.volume
             self.old.beside self.new.beside }
+        ensures forgets { IsForgetting (view message.now) node
+            self.old.tree.nodes self.new.tree.nodes }
         ensures stay { StayTrue F.state self.old.tree.volume self.old.tree.nodes
             self.new.tree.volume self.new.tree.nodes }
         ensures ids { IdsStay self.old.tree.nodes self.new.tree.nodes }
@@ -151,7 +173,15 @@ impl<F: FileStore + Drop> Mount<F> {
         let live = self.live_row(node);
         let due = self.beside.loans.due(message, live);
         let left = self.prepare(alloc, node, message);
-        let told = self.tree.told(alloc, self.sizes, due, node, message, cred);
+        let told = self.tree.told(
+            alloc,
+            &mut self.beside.listings,
+            self.sizes,
+            due,
+            node,
+            message,
+            cred,
+        );
         let change = change_of(message, &told);
         self.beside.loans.note(message, &told);
         let slot = self.beside.opens.note(message, node, &told, cred, left);
@@ -170,7 +200,8 @@ impl<F: FileStore + Drop> Mount<F> {
         }
     }
 
-    /// What the bytes of a message come to, and whether a reply is wanted: an error where they are no message.
+    /// What the bytes of a message come to, and whether a reply is wanted: an error where they are
+    /// no message.
     fn heard(
         &mut self,
         alloc: Global,
@@ -180,9 +211,11 @@ impl<F: FileStore + Drop> Mount<F> {
         cred: &Cred,
     ) -> (Told, bool)
         ensures heard { IsHeard F.state F.is_settled self.old.sizes now cred.now self.old.tree.nodes
-            header.now.node (said bytes.now) result.0 result.1 self.old.tree.volume
-            self.new.tree.volume
+            self.new.tree.nodes header.now.node (said bytes.now) result.0 result.1
+            self.old.tree.volume self.new.tree.volume
             self.old.beside self.new.beside }
+        ensures forgets { IsForgettingOf (said bytes.now) header.now.node
+            self.old.tree.nodes self.new.tree.nodes }
         ensures stay { StayTrue F.state self.old.tree.volume self.old.tree.nodes
             self.new.tree.volume self.new.tree.nodes }
         ensures ids { IdsStay self.old.tree.nodes self.new.tree.nodes }
@@ -198,10 +231,11 @@ impl<F: FileStore + Drop> Mount<F> {
     }
 
     #[tactic(auto, using(crate::proofs::GoingLemmas::heard_goes, crate::proofs::TendingLemmas::goes_on_none))]
-    /// Answers one message, which comes now: its calls are made as the caller that its header tells, with the other
-    /// groups of its process, and its reply is added, if it wants one. Nothing is done of bytes that have no header.
-    /// Nodes that were true of the tree that the volume showed are true of the one that it shows then, and no node id
-    /// leads to another row than before: one that is gone stays gone. The journal goes on, and stays a legal run.
+    /// Answers one message, which comes now: its calls are made as the caller that its header
+    /// tells, with the other groups of its process, and its reply is added, if it wants one.
+    /// Nothing is done of bytes that have no header. Nodes that were true of the tree that the
+    /// volume showed are true of the one that it shows then, and no node id leads to another row
+    /// than before: one that is gone stays gone. The journal goes on, and stays a legal run.
     ///
     /// # Errors
     ///
@@ -215,11 +249,13 @@ impl<F: FileStore + Drop> Mount<F> {
         out: &mut Vec<u8>,
     ) -> Result<(), AllocError>
         ensures answered { OnOk result (IsAnswered F.state F.is_settled self.old.sizes now
-            self.old.tree.nodes
+            self.old.tree.nodes self.new.tree.nodes
             others.now bytes.now out.old.items out.new.items self.old.tree.volume
             self.new.tree.volume
             self.old.beside self.new.beside) }
         ensures journal { GoesOn F.state self.old.tree.volume self.new.tree.volume }
+        ensures forgets { IsForgettingIn (header_in bytes.now) (said bytes.now)
+            self.old.tree.nodes self.new.tree.nodes }
         ensures stay { StayTrue F.state self.old.tree.volume self.old.tree.nodes
             self.new.tree.volume self.new.tree.nodes }
         ensures ids { IdsStay self.old.tree.nodes self.new.tree.nodes }

@@ -1,10 +1,12 @@
-//! Messages whose calls are known when they come: they are made in order, and what they show is told.
+//! Messages whose calls are known when they come: they are made in order, and what they show is
+//! told.
 
 ghost use Rattle.std.specs.Prelude.{◌≡◌, IfOk, IfErr};
 ghost use Rattle.lfs_fuse_wire.specs.Views.{view};
 ghost use Rattle.lfs_fuse_calls.specs.Telling.{SaysServed, named_in, seen_in};
 ghost use Rattle.lfs_nodes.specs.Staying.{IdsStay};
 ghost use Rattle.lfs_fuse_calls.specs.Paths.{IsPathError};
+ghost use Rattle.lfs_mount.specs.Entries.{NodesFollow};
 ghost use Rattle.lfs_mount.specs.Handled.{AreAskedAndMade, IsHandled, hangs_in};
 ghost use Rattle.lfs_mount.specs.Trees.{AreLedAndMade, LeavesNodes, StayTrue};
 
@@ -25,7 +27,8 @@ use lfs_types::store::FileStore;
 use std::alloc::Global;
 
 impl<F: FileStore + Drop> Tree<F> {
-    /// Makes the calls that a message asks for, of the path of a node or of the name that it tells in it.
+    /// Makes the calls that a message asks for, of the path of a node or of the name that it tells
+    /// in it.
     pub(crate) fn calls(
         &mut self,
         alloc: Global,
@@ -66,6 +69,8 @@ impl<F: FileStore + Drop> Tree<F> {
         ensures says { SaysServed cred.now (view message.now) answers.items result }
         ensures nodes { name ≡ named_in (view message.now) → LeavesNodes (view message.now) node
             (seen_in answers.items) self.old.nodes self.new.nodes }
+        ensures follows { name ≡ named_in (view message.now) → NodesFollow (view message.now) node
+            (seen_in answers.items) result self.old.nodes self.new.nodes }
         ensures ids { IdsStay self.old.nodes self.new.nodes }
         ensures volume { self.new.volume ≡ self.old.volume }
     {
@@ -86,7 +91,7 @@ impl<F: FileStore + Drop> Tree<F> {
             Message::Write(_, bytes) => {
                 Told::Written(written_by(bytes.len(), answers.as_slice()))
             }
-            Message::Opendir(_) => self.listings.open(answers),
+            Message::Opendir(_) => Told::Error(Errno::EIO),
             _ => Told::Error(Errno::EINVAL),
         }
     }
@@ -99,7 +104,7 @@ impl<F: FileStore + Drop> Tree<F> {
         message: &Message<'_>,
         cred: &Cred,
     ) -> Told
-        ensures told { IsHandled F.state F.is_settled cred.now (hangs_in self.old.nodes) node
+        ensures told { IsHandled F.state F.is_settled cred.now self.old.nodes self.new.nodes node
             (view message.now)
             result self.old.volume self.new.volume }
         ensures stay { StayTrue F.state self.old.volume self.old.nodes self.new.volume

@@ -1,4 +1,5 @@
-//! Messages whose calls depend on what a first call shows, and those that speak of two names or of none.
+//! Messages whose calls depend on what a first call shows, and those that speak of two names or of
+//! none.
 
 ghost use Rattle.std.specs.Prelude.{◌≡◌, ◌∷◌, [], ◌<◌, Some, IfOk, IfErr};
 ghost use Rattle.lfs_fuse_calls.specs.Paths.{IsPathError, LeadsToRow};
@@ -6,7 +7,20 @@ ghost use Rattle.lfs_fuse_calls.specs.Telling.{SaysOr, attr_told, refusal_in, se
 ghost use Rattle.lfs_nodes.specs.Maps.{room_in};
 ghost use Rattle.lfs_nodes.specs.Nodes.{known};
 ghost use Rattle.lfs_nodes.specs.Staying.{IdsStay};
-ghost use Rattle.lfs_mount.specs.Handled.{IsDone, IsGivenOrNot, IsReleased, IsRenamed, IsRenamedToFree, is_missing, IsSet, IsSetAttr, IsSetJudged, IsSynced, SaysDone, hangs_in};
+ghost use Rattle.lfs_mount.specs.Handled.{
+  IsDone,
+  IsGivenOrNot,
+  IsReleased,
+  IsRenamed,
+  IsRenamedToFree,
+  is_missing,
+  IsSet,
+  IsSetAttr,
+  IsSetJudged,
+  IsSynced,
+  SaysDone,
+  hangs_in,
+};
 ghost use Rattle.lfs_mount.specs.Making.{AreMade};
 ghost use Rattle.lfs_mount.specs.Trees.{MovesRow, StayTrue, UnlessRefused};
 
@@ -155,7 +169,8 @@ impl<F: FileStore + Drop> Tree<F> {
         }
     }
 
-    /// Sets attributes that are these at present, where the caller may set the times that are set with them.
+    /// Sets attributes that are these at present, where the caller may set the times that are set
+    /// with them.
     fn set_judged(
         &mut self,
         alloc: Global,

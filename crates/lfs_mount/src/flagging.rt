@@ -2,7 +2,13 @@
 
 ghost use Rattle.std.specs.Prelude.{◌≡◌, ◌+◌, ◌≤◌, IfSome};
 ghost use Rattle.lfs_mount.specs.Flags.{flags_shown, flags_wanted, has, number_if, user_flags};
-ghost use Rattle.lfs_mount.specs.Handled.{GoesOnFlags, IsFlagged, IsFlagsSet, SaysFlagged, hangs_in};
+ghost use Rattle.lfs_mount.specs.Handled.{
+  GoesOnFlags,
+  IsFlagged,
+  IsFlagsSet,
+  SaysFlagged,
+  hangs_in,
+};
 
 use crate::tree::Tree;
 use lfs_fuse_calls::paths::path_of;
@@ -58,7 +64,8 @@ fn user_flags(bits: u32) -> u32
     number_if(has(bits, 0x40), 1) + number_if(has(bits, 0x10), 2) + number_if(has(bits, 0x20), 4)
 }
 
-/// The flags that a file has, with the user's flags as bits of FS_IOC_SETFLAGS ask; none where other bits are set.
+/// The flags that a file has, with the user's flags as bits of FS_IOC_SETFLAGS ask; none where
+/// other bits are set.
 fn flags_wanted(present: FileFlags, bits: u32) -> Option<FileFlags>
     ensures { IfSome result (λ flags. flags ≡ flags_wanted present bits) }
 {

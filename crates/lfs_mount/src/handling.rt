@@ -1,20 +1,35 @@
 //! What a message comes to.
 
-ghost use Rattle.std.specs.Prelude.{◌≡◌};
+ghost use Rattle.std.specs.Prelude.{◌≡◌, ◌/◌, length};
 ghost use Rattle.lfs_fuse_wire.specs.Views.{view};
 ghost use Rattle.lfs_model.specs.World.{Rows};
 ghost use Rattle.lfs_nodes.specs.Nodes.{AreNodes, known};
 ghost use Rattle.lfs_nodes.specs.Staying.{IdsStay};
-ghost use Rattle.lfs_mount.specs.Handled.{IsHandled, IsMade, IsRename, IsRenamed, IsRenamedToFree, IsTold, error_of_unserved, hangs_in};
+ghost use Rattle.lfs_mount.specs.Forgetting.{AreForgotten, IsForgetting, IsOneForgotten};
+ghost use Rattle.lfs_mount.specs.Handled.{
+  IsDirectoryOpened,
+  IsHandled,
+  IsMade,
+  IsRename,
+  IsRenamed,
+  IsRenamedToFree,
+  IsTold,
+  error_of_unserved,
+  hangs_in,
+};
+ghost use Rattle.lfs_mount.specs.Listing.{AreListed};
 ghost use Rattle.lfs_mount.specs.Trees.{StayTrue};
 
 use crate::changing::Spot;
+use crate::listing::Listings;
 use crate::mount::Sizes;
 use crate::room::{init_reply, room};
 use crate::tree::Tree;
+use lfs_fuse_calls::telling::refusal_in;
 use lfs_fuse_calls::told::Told;
 use lfs_fuse_reply::errno::Errno;
-use lfs_fuse_wire::forgetting::Forgets;
+use lfs_fuse_wire::forgetting::{Forgets, NodeForget};
+use lfs_fuse_wire::handles::Open;
 use lfs_fuse_wire::kind::FileKind;
 use lfs_fuse_wire::message::Message;
 use lfs_fuse_wire::naming::RenameMode;
@@ -25,8 +40,8 @@ use lfs_types::mode::Mode;
 use lfs_types::store::FileStore;
 use std::alloc::Global;
 
-/// What is told of a message of which nothing but the kind is read: there are no links, attributes beside the usual
-/// ones or locks here.
+/// What is told of a message of which nothing but the kind is read: there are no links, attributes
+/// beside the usual ones or locks here.
 fn error_of_unserved(kind: Unserved) -> Errno
     ensures { result ≡ error_of_unserved kind }
 {
@@ -38,16 +53,29 @@ fn error_of_unserved(kind: Unserved) -> Errno
     }
 }
 
+#[tactic(auto, using(crate::proofs::ForgettingLemmas::forgotten_none, crate::proofs::ForgettingLemmas::forgotten_more))]
 /// The kernel forgets the nodes of a batch.
 fn forget_all(nodes: &mut Nodes, forgets: &Forgets<'_>)
+    ensures forgotten { AreForgotten forgets.now.bytes.now (length forgets.now.bytes.now / 16)
+        nodes.old nodes.new }
     ensures nodes { (rows : Rows) → AreNodes rows (known nodes.old)
         → AreNodes rows (known nodes.new) }
     ensures ids { IdsStay nodes.old nodes.new }
 {
     for index in 0..forgets.len() {
-        if let Some(forget) = forgets.get(index) {
-            nodes.forget(NodeId(forget.node), forget.lookups);
-        }
+        forget_one(nodes, forgets.get(index));
+    }
+}
+
+/// The kernel forgets look-ups of one node of a batch, if there is one.
+fn forget_one(nodes: &mut Nodes, one: Option<NodeForget>)
+    ensures forgotten { IsOneForgotten one nodes.old nodes.new }
+    ensures nodes { (rows : Rows) → AreNodes rows (known nodes.old)
+        → AreNodes rows (known nodes.new) }
+    ensures ids { IdsStay nodes.old nodes.new }
+{
+    if let Some(one) = one {
+        nodes.forget(NodeId(one.node), one.lookups);
     }
 }
 
@@ -90,7 +118,7 @@ impl<F: FileStore + Drop> Tree<F> {
         cred: &Cred,
     ) -> Told
         ensures told { IsMade kind (IsHandled F.state F.is_settled cred.now
-            (hangs_in self.old.nodes) node (view message.now)
+            self.old.nodes self.new.nodes node (view message.now)
             result self.old.volume self.new.volume) result self.old.volume self.new.volume }
         ensures stay { StayTrue F.state self.old.volume self.old.nodes self.new.volume
             self.new.nodes }
@@ -102,19 +130,46 @@ impl<F: FileStore + Drop> Tree<F> {
         }
     }
 
+    /// Opens a directory: its names are asked for, and kept by the handle that is told.
+    fn directory_opened(
+        &mut self,
+        alloc: Global,
+        listings: &mut Listings,
+        node: u64,
+        fields: &Open,
+        cred: &Cred,
+    ) -> Told
+        ensures told { IsDirectoryOpened F.state F.is_settled cred.now (hangs_in self.old.nodes)
+            node fields.now listings.old listings.new result self.old.volume self.new.volume }
+        ensures nodes { self.new.nodes ≡ self.old.nodes }
+    {
+        let message = Message::Opendir(*fields);
+        let answers = match self.calls(alloc, node, &message, cred) {
+            Ok(answers) => answers,
+            Err(errno) => return Told::Error(errno),
+        };
+        match refusal_in(answers.as_slice()) {
+            Some(errno) => Told::Error(errno),
+            None => listings.open(answers),
+        }
+    }
+
     /// What a message comes to.
     pub(crate) fn told(
         &mut self,
         alloc: Global,
+        listings: &mut Listings,
         sizes: Sizes,
         due: Option<Mode>,
         node: u64,
         message: &Message<'_>,
         cred: &Cred,
     ) -> Told
-        ensures told { IsTold F.state F.is_settled sizes due cred.now (hangs_in self.old.nodes) node
-            (view message.now)
+        ensures told { IsTold F.state F.is_settled sizes due cred.now self.old.nodes self.new.nodes
+            listings.old listings.new node (view message.now)
             result self.old.volume self.new.volume }
+        ensures listed { AreListed (view message.now) listings.old listings.new }
+        ensures forgets { IsForgetting (view message.now) node self.old.nodes self.new.nodes }
         ensures stay { StayTrue F.state self.old.volume self.old.nodes self.new.volume
             self.new.nodes }
         ensures ids { IdsStay self.old.nodes self.new.nodes }
@@ -129,8 +184,10 @@ impl<F: FileStore + Drop> Tree<F> {
             | Message::Rmdir(_)
             | Message::Open(_)
             | Message::Read(_)
-            | Message::Write(_, _)
-            | Message::Opendir(_) => self.once(alloc, node, message, cred),
+            | Message::Write(_, _) => self.once(alloc, node, message, cred),
+            Message::Opendir(fields) => {
+                self.directory_opened(alloc, listings, node, fields, cred)
+            }
             Message::Mknod(fields, _) => self.make_node(alloc, node, fields.kind, message, cred),
             Message::SetAttr(fields) => self.set_attr(alloc, node, fields, cred),
             Message::Ioctl(fields) => self.flagged(alloc, node, fields, cred),
@@ -145,7 +202,7 @@ impl<F: FileStore + Drop> Tree<F> {
             Message::Fsync(_) | Message::Fsyncdir(_) => self.synced(alloc, cred),
             Message::Init(init) => Told::Init(init_reply(init)),
             Message::Statfs => Told::Statfs(room(self.volume.store(), sizes)),
-            Message::Readdir(wanted) => self.listings.told(alloc, wanted),
+            Message::Readdir(wanted) => listings.told(alloc, wanted),
             Message::Readdirplus(_) | Message::Unknown(_) => Told::Error(Errno::ENOSYS),
             Message::Unserved(kind) => Told::Error(error_of_unserved(*kind)),
             Message::Forget(fields) => {
@@ -157,7 +214,7 @@ impl<F: FileStore + Drop> Tree<F> {
                 Told::Done
             }
             Message::Releasedir(fields) => {
-                self.listings.close(fields.handle);
+                listings.close(fields.handle);
                 Told::Done
             }
             Message::Release(_) => self.released(alloc, node, due, cred),

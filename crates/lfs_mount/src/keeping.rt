@@ -12,13 +12,14 @@ use lfs_types::store::FileStore;
 use std::alloc::{AllocError, Global};
 
 impl<F: FileStore + Drop> Mount<F> {
-    /// Writes what waits in the store, by a Sync of the superuser as session 0, and says whether nothing waits any
-    /// more. Where the journal has no room for its entry, the entries are let go before. The tree and the securelevel
-    /// stay, and what is beside the volume.
+    /// Writes what waits in the store, by a Sync of the superuser as session 0, and says whether
+    /// nothing waits any more. Where the journal has no room for its entry, the entries are let go
+    /// before. The tree and the securelevel stay, and what is beside the volume.
     ///
     /// # Errors
     ///
-    /// Memory ran out for the room of a journal, which is asked for only where the journal is full. Nothing changed.
+    /// Memory ran out for the room of a journal, which is asked for only where the journal is full.
+    /// Nothing changed.
     pub fn settle(&mut self, alloc: Global) -> Result<bool, AllocError>
         ensures settled { IfOk result (λ done. IsTrue done
             → F.is_settled self.new.tree.volume.store) }

@@ -1,4 +1,5 @@
-//! What the nodes of a mount are true of between messages, and what comes of messages to nodes that are gone.
+//! What the nodes of a mount are true of between messages, and what comes of messages to nodes that
+//! are gone.
 
 ghost use Rattle.std.specs.Prelude.{◌≡◌, ℕ, List, Option, Some};
 ghost use Rattle.lfs_types.specs.Caller.{Caller};
@@ -11,7 +12,14 @@ ghost use Rattle.lfs_fuse_wire.specs.Said.{Said};
 ghost use Rattle.lfs_fuse_wire.specs.declared.attributes.SetAttr.{SetAttr};
 ghost use Rattle.lfs_fuse_wire.specs.declared.ioctl.Ioctl.{Ioctl};
 ghost use Rattle.lfs_fuse_calls.specs.declared.told.Told.{Told};
-ghost use Rattle.lfs_mount.specs.Handled.{IsFlagged, IsHandled, IsRefused, IsRenamed, IsSetAttr};
+ghost use Rattle.lfs_mount.specs.Handled.{
+  IsFlagged,
+  IsHandled,
+  IsRefused,
+  IsRenamed,
+  IsSetAttr,
+  hangs_in,
+};
 ghost use Rattle.lfs_mount.specs.Runs.{GoesOn, IsRun};
 ghost use Rattle.lfs_mount.specs.Tending.{let_go};
 ghost use Rattle.lfs_mount.specs.Trees.{StayTrue};
@@ -19,8 +27,9 @@ ghost use Rattle.lfs_mount.specs.Trees.{StayTrue};
 use crate::mount::Mount;
 use lfs_types::store::FileStore;
 
-/// Nodes stay true of the tree that a volume shows where no content changes and its journal goes on, where its entries
-/// are let go, and where the tree is shown still that its journal led to. It does nothing.
+/// Nodes stay true of the tree that a volume shows where no content changes and its journal goes
+/// on, where its entries are let go, and where the tree is shown still that its journal led to. It
+/// does nothing.
 pub fn stay_true<F: FileStore + Drop>(_mount: &Mount<F>)
     ensures tended { (old new : Seen F) (nodes : Parts) → IsRun F.state old → IsRun F.state new
         → (F.state new.store).content ≡ (F.state old.store).content → GoesOn F.state old new
@@ -34,12 +43,12 @@ pub fn stay_true<F: FileStore + Drop>(_mount: &Mount<F>)
         → StayTrue F.state old nodes new nodes }
 {}
 
-/// A message to a node that is gone makes no call, and is told an error, where nothing that is kept answers it. It does
-/// nothing.
+/// A message to a node that is gone makes no call, and is told an error, where nothing that is kept
+/// answers it. It does nothing.
 pub fn gone_is_refused<F: FileStore + Drop>(_mount: &Mount<F>)
-    ensures handled { (caller : Caller) (hangs : ℕ → Option Hang) (node : ℕ) (message : Said)
-        (reply : Told) (old new : Seen F) → hangs node ≡ Some Gone
-        → IsHandled F.state F.is_settled caller hangs node message reply old new
+    ensures handled { (caller : Caller) (nodes nodes_after : Parts) (node : ℕ) (message : Said)
+        (reply : Told) (old new : Seen F) → hangs_in nodes node ≡ Some Gone
+        → IsHandled F.state F.is_settled caller nodes nodes_after node message reply old new
         → IsRefused reply old new }
     ensures set { (caller : Caller) (hangs : ℕ → Option Hang) (node : ℕ) (fields : SetAttr)
         (reply : Told) (old new : Seen F) → hangs node ≡ Some Gone

@@ -1,13 +1,43 @@
 //! The last look at a file that is open, before a message takes it from its place.
 
-ghost use Rattle.std.specs.Prelude.{◌≡◌, ◌≢◌, ℕ, ◌-◌, None, IfErr, IfOk, IfSome, false, slice_index_or};
+ghost use Rattle.std.specs.Prelude.{
+  ◌≡◌,
+  ◌≢◌,
+  ℕ,
+  ◌-◌,
+  None,
+  IfErr,
+  IfOk,
+  IfSome,
+  false,
+  slice_index_or,
+};
 ghost use Rattle.lfs_volume.specs.Journals.{AtPresent};
 ghost use Rattle.lfs_fuse_wire.specs.Views.{view};
 ghost use Rattle.lfs_nodes.specs.Maps.{same_place};
 ghost use Rattle.lfs_nodes.specs.Nodes.{known, place_at};
 ghost use Rattle.lfs_nodes.specs.Reads.{hang_in};
 ghost use Rattle.lfs_opens.specs.Rewritten.{bytes_kept};
-ghost use Rattle.lfs_mount.specs.Leaving.{ArePrepared, ArePreparedFor, IsAnswerOf, IsLastLook, IsLastMiss, IsLeaving, IsLooked, IsPiece, IsPrepared, IsReadBy, IsSeenIn, IsSightOr, IsUnseen, IsUnseenIn, NoneLeaves, is_taken, taken_at, unlinked};
+ghost use Rattle.lfs_mount.specs.Leaving.{
+  ArePrepared,
+  ArePreparedFor,
+  IsAnswerOf,
+  IsLastLook,
+  IsLastMiss,
+  IsLeaving,
+  IsLooked,
+  IsPiece,
+  IsPrepared,
+  IsReadBy,
+  IsSeenIn,
+  IsSightOr,
+  IsUnseen,
+  IsUnseenIn,
+  NoneLeaves,
+  is_taken,
+  taken_at,
+  unlinked,
+};
 
 use crate::mount::Mount;
 use crate::sight::Sight;
@@ -103,7 +133,8 @@ fn served_bytes(answer: Answer) -> Result<Bytes, Lack>
 }
 
 #[tactic(auto, using(crate::proofs::LookedForLemmas::piece_lacks))]
-/// At most 4,096 bytes of a file from a place on, if this caller may read it now, or why there are none.
+/// At most 4,096 bytes of a file from a place on, if this caller may read it now, or why there are
+/// none.
 fn piece_at<F: FileStore + Drop>(
     volume: &mut Volume<F>,
     cred: &Cred,
@@ -119,8 +150,8 @@ fn piece_at<F: FileStore + Drop>(
     served_bytes(volume.show(cred, path, off, PIECE as u32))
 }
 
-/// All bytes of a file, as this caller may read them now; or why none are shown: he may not, or there are more than so
-/// many.
+/// All bytes of a file, as this caller may read them now; or why none are shown: he may not, or
+/// there are more than so many.
 fn all_shown<F: FileStore + Drop>(
     alloc: Global,
     volume: &mut Volume<F>,
@@ -171,7 +202,8 @@ fn last_look<F: FileStore + Drop>(
     }
 }
 
-/// Looks at a node's file as who opened it in a slot, if it is open there, and keeps what he sees, or why he sees nothing.
+/// Looks at a node's file as who opened it in a slot, if it is open there, and keeps what he sees,
+/// or why he sees nothing.
 fn look_for<F: FileStore + Drop>(
     alloc: Global,
     volume: &mut Volume<F>,
@@ -237,7 +269,8 @@ impl<F: FileStore + Drop> Mount<F> {
     }
 
     #[tactic(auto, using(crate::proofs::LookedForLemmas::last_prepared))]
-    /// Takes the last look at a file that is open and that a message is about to take from its place, and gives its node.
+    /// Takes the last look at a file that is open and that a message is about to take from its
+    /// place, and gives its node.
     pub(crate) fn prepare(&mut self, alloc: Global, node: u64, message: &Message<'_>) -> Option<u64>
         ensures leaves { IfSome result
             (IsLeaving self.old.tree.nodes node (view message.now)) }
@@ -251,6 +284,7 @@ impl<F: FileStore + Drop> Mount<F> {
         ensures nodes { self.new.tree.nodes ≡ self.old.tree.nodes }
         ensures times { self.new.beside.times ≡ self.old.beside.times }
         ensures loans { self.new.beside.loans ≡ self.old.beside.loans }
+        ensures listings { self.new.beside.listings ≡ self.old.beside.listings }
         ensures sizes { self.new.sizes ≡ self.old.sizes }
     {
         let id = leaving(&self.tree.nodes, &self.beside.opens, node, message)?;

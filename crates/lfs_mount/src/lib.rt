@@ -1,5 +1,5 @@
-//! A mount: a message of the kernel as calls on a volume, made as the caller of its header and of no other, and their
-//! answers as one reply.
+//! A mount: a message of the kernel as calls on a volume, made as the caller of its header and of
+//! no other, and their answers as one reply.
 #![tactic(auto)]
 
 mod answering;

@@ -15,8 +15,9 @@ use std::alloc::Global;
 /// The session of each call.
 const SESSION: u8 = 0;
 
-/// Makes calls as this caller, one after another, up to the first that isn't served in full, and gives their answers. Room for
-/// these is asked for before the first call, and without it none is made.
+/// Makes calls as this caller, one after another, up to the first that isn't served in full, and
+/// gives their answers. Room for these is asked for before the first call, and without it none is
+/// made.
 pub(crate) fn make<F: FileStore + Drop>(
     alloc: Global,
     volume: &mut Volume<F>,

@@ -24,12 +24,14 @@ pub struct Sizes {
     pub inodes: u32,
 }
 
-/// What a mount keeps of files beside its volume: by inode number, and of those that are open.
+/// What a mount keeps of files beside its volume: by inode number, and of those and the directories
+/// that are open.
 #[derive(Drop)]
 pub struct Beside {
     pub(crate) times: Times,
     pub(crate) loans: Loans,
     pub(crate) opens: Opens,
+    pub(crate) listings: Listings,
 }
 
 /// A volume, the nodes by which the kernel calls its files, and what is kept of these beside it.
@@ -41,8 +43,8 @@ pub struct Mount<F: FileStore + Drop> {
 }
 
 impl<F: FileStore + Drop> Mount<F> {
-    /// A mount of a volume, of which the kernel knows the root alone. Each file has the present time. Its nodes are
-    /// true of the tree that the volume shows.
+    /// A mount of a volume, of which the kernel knows the root alone. Each file has the present
+    /// time. Its nodes are true of the tree that the volume shows.
     pub fn new(
         alloc: Global,
         volume: Volume<F>,
@@ -59,13 +61,10 @@ impl<F: FileStore + Drop> Mount<F> {
             times: Times::new(alloc, sizes.inodes, now)?,
             loans: Loans::new(alloc, sizes.inodes)?,
             opens: Opens::new(alloc)?,
-        };
-        let nodes = Nodes::new(alloc)?;
-        let tree = Tree {
-            volume,
-            nodes,
             listings: Listings::new(alloc),
         };
+        let nodes = Nodes::new(alloc)?;
+        let tree = Tree { volume, nodes };
         Ok(Mount {
             tree,
             beside,

@@ -1,10 +1,13 @@
 //! Nodes of entries that were found, made, moved or removed.
 
-ghost use Rattle.std.specs.Prelude.{◌≡◌, Some, IfOk, IfErr};
+ghost use Rattle.std.specs.Prelude.{◌≡◌, ℕ, Some, IfErr, IfOk, IfSome, OnErr};
 ghost use Rattle.lfs_fuse_calls.specs.Attrs.{attr_of};
 ghost use Rattle.lfs_fuse_calls.specs.Telling.{TellsEntry, TellsCreated};
+ghost use Rattle.lfs_nodes.specs.LookUps.{IsLookUpFault, IsLookedUp};
+ghost use Rattle.lfs_nodes.specs.Nodes.{known, place_at};
 ghost use Rattle.lfs_nodes.specs.Staying.{IdsStay};
-ghost use Rattle.lfs_mount.specs.Handled.{IsNodeFault};
+ghost use Rattle.lfs_nodes.specs.declared.parts.Parts.{Parts};
+ghost use Rattle.lfs_mount.specs.Entries.{IsNodeFault, LosesNode, NamesSeen};
 ghost use Rattle.lfs_mount.specs.Trees.{FindsRow, LosesRow};
 
 use crate::tree::Tree;
@@ -20,7 +23,8 @@ use std::alloc::Global;
 
 /// The error of a look-up that is given no node.
 fn error_of(fault: LookUpFault) -> Errno
-    ensures { IsNodeFault result }
+    ensures { (nodes : Parts) (directory : ℕ) → IsLookUpFault nodes directory fault
+        → IsNodeFault nodes directory result }
 {
     match fault {
         LookUpFault::Stale => Errno::ESTALE,
@@ -35,18 +39,20 @@ impl<F: FileStore + Drop> Tree<F> {
         &mut self,
         alloc: Global,
         directory: u64,
-        name: Option<Name>,
+        name: Name,
         seen: &Seen,
     ) -> Result<Entry, Errno>
         ensures entry { IfOk result (λ entry. entry.attr ≡ attr_of seen.now.number seen.now.attrs) }
-        ensures fault { IfErr result IsNodeFault }
-        ensures nodes { FindsRow name (Some seen.now) directory self.old.nodes self.new.nodes }
+        ensures named { IfOk result (λ entry. IsLookedUp self.old.nodes (place_at directory name)
+            seen.now.number entry.node self.new.nodes) }
+        ensures fault { IfErr result (IsNodeFault self.old.nodes directory) }
+        ensures failed { OnErr result ((q : ℕ)
+            → known self.new.nodes q ≡ known self.old.nodes q) }
+        ensures nodes { FindsRow (Some name) (Some seen.now) directory
+            self.old.nodes self.new.nodes }
         ensures ids { IdsStay self.old.nodes self.new.nodes }
         ensures volume { self.new.volume ≡ self.old.volume }
     {
-        let Some(name) = name else {
-            return Err(Errno::EIO);
-        };
         match self
             .nodes
             .look_up(alloc, NodeId(directory), name, seen.number)
@@ -69,11 +75,16 @@ impl<F: FileStore + Drop> Tree<F> {
         seen: Option<Seen>,
     ) -> Told
         ensures told { TellsEntry seen result }
+        ensures named { IfSome name (λ name. NamesSeen directory name seen result
+            self.old.nodes self.new.nodes) }
         ensures nodes { FindsRow name seen directory self.old.nodes self.new.nodes }
         ensures ids { IdsStay self.old.nodes self.new.nodes }
         ensures volume { self.new.volume ≡ self.old.volume }
     {
         let Some(seen) = seen else {
+            return Told::Error(Errno::EIO);
+        };
+        let Some(name) = name else {
             return Told::Error(Errno::EIO);
         };
         match self.entry(alloc, directory, name, &seen) {
@@ -91,11 +102,16 @@ impl<F: FileStore + Drop> Tree<F> {
         seen: Option<Seen>,
     ) -> Told
         ensures told { TellsCreated seen result }
+        ensures named { IfSome name (λ name. NamesSeen directory name seen result
+            self.old.nodes self.new.nodes) }
         ensures nodes { FindsRow name seen directory self.old.nodes self.new.nodes }
         ensures ids { IdsStay self.old.nodes self.new.nodes }
         ensures volume { self.new.volume ≡ self.old.volume }
     {
         let Some(seen) = seen else {
+            return Told::Error(Errno::EIO);
+        };
+        let Some(name) = name else {
             return Told::Error(Errno::EIO);
         };
         match self.entry(alloc, directory, name, &seen) {
@@ -104,9 +120,12 @@ impl<F: FileStore + Drop> Tree<F> {
         }
     }
 
+    #[tactic(auto, using(crate::proofs::EntryLemmas::lost_known))]
     /// A file or a directory was removed: its node is gone.
     pub(crate) fn removed_told(&mut self, directory: u64, name: Option<Name>) -> Told
         ensures told { result ≡ Told.Done }
+        ensures gone { IfSome name (λ name. LosesNode directory name
+            self.old.nodes self.new.nodes) }
         ensures nodes { LosesRow name directory self.old.nodes self.new.nodes }
         ensures ids { IdsStay self.old.nodes self.new.nodes }
         ensures volume { self.new.volume ≡ self.old.volume }

@@ -1,7 +1,14 @@
 //! What the kernel is told of the mount itself.
 
 ghost use Rattle.std.specs.Prelude.{◌≡◌};
-ghost use Rattle.lfs_mount.specs.Room.{blocks_of, one_used, room_of, taken_below, used_below};
+ghost use Rattle.lfs_mount.specs.Room.{
+  blocks_of,
+  init_told,
+  one_used,
+  room_of,
+  taken_below,
+  used_below,
+};
 
 use crate::mount::Sizes;
 use lfs_fuse_calls::attr::attr;
@@ -11,15 +18,17 @@ use lfs_opens::rewriting::MAX_WRITE;
 use lfs_types::attrs::Attrs;
 use lfs_types::store::FileStore;
 
-/// What is taken up of the kernel's offer: larger writes, O_TRUNC in OPEN, control calls of directories, set-id bits
-/// as the volume's matter, messages of 32 pages, mmap beside direct I/O.
+/// What is taken up of the kernel's offer: larger writes, O_TRUNC in OPEN, control calls of
+/// directories, set-id bits as the volume's matter, messages of 32 pages, mmap beside direct I/O.
 const WANTED: u64 = 0x10_4048_0828;
 
 /// The blocks of the last two segments, which are for what gives blocks back.
 const KEPT_BACK: u64 = 128;
 
 /// What the kernel is told at the beginning.
-pub(crate) fn init_reply(init: &Init) -> InitReply {
+pub(crate) fn init_reply(init: &Init) -> InitReply
+    ensures { result ≡ init_told init.now }
+{
     InitReply {
         major: 7,
         minor: 38,
@@ -75,8 +84,8 @@ fn used<F: FileStore>(store: &F, numbers: u32) -> u64
     count
 }
 
-/// The room of a volume that was laid out so: a segment has 64 blocks of 512 bytes. Free are those of the clean
-/// segments, or those that no file's bytes take, whichever are more.
+/// The room of a volume that was laid out so: a segment has 64 blocks of 512 bytes. Free are those
+/// of the clean segments, or those that no file's bytes take, whichever are more.
 pub(crate) fn room<F: FileStore>(store: &F, sizes: Sizes) -> Statfs
     ensures { result ≡ room_of sizes (F.state store.now) }
 {

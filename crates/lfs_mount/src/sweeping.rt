@@ -38,7 +38,8 @@ fn is_dead(bytes: &[u8], segment: u32) -> bool {
 
 impl<F: CleanedStore + Drop> Mount<F> {
     #[tactic(auto, using(crate::proofs::TendingLemmas::cleaned_goes, crate::proofs::TendingLemmas::goes_on_none))]
-    /// Makes a segment clean that has no live bytes, by an ifile's bytes. Whether it was asked for. No file changes.
+    /// Makes a segment clean that has no live bytes, by an ifile's bytes. Whether it was asked for.
+    /// No file changes.
     fn reclaim(&mut self, bytes: &[u8], segment: u32) -> bool
         ensures content { (F.state self.new.tree.volume.store).content
             ≡ (F.state self.old.tree.volume.store).content }
@@ -86,7 +87,8 @@ impl<F: CleanedStore + Drop> Mount<F> {
     }
 
     #[tactic(auto, using(crate::proofs::TendingLemmas::goes_on_none))]
-    /// Makes a pass of the cleaner where few segments are clean. Whether more are clean then. No file changes.
+    /// Makes a pass of the cleaner where few segments are clean. Whether more are clean then. No
+    /// file changes.
     fn gain(&mut self) -> bool
         ensures content { (F.state self.new.tree.volume.store).content
             ≡ (F.state self.old.tree.volume.store).content }
@@ -105,8 +107,8 @@ impl<F: CleanedStore + Drop> Mount<F> {
     }
 
     #[tactic(auto, using(crate::proofs::TendingLemmas::goes_on_again))]
-    /// Has the cleaner look for room: first dead segments become clean, then a pass is made, and another one where
-    /// that gained room and few are clean still. No file changes.
+    /// Has the cleaner look for room: first dead segments become clean, then a pass is made, and
+    /// another one where that gained room and few are clean still. No file changes.
     pub(crate) fn find_room(&mut self)
         ensures content { (F.state self.new.tree.volume.store).content
             ≡ (F.state self.old.tree.volume.store).content }

@@ -1,10 +1,10 @@
 //! What is done between messages: room for entries is made, and the cleaner passes.
 
-ghost use Rattle.std.specs.Prelude.{◌≡◌, ◌≤◌, [], if◌then◌else◌, IfOk, OnErr};
+ghost use Rattle.std.specs.Prelude.{◌≡◌, ◌≤◌, [], if◌then◌else◌, IfOk, OnErr, OnOk};
 ghost use Rattle.std.specs.Vec.{vec_capacity};
 ghost use Rattle.lfs_volume.specs.Journals.{AtPresent, Begins};
 ghost use Rattle.lfs_mount.specs.Runs.{GoesOn, IsRun, LeadTo};
-ghost use Rattle.lfs_mount.specs.Tending.{closed, let_go};
+ghost use Rattle.lfs_mount.specs.Tending.{HasRoomFor, closed, let_go};
 
 use crate::mount::Mount;
 use crate::sweeping::few_of;
@@ -32,8 +32,8 @@ impl<F: FileStore + Drop> Mount<F> {
         self.tree.volume.clean_segments()
     }
 
-    /// The entries of the journal, since they were let go last: a legal run from the tree that was shown then to the one
-    /// that is shown now.
+    /// The entries of the journal, since they were let go last: a legal run from the tree that was
+    /// shown then to the one that is shown now.
     pub fn journal(&self) -> &[Entry]
         ensures entries { result.now ≡ self.now.tree.volume.journal }
         ensures legal { IsRun F.state self.now.tree.volume }
@@ -58,8 +58,9 @@ impl<F: FileStore + Drop> Mount<F> {
         self.tree.volume.close_journal();
     }
 
-    /// Hands the entries of the journal out, which goes on without them from the present tree, with the room that is handed
-    /// in. They are a legal run from where their journal began to the tree that store and level show.
+    /// Hands the entries of the journal out, which goes on without them from the present tree, with
+    /// the room that is handed in. They are a legal run from where their journal began to the tree
+    /// that store and level show.
     pub fn hand_out(&mut self, room: Vec<Entry>) -> Vec<Entry>
         requires empty { room.items ≡ [] }
         requires room { self.old.tree.volume.limit ≤ vec_capacity room }
@@ -75,7 +76,8 @@ impl<F: FileStore + Drop> Mount<F> {
         self.tree.volume.drain(room)
     }
 
-    /// Lets the entries of the journal go, where there is room for fewer than 512 more. Whether it did.
+    /// Lets the entries of the journal go, where there is room for fewer than 512 more. Whether it
+    /// did.
     ///
     /// # Errors
     ///
@@ -83,6 +85,7 @@ impl<F: FileStore + Drop> Mount<F> {
     pub fn make_room(&mut self, alloc: Global) -> Result<bool, AllocError>
         ensures let_go { IfOk result (λ did. self.new.tree.volume
             ≡ (if did then let_go self.old.tree.volume else self.old.tree.volume)) }
+        ensures room { OnOk result (HasRoomFor 512 self.new.tree.volume) }
         ensures failed { OnErr result (self.new.tree.volume ≡ self.old.tree.volume) }
         ensures nodes { self.new.tree.nodes ≡ self.old.tree.nodes }
         ensures beside { self.new.beside ≡ self.old.beside }
@@ -91,10 +94,12 @@ impl<F: FileStore + Drop> Mount<F> {
         self.make_room_for(alloc, ROOM)
     }
 
-    /// The same, where there is room for fewer than so many. Store and level show the tree that the journal led to.
+    /// The same, where there is room for fewer than so many. Store and level show the tree that the
+    /// journal led to.
     pub(crate) fn make_room_for(&mut self, alloc: Global, wanted: usize) -> Result<bool, AllocError>
         ensures let_go { IfOk result (λ did. self.new.tree.volume
             ≡ (if did then let_go self.old.tree.volume else self.old.tree.volume)) }
+        ensures room { OnOk result (HasRoomFor wanted self.new.tree.volume) }
         ensures shown { AtPresent F.state self.old.tree.volume
             (Begins (F.state self.old.tree.volume.store) self.old.tree.volume.level) }
         ensures failed { OnErr result (self.new.tree.volume ≡ self.old.tree.volume) }
@@ -134,8 +139,8 @@ impl<F: CleanedStore + Drop> Mount<F> {
     }
 
     #[tactic(auto, using(crate::proofs::TendingLemmas::goes_on_none))]
-    /// Has the cleaner look for room where fewer than three segments are clean, so that room that was given back is
-    /// found, or few and more than that before. No file changes.
+    /// Has the cleaner look for room where fewer than three segments are clean, so that room that
+    /// was given back is found, or few and more than that before. No file changes.
     pub fn tend(&mut self, before: u32)
         ensures content { (F.state self.new.tree.volume.store).content
             ≡ (F.state self.old.tree.volume.store).content }

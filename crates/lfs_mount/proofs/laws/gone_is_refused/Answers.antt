@@ -2,8 +2,8 @@ use Rattle.lfs_mount.proofs.GoneLemmas.{gone_flagged, gone_handled, gone_renamed
 use Rattle.lfs_mount.proofs.laws.gone_is_refused.Goals as goal
 
 pub returns-clause-handled : goal.returns-clause-handled
-returns-clause-handled g c caller hangs node message reply old new gone h =
-    gone_handled g.F.FileStore.state g.F.FileStore.is_settled caller hangs node message reply old new gone h
+returns-clause-handled g c caller nodes nodes_after node message reply old new gone h =
+    gone_handled g.F.FileStore.state g.F.FileStore.is_settled caller nodes nodes_after node message reply old new gone h
 
 pub returns-clause-set : goal.returns-clause-set
 returns-clause-set g c caller hangs node fields reply old new gone h =

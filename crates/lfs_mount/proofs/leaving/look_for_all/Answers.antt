@@ -1,4 +1,4 @@
-use Rattle.std.proofs.Common.{◌≡◌, ℕ, ◌-◌, ◌≤◌, length, None, ◌∙◌, arith}
+use Rattle.std.proofs.Common.{◌-◌, ◌≤◌, length, None, ◌∙◌, arith}
 use Rattle.std.specs.Prelude.{slice_index_or}
 use Rattle.lfs_opens.specs.Rewritten.{bytes_kept}
 use Rattle.lfs_mount.specs.Leaving.{IsSeenIn, IsUnseenIn}

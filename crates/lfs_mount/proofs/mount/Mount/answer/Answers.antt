@@ -14,6 +14,7 @@ returns-clause-answered g c =
     let sizes = c.args.self.now.sizes in
     let now = c.args.now in
     let nodes = c.args.self.now.tree.nodes in
+    let nodes_after = c.heard-told.new.self.tree.nodes in
     let others = c.args.others.now in
     let bytes = c.args.bytes.now in
     let header = c.in-Some.header in
@@ -24,15 +25,15 @@ returns-clause-answered g c =
     let after = c.heard-told.new.self.beside in
     let who = c.caller-cred.result in
     let found : header_in bytes ≡ Some header = sym c.decode.ensures ∙ c.in-Some.is in
-    subst (λ h. IsAnsweredOf state settled sizes now nodes others h
+    subst (λ h. IsAnsweredOf state settled sizes now nodes nodes_after others h
     (said bytes) c.args.out.now.items c.append_if.new.out.items old new before after) (sym found) (record {
       reply = heard.0;
       wanted = heard.1;
-      heard = subst (λ (who : Caller). IsHeard state settled sizes now who nodes header.node
+      heard = subst (λ (who : Caller). IsHeard state settled sizes now who nodes nodes_after header.node
           (said bytes) heard.0 heard.1 old new before after) c.caller-cred.ensures c.heard-told.ensures.heard;
       keeps = subst (λ (w : Caller). IfSome (said bytes) (λ m. AreStillKept now w nodes header.node m heard.0
           before.opens.files.items after.opens.files.items)) c.caller-cred.ensures
-          (heard_keeps state settled sizes now who nodes header.node heard.0 old new before after (said bytes) heard.1
+          (heard_keeps state settled sizes now who nodes nodes_after header.node heard.0 old new before after (said bytes) heard.1
           c.heard-told.ensures.heard);
       written = c.in_ok-append_if.ensures;
     })

@@ -6,8 +6,11 @@ use Rattle.lfs_stamps.specs.declared.change.Change.{Change}
 use Rattle.lfs_stamps.specs.declared.times.Times.{Times}
 use Rattle.lfs_nodes.specs.declared.parts.Parts.{Parts}
 use Rattle.lfs_fuse_calls.specs.declared.told.Told.{Told}
-use Rattle.lfs_mount.specs.Answered.{IsToldDated, live_in, rows_in}
-use Rattle.lfs_mount.specs.Handled.{IsTold, hangs_in}
+use Rattle.lfs_mount.specs.Answered.{live_in, rows_in}
+use Rattle.lfs_mount.specs.Forgetting.{IsForgetting}
+use Rattle.lfs_mount.specs.Handled.{IsTold}
+use Rattle.lfs_mount.specs.Listing.{AreListed}
+use Rattle.lfs_mount.specs.declared.listing.Listings.{Listings}
 use Rattle.lfs_opens.specs.Loans.{due, noted}
 use Rattle.lfs_mount.specs.Trees.{StayTrue}
 use Rattle.lfs_opens.specs.declared.loans.Loans.{Loans}
@@ -21,6 +24,7 @@ returns-clause-told g c =
     let settled = g.F.FileStore.is_settled in
     let before = c.args.self.now.beside in
     let nodes = c.args.self.now.tree.nodes in
+    let nodes_after = c.told-told.new.self.nodes in
     let sizes = c.args.self.now.sizes in
     let node = c.args.node in
     let who = c.args.cred.now in
@@ -46,12 +50,19 @@ returns-clause-told g c =
       looked = c.prepare-left.ensures.looked;
       prepared = left.beside.opens.files.items;
       kept = c.prepare-left.ensures.kept;
-      is = subst (λ (d : Option ℕ). IsTold state settled sizes d who (hangs_in nodes) node said told left.tree.volume
-          new) given
-          (subst (λ (n : Parts). IsTold state settled sizes c.due-due.result who (hangs_in n) node said told
-          left.tree.volume new) c.prepare-left.ensures.nodes
-          (subst (λ (s : Sizes). IsTold state settled s c.due-due.result who (hangs_in left.tree.nodes) node said told
-          left.tree.volume new) c.prepare-left.ensures.sizes c.told-told.ensures.told));
+      is =
+          let last = c.told-told.new.listings in
+          subst (λ (l : Listings). IsTold state settled sizes (due said before.loans.modes.items (live_in nodes node)) who
+          nodes nodes_after l last node said told left.tree.volume new) c.prepare-left.ensures.listings
+          (subst (λ (d : Option ℕ). IsTold state settled sizes d who nodes nodes_after left.beside.listings last node said
+          told left.tree.volume new) given
+          (subst (λ (n : Parts). IsTold state settled sizes c.due-due.result who n nodes_after left.beside.listings last
+          node said told left.tree.volume new) c.prepare-left.ensures.nodes
+          (subst (λ (s : Sizes). IsTold state settled s c.due-due.result who left.tree.nodes nodes_after
+          left.beside.listings last node said told left.tree.volume new) c.prepare-left.ensures.sizes
+          c.told-told.ensures.told)));
+      listed = subst (λ (l : Listings). AreListed said l c.told-told.new.listings) c.prepare-left.ensures.listings
+          c.told-told.ensures.listed;
       times = c.stamp.ensures
           ∙ ap (λ (r : Option ℕ). stamped now r other change times) c.row-row.ensures
           ∙ ap (λ (r : Option ℕ). stamped now (rows_in nodes node) r change times) elsewhere
@@ -75,3 +86,8 @@ returns-clause-stay g c =
     c.prepare-left.ensures.looked
     (subst (λ (n : Parts). StayTrue state left.tree.volume n new.volume new.nodes) c.prepare-left.ensures.nodes
     c.told-told.ensures.stay)
+
+pub returns-clause-forgets : goal.returns-clause-forgets
+returns-clause-forgets g c =
+    subst (λ (n : Parts). IsForgetting (view c.args.message.now) c.args.node n c.told-told.new.self.nodes)
+    c.prepare-left.ensures.nodes c.told-told.ensures.forgets

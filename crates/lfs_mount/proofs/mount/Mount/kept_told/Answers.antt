@@ -1,4 +1,4 @@
-use Rattle.std.proofs.Common.{◌≡◌, Option, None, Some, length, refl, rules, tests, sym, subst, arith}
+use Rattle.std.proofs.Common.{◌≡◌, None, Some, length, refl, rules, tests, sym, subst, arith}
 use Rattle.std.specs.Prelude.{IsSomeAnd}
 use Rattle.lfs_nodes.specs.declared.node.Hang.TheVariants.{Gone}
 use Rattle.lfs_nodes.specs.Nodes.{known}
@@ -37,4 +37,4 @@ returns-in_ok-kept-in-Write-clause-told g c =
     (λ t. IsToldKept c.args.now who node (view m) t was.tree.volume was.tree.volume was.beside after k))
     (Some reply ≡ None)) (sym c.in-Write.is)
     (write_kept c.args.now who nodes node fields bytes kept reply was.tree.volume was.beside after gone is tells
-    c.write.ensures.files refl refl)
+    c.write.ensures.files refl refl refl)

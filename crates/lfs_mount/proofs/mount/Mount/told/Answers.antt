@@ -1,5 +1,9 @@
-use Rattle.std.proofs.Common.{subst, sym}
+use Rattle.std.proofs.Common.{subst, sym, refl}
+use Rattle.std.specs.Prelude.{IsSome}
+use Rattle.lfs_fuse_wire.specs.Views.{view}
+use Rattle.lfs_mount.specs.Forgetting.{IsForgetting}
 use Rattle.lfs_mount.specs.Trees.{StayTrue}
+use Rattle.lfs_mount.proofs.ForgettingLemmas.{plain_forgets}
 use Rattle.lfs_mount.proofs.mount.Mount.told.Goals as goal
 
 pub returns-in-None-clause-stay : goal.returns-in-None-clause-stay
@@ -13,3 +17,14 @@ returns-in-Some-clause-stay g c =
     let was = c.args.self.now in
     subst (λ t. StayTrue g.F.FileStore.state was.tree.volume was.tree.nodes t.volume t.nodes)
     (sym c.kept_told.ensures.tree) (λ are. are)
+
+pub returns-in-None-clause-forgets : goal.returns-in-None-clause-forgets
+returns-in-None-clause-forgets g c =
+    let last = c.called.new.self in
+    subst (λ m. IsForgetting (view c.args.message.now) c.args.node m.tree.nodes last.tree.nodes)
+    (c.kept_told.ensures.none c.in-None.is) c.called.ensures.forgets
+
+pub returns-in-Some-clause-forgets : goal.returns-in-Some-clause-forgets
+returns-in-Some-clause-forgets g c =
+    plain_forgets (view c.args.message.now) c.args.node c.args.self.now.tree.nodes c.kept_told.new.self.tree.nodes
+    (c.kept_told.ensures.plain (subst (λ o. IsSome o) (sym c.in-Some.is) refl))
