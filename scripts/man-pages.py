@@ -40,18 +40,19 @@ def constant(source, word):
     return found[1] if found else sys.exit(f"man-pages: no constant {word}")
 
 
-def numbered(source, name):
-    """The name and the help of an option that takes a number."""
-    body = re.search(rf"const {name}: NumberOption = NumberOption {{(.*?)\n}};", source, re.S)[1]
-    return re.search(rf"name: {TEXT}", body)[1], re.search(rf"help:\s*{TEXT}", body)[1]
+def stated(source, name):
+    """How an option is written that is a constant, with the number that it may take, and its help."""
+    both = source + text_of("lfs_command")
+    found = re.search(rf"const {name}: (Number|Flag)Option = \w+ {{(.*?)\n}};", both, re.S)
+    value = " N" if found[1] == "Number" else ""
+    return f'--{re.search(rf"name: {TEXT}", found[2])[1]}{value}', re.search(rf"help:\s*{TEXT}", found[2])[1]
 
 
 def option(source, argument):
     """What a page shows of an argument of the command: how it is written, and what it does."""
     constant_name = re.fullmatch(r"([A-Z_]+)\.arg\(alloc\)", argument)
     if constant_name:
-        name, told = numbered(source, constant_name[1])
-        return f"--{name} N", told
+        return stated(source, constant_name[1])
     function = re.fullmatch(r"(\w+)\(alloc\)", argument)[1]
     body = re.search(rf"fn {function}<'a>\(alloc: Global\)[^{{]*{{(.*?)\n}}", source, re.S)[1]
     told = re.search(rf"\.help\(\s*{TEXT}", body)[1]

@@ -84,8 +84,8 @@ IsAnsweredTo r now header None old message reply new =
     × (new.nodes ≡ old.nodes)
     × (new.beside ≡ old.beside) × (new.sizes ≡ old.sizes)
 IsAnsweredTo r now header (Some others) old message reply new =
-    IsAnswered r.state r.is_settled old.sizes now old.nodes others message [] reply old.volume
-    new.volume old.beside
+    IsAnswered r.state r.is_settled old.sizes now old.nodes new.nodes others message [] reply
+    old.volume new.volume old.beside
     new.beside × (new.sizes ≡ old.sizes)
 
 -- the same of a message that came when the world outside told the time, of a process whose groups it told

@@ -6,6 +6,7 @@ ghost use Rattle.lfs_command.specs.Ends.{IsRefusal};
 ghost use Rattle.lfs_fuse_talk.specs.Ranges.{IsInRange};
 
 use clap::{Arg, ArgAction, ArgMatches, Command, Error};
+use lfs_command::flags::SERIALS;
 use lfs_command::numbers::NumberOption;
 use lfs_command::refusing::{self, wrong_value};
 use lfs_types::store::Params;
@@ -51,9 +52,6 @@ const JOURNAL: NumberOption = NumberOption {
 /// The name of the option for an image.
 const IMAGE: &str = "image";
 
-/// The name of the option for summaries with serials.
-const SERIALS: &str = "serials";
-
 /// The name of the option for the file of the journal.
 const JOURNAL_OUT: &str = "journal-out";
 
@@ -94,7 +92,7 @@ pub fn options_of<'a, S: AsStr>(alloc: Global, words: &'a [S]) -> Result<Options
         Err(refusal) => return Err(wrong_value(&mut command, refusal)),
     };
     let image = matches.get_str(IMAGE);
-    let serials = matches.get_flag(SERIALS);
+    let serials = matches.get_flag(SERIALS.name);
     let journal_out = matches.get_str(JOURNAL_OUT);
     let recorded = matches.get_flag(RECORDED);
     Ok(Options {
@@ -140,7 +138,7 @@ fn command<'a>(alloc: Global) -> Result<Command<'a>, AllocError> {
         .arg(JOURNAL.arg(alloc))?
         .arg(journal_out(alloc))?
         .arg(image(alloc))?
-        .arg(serials(alloc))?
+        .arg(SERIALS.arg(alloc))?
         .arg(recorded(alloc))
 }
 
@@ -152,16 +150,6 @@ fn image<'a>(alloc: Global) -> Arg<'a> {
         .action(ArgAction::Set)
         .help(
             "Loads the volume from FILE where there is one, with its segments and numbers, and saves it there at the end",
-        )
-}
-
-/// The option for serials.
-fn serials<'a>(alloc: Global) -> Arg<'a> {
-    Arg::new(alloc, SERIALS)
-        .long(SERIALS)
-        .action(ArgAction::SetTrue)
-        .help(
-            "Gives each summary of a fresh volume a serial, by which lfs_check --recover finds the volume in its blocks",
         )
 }
 
