@@ -3,7 +3,7 @@ use Rattle.std.specs.Prelude.{◌≡◌, ℕ, List, Option, None, Some}
 use Rattle.lfs_nodes.specs.LookUps.{IsLookUpFault, IsLookedUp}
 use Rattle.lfs_nodes.specs.Maps.{id_at}
 use Rattle.lfs_nodes.specs.Moves.{gone_at}
-use Rattle.lfs_nodes.specs.Nodes.{known, place_at}
+use Rattle.lfs_nodes.specs.Nodes.{IsKnownAs, known, place_at}
 use Rattle.lfs_nodes.specs.declared.fault.LookUpFault.TheVariants.{Exhausted, Memory, Stale}
 use Rattle.lfs_nodes.specs.declared.parts.Parts.{Parts}
 use Rattle.lfs_fuse_wire.specs.Said.{Said, lookup, mknod, mkdir, create, unlink, rmdir}
@@ -20,15 +20,27 @@ IsNodeFault nodes directory errno.EOVERFLOW = IsLookUpFault nodes directory Exha
 IsNodeFault nodes directory errno.ENOMEM = IsLookUpFault nodes directory Memory
 IsNodeFault nodes directory error = ⊥
 
--- The node that an entry names is that of its row at its name in the directory, and was looked up; or it is told why
--- there is none, and each node is as it was.
+-- A node of a row of this number at a name in a directory was looked up: the one that is known there, if one is.
+pub record IsNodeOf (directory : ℕ) (name : List ℕ) (row node : ℕ) (before after : Parts)
+    : Type 0 where
+  pub looked_up : IsLookedUp before (place_at directory name) row node after
+  pub same : (id : ℕ) → IsKnownAs before (place_at directory name) row id → node ≡ id
+
+-- None is known there, and none could be given, for this error. Each node is as it was.
+pub record LacksNode (directory : ℕ) (name : List ℕ) (row : ℕ) (error : Errno)
+    (before after : Parts) : Type 0 where
+  pub none : (id : ℕ) → IsKnownAs before (place_at directory name) row id → ⊥
+  pub fault : IsNodeFault before directory error
+  pub same : (q : ℕ) → known after q ≡ known before q
+
+-- The node that an entry names is that of its row at its name in the directory; or it is told why there is none.
 abbrev pub NamesNode : ℕ → List ℕ → ℕ → Told → Parts → Parts → Type 0
 NamesNode directory name row (told.Entry entry) before after =
-    IsLookedUp before (place_at directory name) row entry.node after
+    IsNodeOf directory name row entry.node before after
 NamesNode directory name row (told.Create entry opened) before after =
-    IsLookedUp before (place_at directory name) row entry.node after
+    IsNodeOf directory name row entry.node before after
 NamesNode directory name row (told.Error error) before after =
-    IsNodeFault before directory error × ((q : ℕ) → known after q ≡ known before q)
+    LacksNode directory name row error before after
 NamesNode directory name row reply before after = ⊥
 
 -- the same of the row that a Stat showed, if one did

@@ -1,13 +1,18 @@
 //! Nodes of entries that were found, made, moved or removed.
 
-ghost use Rattle.std.specs.Prelude.{◌≡◌, ℕ, Some, IfErr, IfOk, IfSome, OnErr};
+ghost use Rattle.std.specs.Prelude.{◌≡◌, ℕ, Some, IfErr, IfOk, IfSome};
 ghost use Rattle.lfs_fuse_calls.specs.Attrs.{attr_of};
 ghost use Rattle.lfs_fuse_calls.specs.Telling.{TellsEntry, TellsCreated};
-ghost use Rattle.lfs_nodes.specs.LookUps.{IsLookUpFault, IsLookedUp};
-ghost use Rattle.lfs_nodes.specs.Nodes.{known, place_at};
+ghost use Rattle.lfs_nodes.specs.LookUps.{IsLookUpFault};
 ghost use Rattle.lfs_nodes.specs.Staying.{IdsStay};
 ghost use Rattle.lfs_nodes.specs.declared.parts.Parts.{Parts};
-ghost use Rattle.lfs_mount.specs.Entries.{IsNodeFault, LosesNode, NamesSeen};
+ghost use Rattle.lfs_mount.specs.Entries.{
+  IsNodeFault,
+  IsNodeOf,
+  LacksNode,
+  LosesNode,
+  NamesSeen,
+};
 ghost use Rattle.lfs_mount.specs.Trees.{FindsRow, LosesRow};
 
 use crate::tree::Tree;
@@ -43,11 +48,11 @@ impl<F: FileStore + Drop> Tree<F> {
         seen: &Seen,
     ) -> Result<Entry, Errno>
         ensures entry { IfOk result (λ entry. entry.attr ≡ attr_of seen.now.number seen.now.attrs) }
-        ensures named { IfOk result (λ entry. IsLookedUp self.old.nodes (place_at directory name)
-            seen.now.number entry.node self.new.nodes) }
+        ensures named { IfOk result (λ entry. IsNodeOf directory name seen.now.number entry.node
+            self.old.nodes self.new.nodes) }
         ensures fault { IfErr result (IsNodeFault self.old.nodes directory) }
-        ensures failed { OnErr result ((q : ℕ)
-            → known self.new.nodes q ≡ known self.old.nodes q) }
+        ensures lacks { IfErr result (λ error. LacksNode directory name seen.now.number error
+            self.old.nodes self.new.nodes) }
         ensures nodes { FindsRow (Some name) (Some seen.now) directory
             self.old.nodes self.new.nodes }
         ensures ids { IdsStay self.old.nodes self.new.nodes }
