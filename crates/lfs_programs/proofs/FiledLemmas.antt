@@ -22,7 +22,6 @@ use Rattle.lfs_audit.specs.Filing.{Filed, IsBegun, Takes}
 use Rattle.lfs_audit.specs.Scripts.{IsScriptFault, log_cleaner}
 use Rattle.lfs_audit.specs.Threads.{IsThreadsFault, MayHaveWrittenThreads}
 use Rattle.lfs_audit.specs.declared.fault.RunFault.{RunFault}
-use Rattle.lfs_audit.specs.declared.fault.RunFault.TheVariants as run
 use Rattle.lfs_audit.specs.declared.fault.ThreadsFault.{ThreadsFault}
 use Rattle.lfs_audit.specs.declared.fault.ThreadsFault.TheVariants as threads
 use Rattle.lfs_audit.proofs.FaultLemmas.{has_plan, late_script_faults}

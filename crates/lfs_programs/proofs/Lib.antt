@@ -1,4 +1,5 @@
 pub mod ServerLemmas
 pub mod ShellLemmas
 pub mod VolumeLemmas
+pub mod StandLemmas
 pub mod FiledLemmas

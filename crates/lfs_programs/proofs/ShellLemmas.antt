@@ -13,18 +13,19 @@ use Rattle.lfs_programs.specs.Talks.{EndsShell, EndsTalk, Finishes, HasBrokenOff
 use Rattle.lfs_programs.specs.Talks.{IsFilmOf, IsFilmed, IsShellFault, whole_with}
 use Rattle.lfs_programs.specs.declared.fault.ShellFault.{ShellFault}
 use Rattle.lfs_programs.specs.declared.fault.ShellFault.TheVariants.{Film, Image, Journal, Line, Talk}
-use Rattle.lfs_programs.specs.declared.fault.ShellFault.TheVariants.{Unsaved}
-use Rattle.lfs_programs.specs.Volumes.{IsUnbegun}
+use Rattle.lfs_programs.specs.declared.fault.ShellFault.TheVariants.{PastShare, Unsaved}
+use Rattle.lfs_programs.specs.Volumes.{IsUnbegun, Kind, asked_kind}
+use Rattle.lfs_parts.specs.declared.parts.Parts.{Parts}
 use Rattle.lfs_programs.specs.declared.filming.Ending.{Ending}
 use Rattle.lfs_programs.specs.declared.filming.Heard.{Heard}
 use Rattle.lfs_programs.specs.declared.options.ShellOptions.{ShellOptions}
 
 -- a talk that ended in a fault
-ends_broken : {R W D F : Type 0} (contents : F → Option (List ℕ)) (options : ShellOptions)
+ends_broken : {R W D F S : Type 0} (contents : F → Option (List ℕ)) (kind : Kind S) (options : ShellOptions)
     (known start out : Option (List ℕ)) (status : ℕ) (in_before in_after : R) (out_before out_after : W)
-    (err_before err_after : D) → status ≡ 1 → HasBrokenOff contents options known start out
-    → EndsTalk contents options known start out status in_before in_after out_before out_after err_before err_after
-ends_broken contents options known start out status in_before in_after out_before out_after err_before
+    (err_before err_after : D) → status ≡ 1 → HasBrokenOff contents kind options known start out
+    → EndsTalk contents kind options known start out status in_before in_after out_before out_after err_before err_after
+ends_broken contents kind options known start out status in_before in_after out_before out_after err_before
     err_after one broken = record {
       either = omega (arith, one);
       done = λ none. absurd (omega (arith, one, none));
@@ -34,14 +35,14 @@ ends_broken contents options known start out status in_before in_after out_befor
     }
 
 -- the fault of a talk
-broken_talk : {F : Type 0} (contents : F → Option (List ℕ)) (options : ShellOptions)
+broken_talk : {F S : Type 0} (contents : F → Option (List ℕ)) (kind : Kind S) (options : ShellOptions)
     (known start out : Option (List ℕ)) (fault : RunFault) (told : ShellFault) → told ≡ Talk fault
-    → (fault ≡ Read → HasTalkedSoFar contents options known start out)
+    → (fault ≡ Read → HasTalkedSoFar contents kind options known start out)
     → IsLogFault options.params.segments options.params.inodes options.params.frames fault
-    → HasBrokenOff contents options known start out
-broken_talk contents options known start out fault told is so_far cause = record {
+    → HasBrokenOff contents kind options known start out
+broken_talk contents kind options known start out fault told is so_far cause = record {
   fault = told;
-  cause = subst (λ (f : ShellFault). IsShellFault options f) (sym is) cause;
+  cause = subst (λ (f : ShellFault). IsShellFault kind.stand.refuses options f) (sym is) cause;
   so_far = λ read. let same : fault ≡ Read = cc in so_far same;
   answered = λ why film. absurd (cc);
   unkept = λ journal. absurd (cc);
@@ -50,38 +51,40 @@ broken_talk contents options known start out fault told is so_far cause = record
 }
 
 -- a talk that has no volume to begin with
-unbegun_cause : (options : ShellOptions) (fault : ShellFault) → IsUnbegun options fault → IsShellFault options fault
-unbegun_cause options (Talk (run.Format fault)) cause = cause
-unbegun_cause options (Talk run.Memory) cause = tt
-unbegun_cause options (Talk run.Read) cause = absurd cause
-unbegun_cause options (Talk run.TooLong) cause = absurd cause
-unbegun_cause options (Talk run.Write) cause = absurd cause
-unbegun_cause options (Talk (run.Script fault)) cause = absurd cause
-unbegun_cause options (Image fault) cause = cause
-unbegun_cause options (Film fault) cause = absurd cause
-unbegun_cause options Journal cause = absurd cause
-unbegun_cause options Unsaved cause = absurd cause
-unbegun_cause options Line cause = absurd cause
+unbegun_cause : (refuses : Parts → Type 0) (options : ShellOptions) (fault : ShellFault) → IsUnbegun refuses options fault
+    → IsShellFault refuses options fault
+unbegun_cause refuses options (Talk (run.Format fault)) cause = cause
+unbegun_cause refuses options (Talk run.Memory) cause = tt
+unbegun_cause refuses options (Talk run.Read) cause = absurd cause
+unbegun_cause refuses options (Talk run.TooLong) cause = absurd cause
+unbegun_cause refuses options (Talk run.Write) cause = absurd cause
+unbegun_cause refuses options (Talk (run.Script fault)) cause = absurd cause
+unbegun_cause refuses options (Image fault) cause = cause
+unbegun_cause refuses options PastShare cause = cause
+unbegun_cause refuses options (Film fault) cause = absurd cause
+unbegun_cause refuses options Journal cause = absurd cause
+unbegun_cause refuses options Unsaved cause = absurd cause
+unbegun_cause refuses options Line cause = absurd cause
 
-unbegun_other : (options : ShellOptions) (fault other : ShellFault) → IsUnbegun options fault → fault ≡ other
-    → IsUnbegun options other
-unbegun_other options fault other cause same = subst (IsUnbegun options) same cause
+unbegun_other : (refuses : Parts → Type 0) (options : ShellOptions) (fault other : ShellFault)
+    → IsUnbegun refuses options fault → fault ≡ other → IsUnbegun refuses options other
+unbegun_other refuses options fault other cause same = subst (IsUnbegun refuses options) same cause
 
-pub ends_unbegun : {R W D F : Type 0} (contents : F → Option (List ℕ)) (options : ShellOptions)
+pub ends_unbegun : {R W D F S : Type 0} (contents : F → Option (List ℕ)) (kind : Kind S) (options : ShellOptions)
     (known start out : Option (List ℕ)) (status : ℕ) (in_before in_after : R) (out_before out_after : W)
-    (err_before err_after : D) (fault : ShellFault) → IsUnbegun options fault → status ≡ 1
-    → EndsTalk contents options known start out status in_before in_after out_before out_after err_before err_after
-ends_unbegun contents options known start out status in_before in_after out_before out_after err_before err_after fault
+    (err_before err_after : D) (fault : ShellFault) → IsUnbegun kind.stand.refuses options fault → status ≡ 1
+    → EndsTalk contents kind options known start out status in_before in_after out_before out_after err_before err_after
+ends_unbegun contents kind options known start out status in_before in_after out_before out_after err_before err_after fault
     cause is =
-    ends_broken contents options known start out status in_before in_after out_before out_after err_before err_after is
+    ends_broken contents kind options known start out status in_before in_after out_before out_after err_before err_after is
     (record {
       fault = fault;
-      cause = unbegun_cause options fault cause;
-      so_far = λ read. absurd (unbegun_other options fault (Talk Read) cause read);
-      answered = λ why film. absurd (unbegun_other options fault (Film why) cause film);
-      unkept = λ journal. absurd (unbegun_other options fault Journal cause journal);
-      unsaved = λ image. absurd (unbegun_other options fault Unsaved cause image);
-      faulty = λ line. absurd (unbegun_other options fault Line cause line);
+      cause = unbegun_cause kind.stand.refuses options fault cause;
+      so_far = λ read. absurd (unbegun_other kind.stand.refuses options fault (Talk Read) cause read);
+      answered = λ why film. absurd (unbegun_other kind.stand.refuses options fault (Film why) cause film);
+      unkept = λ journal. absurd (unbegun_other kind.stand.refuses options fault Journal cause journal);
+      unsaved = λ image. absurd (unbegun_other kind.stand.refuses options fault Unsaved cause image);
+      faulty = λ line. absurd (unbegun_other kind.stand.refuses options fault Line cause line);
     })
 
 -- the fault of a talk is one of a talk over a volume that is laid out
@@ -95,16 +98,16 @@ talk_cause options run.Memory cause = cause
 talk_cause options run.Write cause = cause
 
 -- the file of the journal has each entry, and the volume is kept
-whole : {F : Type 0} (contents : F → Option (List ℕ)) (options : ShellOptions) (known start out : Option (List ℕ))
+whole : {F S : Type 0} (contents : F → Option (List ℕ)) (kind : Kind S) (options : ShellOptions) (known start out : Option (List ℕ))
     (ending : Ending) (has_fault : Bool) → ending.is_kept ≡ true → ending.is_saved ≡ true
-    → ending.has_fault ≡ has_fault → HasTalked contents options ending known start out
-    → HasTalked contents options (whole_with has_fault) known start out
-whole contents options known start out ending has_fault kept saved faulty talked =
+    → ending.has_fault ≡ has_fault → HasTalked contents kind options ending known start out
+    → HasTalked contents kind options (whole_with has_fault) known start out
+whole contents kind options known start out ending has_fault kept saved faulty talked =
     let is : ending ≡ whole_with has_fault =
     ap (λ (b : Bool). record ending { is_kept = b }) kept
     ∙ ap (λ (b : Bool). record ending { is_kept = true; is_saved = b }) saved
     ∙ ap (λ (b : Bool). whole_with b) faulty in
-    subst (λ (e : Ending). HasTalked contents options e known start out) is talked
+    subst (λ (e : Ending). HasTalked contents kind options e known start out) is talked
 
 -- the film that watched a talk is some film
 some_film : {F : Type 0} (contents : F → Option (List ℕ)) (film : Option Reel) → IsFilmOf contents film
@@ -118,31 +121,31 @@ asked_film contents None film page = tt
 asked_film contents (Some path) film page = some_film contents film page
 
 -- a talk, what it has besides, and the status that is told of it
-pub ends_talk : {R W D F : Type 0} (contents : F → Option (List ℕ)) (options : ShellOptions)
+pub ends_talk : {R W D F S : Type 0} (contents : F → Option (List ℕ)) (kind : Kind S) (options : ShellOptions)
     (known start out : Option (List ℕ)) (status : ℕ) (in_before in_after : R) (out_before out_after : W)
     (err_before err_between err_after : D) (heard : Result Heard RunFault) (outcome : Result (Unit {0}) ShellFault)
-    → IfOk heard (λ h. HasTalked contents options h.ending known start out)
+    → IfOk heard (λ h. HasTalked contents kind options h.ending known start out)
     → IfOk heard (λ h. h.ending.is_kept ≡ true → h.ending.is_saved ≡ true → err_between ≡ err_before)
     → IfOk heard (λ h. h.ending.is_kept ≡ false → IsSome options.journal_out)
     → IfOk heard (λ h. h.ending.is_saved ≡ false → IsSome options.image)
-    → IfErr heard (λ fault. fault ≡ Read → HasTalkedSoFar contents options known start out)
+    → IfErr heard (λ fault. fault ≡ Read → HasTalkedSoFar contents kind options known start out)
     → IfErr heard IsTalkFault
     → Finishes contents options heard outcome
     → MatchResult outcome (λ _. status ≡ 0) (λ _. status ≡ 1) → IfOk outcome (λ _. err_after ≡ err_between)
-    → EndsTalk contents options known start out status in_before in_after out_before out_after err_before err_after
-ends_talk contents options known start out status in_before in_after out_before out_after err_before err_between
+    → EndsTalk contents kind options known start out status in_before in_after out_before out_after err_before err_after
+ends_talk contents kind options known start out status in_before in_after out_before out_after err_before err_between
     err_after (Err fault) (Ok done) talked silent kept saved so_far cause finishes is untold = absurd (cc)
-ends_talk contents options known start out status in_before in_after out_before out_after err_before err_between
+ends_talk contents kind options known start out status in_before in_after out_before out_after err_before err_between
     err_after (Err fault) (Err told) talked silent kept saved so_far cause finishes is untold =
     let same : told ≡ Talk fault = cc in
-    ends_broken contents options known start out status in_before in_after out_before out_after err_before err_after is
-    (broken_talk contents options known start out fault told same so_far (talk_cause options fault cause))
-ends_talk contents options known start out status in_before in_after out_before out_after err_before err_between
+    ends_broken contents kind options known start out status in_before in_after out_before out_after err_before err_after is
+    (broken_talk contents kind options known start out fault told same so_far (talk_cause options fault cause))
+ends_talk contents kind options known start out status in_before in_after out_before out_after err_before err_between
     err_after (Ok heard) (Ok done) talked silent kept saved so_far cause finishes is untold = record {
       either = omega (arith, is);
       done = λ _. (
         heard.ending.has_fault,
-        whole contents options known start out heard.ending heard.ending.has_fault finishes.0 finishes.1 refl talked,
+        whole contents kind options known start out heard.ending heard.ending.has_fault finishes.0 finishes.1 refl talked,
         finishes.3,
         untold ∙ silent finishes.0 finishes.1,
       );
@@ -150,13 +153,15 @@ ends_talk contents options known start out status in_before in_after out_before 
       failed = λ one. absurd (omega (arith, is, one));
       unmade = λ two. absurd (omega (arith, is, two));
     }
-ends_talk contents options known start out status in_before in_after out_before out_after err_before err_between
+ends_talk contents kind options known start out status in_before in_after out_before out_after err_before err_between
     err_after (Ok heard) (Err (Talk fault)) talked silent kept saved so_far cause finishes is untold = absurd finishes
-ends_talk contents options known start out status in_before in_after out_before out_after err_before err_between
+ends_talk contents kind options known start out status in_before in_after out_before out_after err_before err_between
     err_after (Ok heard) (Err (Image fault)) talked silent kept saved so_far cause finishes is untold = absurd finishes
-ends_talk contents options known start out status in_before in_after out_before out_after err_before err_between
+ends_talk contents kind options known start out status in_before in_after out_before out_after err_before err_between
+    err_after (Ok heard) (Err PastShare) talked silent kept saved so_far cause finishes is untold = absurd finishes
+ends_talk contents kind options known start out status in_before in_after out_before out_after err_before err_between
     err_after (Ok heard) (Err (Film why)) talked silent kept saved so_far cause finishes is untold =
-    ends_broken contents options known start out status in_before in_after out_before out_after err_before err_after is
+    ends_broken contents kind options known start out status in_before in_after out_before out_after err_before err_after is
     (record {
       fault = Film why;
       cause = finishes;
@@ -166,9 +171,9 @@ ends_talk contents options known start out status in_before in_after out_before 
       unsaved = λ image. absurd (cc);
       faulty = λ line. absurd (cc);
     })
-ends_talk contents options known start out status in_before in_after out_before out_after err_before err_between
+ends_talk contents kind options known start out status in_before in_after out_before out_after err_before err_between
     err_after (Ok heard) (Err Journal) talked silent kept saved so_far cause finishes is untold =
-    ends_broken contents options known start out status in_before in_after out_before out_after err_before err_after is
+    ends_broken contents kind options known start out status in_before in_after out_before out_after err_before err_after is
     (record {
       fault = Journal;
       cause = kept finishes;
@@ -178,9 +183,9 @@ ends_talk contents options known start out status in_before in_after out_before 
       unsaved = λ image. absurd (cc);
       faulty = λ line. absurd (cc);
     })
-ends_talk contents options known start out status in_before in_after out_before out_after err_before err_between
+ends_talk contents kind options known start out status in_before in_after out_before out_after err_before err_between
     err_after (Ok heard) (Err Unsaved) talked silent kept saved so_far cause finishes is untold =
-    ends_broken contents options known start out status in_before in_after out_before out_after err_before err_after is
+    ends_broken contents kind options known start out status in_before in_after out_before out_after err_before err_after is
     (record {
       fault = Unsaved;
       cause = saved finishes.1;
@@ -190,9 +195,9 @@ ends_talk contents options known start out status in_before in_after out_before 
       unsaved = λ _. (heard.ending, finishes.0, finishes.1, talked);
       faulty = λ line. absurd (cc);
     })
-ends_talk contents options known start out status in_before in_after out_before out_after err_before err_between
+ends_talk contents kind options known start out status in_before in_after out_before out_after err_before err_between
     err_after (Ok heard) (Err Line) talked silent kept saved so_far cause finishes is untold =
-    ends_broken contents options known start out status in_before in_after out_before out_after err_before err_after is
+    ends_broken contents kind options known start out status in_before in_after out_before out_after err_before err_after is
     (record {
       fault = Line;
       cause = finishes.2;
@@ -200,15 +205,15 @@ ends_talk contents options known start out status in_before in_after out_before 
       answered = λ why film. absurd (cc);
       unkept = λ journal. absurd (cc);
       unsaved = λ image. absurd (cc);
-      faulty = λ _. whole contents options known start out heard.ending true finishes.0 finishes.1 finishes.3 talked;
+      faulty = λ _. whole contents kind options known start out heard.ending true finishes.0 finishes.1 finishes.3 talked;
     })
 
 -- a talk whose journal's file is not made
-pub ends_unmade : {R W D F : Type 0} (contents : F → Option (List ℕ)) (options : ShellOptions)
+pub ends_unmade : {R W D F S : Type 0} (contents : F → Option (List ℕ)) (kind : Kind S) (options : ShellOptions)
     (known start out : Option (List ℕ)) (status : ℕ) (here : R) (there : W) (err_before err_after : D)
     → status ≡ 2 → IsSome options.journal_out
-    → EndsTalk contents options known start out status here here there there err_before err_after
-ends_unmade contents options known start out status here there err_before err_after is named = record {
+    → EndsTalk contents kind options known start out status here here there there err_before err_after
+ends_unmade contents kind options known start out status here there err_before err_after is named = record {
   either = omega (arith, is);
   done = λ none. absurd (omega (arith, is, none));
   filmed = λ none. absurd (omega (arith, is, none));
@@ -217,13 +222,13 @@ ends_unmade contents options known start out status here there err_before err_af
 }
 
 -- a talk over another reader, of which nothing is told
-pub ends_elsewhere : {R S W D F : Type 0} (contents : F → Option (List ℕ)) (options : ShellOptions)
-    (known start out : Option (List ℕ)) (status : ℕ) (there_before there_after : S) (here : R)
+pub ends_elsewhere : {R T W D F S : Type 0} (contents : F → Option (List ℕ)) (kind : Kind S) (options : ShellOptions)
+    (known start out : Option (List ℕ)) (status : ℕ) (there_before there_after : T) (here : R)
     (out_before out_after : W) (err_before err_after : D)
-    → EndsTalk contents options known start out status there_before there_after out_before out_after err_before
+    → EndsTalk contents kind options known start out status there_before there_after out_before out_after err_before
     err_after
-    → EndsTalk contents options known start out status here here out_before out_after err_before err_after
-ends_elsewhere contents options known start out status there_before there_after here out_before out_after err_before
+    → EndsTalk contents kind options known start out status here here out_before out_after err_before err_after
+ends_elsewhere contents kind options known start out status there_before there_after here out_before out_after err_before
     err_after ends = record {
       either = ends.either;
       done = ends.done;
@@ -235,11 +240,11 @@ ends_elsewhere contents options known start out status there_before there_after 
 -- ---- which lines are answered
 
 -- those of a file
-pub ends_file : {R S W D F : Type 0} (contents : F → Option (List ℕ)) (options : ShellOptions)
-    (known start out : Option (List ℕ)) (status : ℕ) (there_before there_after : S) (here : R)
+pub ends_file : {R T W D F : Type 0} (contents : F → Option (List ℕ)) (options : ShellOptions)
+    (known start out : Option (List ℕ)) (status : ℕ) (there_before there_after : T) (here : R)
     (out_before out_after : W) (err_before err_after : D) (bytes : Option (List ℕ))
     → true ≡ is_some options.script
-    → EndsTalk contents options bytes start out status there_before there_after out_before out_after err_before
+    → EndsTalk contents (asked_kind contents options.shares) options bytes start out status there_before there_after out_before out_after err_before
     err_after
     → EndsShell contents options known start out status here here out_before out_after err_before err_after
 ends_file contents options known start out status there_before there_after here out_before out_after err_before
@@ -247,6 +252,21 @@ ends_file contents options known start out status there_before there_after here 
     bytes named ends = record {
       bytes = bytes;
       own = λ none. let other : true ≡ false = rw none at named in absurd (cc);
-      talk = ends_elsewhere contents options bytes start out status there_before there_after here out_before out_after
-          err_before err_after ends;
+      talk = ends_elsewhere contents (asked_kind contents options.shares) options bytes start out status there_before there_after
+          here out_before out_after err_before err_after ends;
     }
+
+-- ---- over which kind of store
+
+-- the one that is asked for
+pub ends_asked : {R W D F : Type 0} (contents : F → Option (List ℕ)) (shares : Bool) (options : ShellOptions)
+    (known start out : Option (List ℕ)) (status : ℕ) (in_before in_after : R) (out_before out_after : W)
+    (err_before err_after : D) → options.shares ≡ shares
+    → EndsTalk contents (asked_kind contents shares) options known start out status in_before in_after out_before out_after
+    err_before err_after
+    → EndsTalk contents (asked_kind contents options.shares) options known start out status in_before in_after out_before
+    out_after err_before err_after
+ends_asked contents shares options known start out status in_before in_after out_before out_after err_before err_after is
+    ends =
+    subst (λ (b : Bool). EndsTalk contents (asked_kind contents b) options known start out status in_before in_after
+    out_before out_after err_before err_after) (sym is) ends

@@ -2,3 +2,4 @@ pub mod Asked
 pub mod Ranges
 pub mod Talks
 pub mod Volumes
+pub mod Stands

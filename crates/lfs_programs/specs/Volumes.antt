@@ -1,24 +1,34 @@
 -- The volume that a talk begins with, and the file in which it is kept.
-use Rattle.std.specs.Prelude.{◌≡◌, ◌⊎◌, ℕ, List, [], Option, IsSome}
+use Rattle.std.specs.Prelude.{◌≡◌, ◌⊎◌, ℕ, Bool, true, false, List, [], Option, IsSome}
+use Rattle.lfs_types.specs.StoreStates.{StoreState}
 use Rattle.lfs_types.specs.Tree.{opening_world}
 use Rattle.lfs_types.specs.declared.level.Level.{Level}
+use Rattle.lfs_parts.specs.Store.{IsSettled}
 use Rattle.lfs_parts.specs.declared.parts.Parts.{Parts}
 use Rattle.lfs_logstore.specs.States.{opening_state, state_of}
+use Rattle.lfs_volume.specs.Cleanings.{Cleaner, cleaner_of}
 use Rattle.lfs_volume.specs.Journals.{AtPresent, Begins}
 use Rattle.lfs_volume.specs.Seen.{Seen}
+use Rattle.lfs_view.specs.MapText.{map_text}
+use Rattle.lfs_view.specs.SegmentText.{segment_text}
+use Rattle.lfs_view.specs.SpaceText.{space_text}
 use Rattle.lfs_server.specs.Fresh.{IsFormatFault}
 use Rattle.lfs_checking.specs.Files.{HasImage, IsFreshStore, IsLoaded, IsSaved}
+use Rattle.lfs_checking.specs.Standing.{IsCheckTold}
+use Rattle.lfs_audit.specs.Scripts.{log_cleaner}
 use Rattle.lfs_audit.specs.declared.fault.RunFault.TheVariants as run
-use Rattle.lfs_live.specs.Scripts.{log_talker}
-use Rattle.lfs_live.specs.Talkers.{Talker}
+use Rattle.lfs_live.specs.Talkers.{Talker, Texts, texts_of}
+use Rattle.lfs_share.specs.Answering.{ComesTo, shared_state}
+use Rattle.lfs_share.specs.CleanerCalls.{shared_calls}
+use Rattle.lfs_programs.specs.Stands.{Stand, log_stand, share_stand}
 use Rattle.lfs_programs.specs.declared.fault.ShellFault.{ShellFault}
-use Rattle.lfs_programs.specs.declared.fault.ShellFault.TheVariants.{Talk, Image}
+use Rattle.lfs_programs.specs.declared.fault.ShellFault.TheVariants.{Talk, Image, PastShare}
 use Rattle.lfs_programs.specs.declared.options.ShellOptions.{ShellOptions}
 
 -- a volume is that of an image, with the frames and the journal's limit that are asked for, and its journal begins
 -- there
-pub record IsOfImage (options : ShellOptions) (v : Seen Parts) : Type 0 where
-  pub loaded : IsLoaded options.params.frames v.store v.level
+pub record IsOfImage {S : Type 0} (stand : Stand S) (options : ShellOptions) (v : Seen S) : Type 0 where
+  pub loaded : IsLoaded options.params.frames (stand.parts v.store) v.level
   pub empty : v.journal ≡ []
   pub room : v.limit ≡ options.params.journal
   pub since : v.since ≡ v.store
@@ -26,33 +36,72 @@ pub record IsOfImage (options : ShellOptions) (v : Seen Parts) : Type 0 where
 
 -- a volume is fresh, with the numbers that are asked for: its log was just laid out, with serials where they are asked
 -- for, and its journal begins in the opening world
-pub record IsFresh (options : ShellOptions) (v : Seen Parts) : Type 0 where
-  pub opening : state_of v.store ≡ opening_state options.params.segments options.params.inodes
-  pub laid_out : IsFreshStore options.serials options.params v.store
+pub record IsFresh {S : Type 0} (state : S → StoreState) (stand : Stand S) (options : ShellOptions) (v : Seen S)
+    : Type 0 where
+  pub opening : state_of (stand.parts v.store) ≡ opening_state options.params.segments options.params.inodes
+  pub laid_out : IsFreshStore options.serials options.params (stand.parts v.store)
   pub empty : v.journal ≡ []
-  pub begins : Begins (state_of v.since) v.since_level opening_world
+  pub begins : Begins (state v.since) v.since_level opening_world
   pub room : v.limit ≡ options.params.journal
 
--- a volume is fresh; or, where an image is asked for, it may be that of one
-abbrev pub IsBegun : ShellOptions → Seen Parts → Type 0
-IsBegun options v = IsFresh options v ⊎ (IsSome options.image × IsOfImage options v)
+-- a volume is fresh; or, where an image is asked for, it may be that of one; and its store is as it stands
+abbrev pub IsBegun : {S : Type 0} → (S → StoreState) → Stand S → ShellOptions → Seen S → Type 0
+IsBegun state stand options v =
+    stand.within v.store × (IsFresh state stand options v ⊎ (IsSome options.image × IsOfImage stand options v))
+
+-- an image is asked for, and what is loaded of it is a log store on which the store may not stand
+pub record IsUnfit (refuses : Parts → Type 0) (options : ShellOptions) : Type 0 where
+  pub image : IsSome options.image
+  pub store : Parts
+  pub level : Level
+  pub loaded : IsLoaded options.params.frames store level
+  pub refused : refuses store
 
 -- a talk has no volume to begin with, for this fault
-abbrev pub IsUnbegun : ShellOptions → ShellFault → Type 0
-IsUnbegun options (Talk (run.Format fault)) =
+abbrev pub IsUnbegun : (Parts → Type 0) → ShellOptions → ShellFault → Type 0
+IsUnbegun refuses options (Talk (run.Format fault)) =
     IsFormatFault options.params.segments options.params.inodes options.params.frames fault
-IsUnbegun options (Talk run.Memory) = Unit {0}
-IsUnbegun options (Image fault) = IsSome options.image
-IsUnbegun options fault = ⊥
+IsUnbegun refuses options (Talk run.Memory) = Unit {0}
+IsUnbegun refuses options (Image fault) = IsSome options.image
+IsUnbegun refuses options PastShare = IsUnfit refuses options
+IsUnbegun refuses options fault = ⊥
 
--- the log store, as `lfs_shell` is talked to: it is kept where a file got its image
-abbrev pub keeps_image : {F : Type 0} → (F → Option (List ℕ)) → Parts → Level → Type 0
-keeps_image contents store level = HasImage contents store.log level
+-- a kind of store as `lfs_shell` is talked to it, and how it stands on a log store
+pub record Kind (S : Type 0) : Type 1 where
+  pub talker : Talker S
+  pub stand : Stand S
 
-abbrev pub shell_talker : {F : Type 0} → (F → Option (List ℕ)) → Talker Parts
-shell_talker contents = log_talker (keeps_image contents)
+-- such a kind of store: it is kept where a file got the image of its log
+abbrev pub kind_of : {F S : Type 0} → (F → Option (List ℕ)) → Cleaner S → Texts S → (S → List ℕ → Type 0) → Stand S
+    → Kind S
+kind_of contents cleaner texts checked stand = record {
+  talker = record {
+    cleaner = cleaner;
+    texts = texts;
+    checked = checked;
+    kept = λ store level. HasImage contents (stand.parts store).log level;
+  };
+  stand = stand;
+}
+
+-- the texts that a log store shows
+abbrev pub log_texts : Texts Parts
+log_texts = texts_of map_text segment_text space_text
+
+-- the log store, and the store with a share, each over the log that it shows
+abbrev pub log_kind : {F : Type 0} → (F → Option (List ℕ)) → Kind Parts
+log_kind contents = kind_of contents log_cleaner log_texts IsCheckTold log_stand
+
+abbrev pub share_kind : {F : Type 0} → (F → Option (List ℕ)) → Kind Parts
+share_kind contents =
+    kind_of contents (cleaner_of shared_state IsSettled ComesTo shared_calls) log_texts IsCheckTold share_stand
+
+-- the kind of store that is asked for: one with a share, or the log store
+abbrev pub asked_kind : {F : Type 0} → (F → Option (List ℕ)) → Bool → Kind Parts
+asked_kind contents true = share_kind contents
+asked_kind contents false = log_kind contents
 
 -- a file got the image of what a talk left of a volume: a store of which nothing waits, and a level, that show the tree
 -- that the journal led to
-abbrev pub HasSaved : {F : Type 0} → (F → Option (List ℕ)) → Seen Parts → Type 0
-HasSaved contents left = IsSaved contents (λ s level. AtPresent state_of left (Begins s level))
+abbrev pub HasSaved : {F S : Type 0} → (F → Option (List ℕ)) → (S → StoreState) → Seen S → Type 0
+HasSaved contents state left = IsSaved contents (λ s level. AtPresent state left (Begins s level))

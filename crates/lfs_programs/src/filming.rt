@@ -6,21 +6,22 @@ ghost use Rattle.lfs_live.specs.Faults.{IsTalkFault};
 ghost use Rattle.lfs_live.specs.Held.{HasBegun, sink_of};
 ghost use Rattle.lfs_live.specs.Talking.{HasKeptSoFar};
 ghost use Rattle.lfs_programs.specs.Talks.{Finishes, HasHeard, HasPage, HasTalked, HasTalkedSoFar, IsFilmOf};
-ghost use Rattle.lfs_programs.specs.Volumes.{IsBegun, shell_talker};
+ghost use Rattle.lfs_live.specs.Talkers.{texts_of};
+ghost use Rattle.lfs_programs.specs.Volumes.{IsBegun, kind_of};
+ghost use Rattle.lfs_volume.specs.Cleanings.{cleaner_of};
 
 use crate::fault::{FilmFault, ShellFault};
 use crate::options::ShellOptions;
+use crate::over_log::OverLog;
 use crate::volume::keep;
 use lfs_audit::fault::RunFault;
 use lfs_checking::fault::KeepFault;
 use lfs_checking::keeping::save_file;
 use lfs_film::film::Film;
-use lfs_live::start::run_over;
-use lfs_live::talk::Setting;
+use lfs_live::talk::{Setting, talk};
 use lfs_live::tended::Tended;
 use lfs_live::watch::{Unkept, Watch};
 use lfs_live::witnesses::{Teller, Witnesses};
-use lfs_logstore::LogStore;
 use lfs_sinks::sink::{JournalSink, LineSink, Nowhere};
 use lfs_types::level::Level;
 use lfs_volume::volume::Volume;
@@ -46,20 +47,20 @@ pub(crate) struct Filming<'a, F: Files> {
     image: Option<&'a str>,
 }
 
-impl<F: Files> Watch<LogStore> for Filming<'_, F> {
+impl<S: OverLog, F: Files> Watch<S> for Filming<'_, F> {
     ghost use Rattle.lfs_checking.specs.Files.{HasImage};
 
-    ghost kept = { λ store level. HasImage F.File.contents store.log level };
+    ghost kept = { λ store level. HasImage F.File.contents (S.stand.parts store).log level };
 
     fn has_file(&self) -> bool {
         self.image.is_some()
     }
 
-    fn keep(&self, alloc: Global, store: &LogStore, level: Level) -> Result<(), Unkept> {
+    fn keep(&self, alloc: Global, store: &S, level: Level) -> Result<(), Unkept> {
         let Some(path) = self.image else {
             return Err(Unkept::Unwritten);
         };
-        match save_file(self.files, alloc, store, level, path) {
+        match save_file(self.files, alloc, store.log_store(), level, path) {
             Ok(()) => Ok(()),
             Err(KeepFault::Memory) => Err(Unkept::Memory),
             Err(_) => Err(Unkept::Unwritten),
@@ -71,10 +72,10 @@ impl<F: Files> Watch<LogStore> for Filming<'_, F> {
         alloc: Global,
         line: &[u8],
         told: &[u8],
-        store: &LogStore,
+        store: &S,
     ) -> Result<(), AllocError> {
         match &mut self.film {
-            Some(film) => film.show(alloc, line, told, store),
+            Some(film) => film.show(alloc, line, told, store.log_store()),
             None => Ok(()),
         }
     }
@@ -93,9 +94,9 @@ pub(crate) struct Means<'a, F: Files> {
 
 /// What a talk begins with.
 #[derive(Drop)]
-pub(crate) struct Outset<F: Drop> {
+pub(crate) struct Outset<S: OverLog + Drop, F: Drop> {
     /// The volume.
-    pub(crate) volume: Volume<LogStore>,
+    pub(crate) volume: Volume<S>,
     /// The file of the journal, where one is asked for.
     pub(crate) journal: Option<F>,
 }
@@ -126,16 +127,19 @@ pub(crate) struct Heard {
 /// # Errors
 ///
 /// The talk's fault.
-pub(crate) fn hear<F: Files, R: Read, W: Write, D: Write>(
+pub(crate) fn hear<S: OverLog + Drop, F: Files, R: Read, W: Write, D: Write>(
     means: &Means<'_, F>,
-    outset: Outset<F::File>,
+    outset: Outset<S, F::File>,
     reader: &mut R,
     writer: &mut W,
     teller: &mut D,
 ) -> Result<Heard, RunFault>
-    requires begun { IsBegun means.now.options outset.volume }
+    requires begun { IsBegun S.state S.stand means.now.options outset.volume }
     requires filed { is_some outset.journal ≡ is_some means.now.options.journal_out }
-    ensures talked { IfOk result (λ heard. HasTalked F.File.contents means.now.options heard.ending
+    ensures talked { let kind = kind_of F.File.contents
+        (cleaner_of S.state S.is_settled S.made S.cleaner)
+        (texts_of S.map_text S.segment_text S.space_text) S.checked S.stand in
+        IfOk result (λ heard. HasTalked F.File.contents kind means.now.options heard.ending
         (R.remaining reader.old) (W.contents writer.old) (W.contents writer.new)) }
     ensures silent { IfOk result (λ heard. heard.ending.is_kept ≡ true
         → heard.ending.is_saved ≡ true → teller.new ≡ teller.old) }
@@ -143,7 +147,11 @@ pub(crate) fn hear<F: Files, R: Read, W: Write, D: Write>(
         → IsSome means.now.options.journal_out) }
     ensures saved { IfOk result (λ heard. heard.ending.is_saved ≡ false
         → IsSome means.now.options.image) }
-    ensures so_far { IfErr result (λ fault. fault ≡ Failed → HasTalkedSoFar F.File.contents means.now.options
+    ensures so_far { let kind = kind_of F.File.contents
+        (cleaner_of S.state S.is_settled S.made S.cleaner)
+        (texts_of S.map_text S.segment_text S.space_text) S.checked S.stand in
+        IfErr result (λ fault. fault ≡ Failed
+        → HasTalkedSoFar F.File.contents kind means.now.options
         (R.remaining reader.old) (W.contents writer.old) (W.contents writer.new)) }
     ensures fault { IfErr result IsTalkFault }
 {
@@ -197,15 +205,18 @@ pub(crate) fn hear<F: Files, R: Read, W: Write, D: Write>(
 /// # Errors
 ///
 /// The talk's fault.
-fn hear_over<F: Files, J: JournalSink + Drop, R: Read, W: Write, D: Write>(
+fn hear_over<S: OverLog + Drop, F: Files, J: JournalSink + Drop, R: Read, W: Write, D: Write>(
     means: &Means<'_, F>,
-    tended: &mut Tended<LogStore, J, Filming<'_, F>>,
+    tended: &mut Tended<S, J, Filming<'_, F>>,
     reader: &mut R,
     writer: &mut W,
     teller: &mut D,
 ) -> Result<Ending, RunFault>
-    ensures heard { IfOk result (λ ending. HasBegun tended.old
-        → HasHeard F.File.contents (sink_of J.contents J.next) means.now.options ending
+    ensures heard { let kind = kind_of F.File.contents
+        (cleaner_of S.state S.is_settled S.made S.cleaner)
+        (texts_of S.map_text S.segment_text S.space_text) S.checked S.stand in
+        IfOk result (λ ending. HasBegun tended.old
+        → HasHeard F.File.contents kind (sink_of J.contents J.next) means.now.options ending
         tended.old tended.new (R.remaining reader.old) (R.remaining reader.new)
         (W.contents writer.old) (W.contents writer.new)) }
     ensures silent { IfOk result (λ ending. tended.new.is_open ≡ tended.old.is_open
@@ -215,8 +226,11 @@ fn hear_over<F: Files, J: JournalSink + Drop, R: Read, W: Write, D: Write>(
     ensures kept { IfOk result (λ ending. ending.is_kept ≡ true) }
     ensures saved { IfOk result (λ ending. ending.is_saved ≡ false
         → IsSome means.now.options.image) }
-    ensures so_far { IfErr result (λ fault. fault ≡ Failed → HasBegun tended.old
-        → HasKeptSoFar (shell_talker F.File.contents) means.now.options.framing (sink_of J.contents J.next)
+    ensures so_far { let kind = kind_of F.File.contents
+        (cleaner_of S.state S.is_settled S.made S.cleaner)
+        (texts_of S.map_text S.segment_text S.space_text) S.checked S.stand in
+        IfErr result (λ fault. fault ≡ Failed → HasBegun tended.old
+        → HasKeptSoFar kind.talker means.now.options.framing (sink_of J.contents J.next)
         tended.old tended.new (R.remaining reader.old) (R.remaining reader.new)
         (W.contents writer.old) (W.contents writer.new)) }
     ensures fault { IfErr result IsTalkFault }
@@ -230,7 +244,11 @@ fn hear_over<F: Files, J: JournalSink + Drop, R: Read, W: Write, D: Write>(
         alloc,
         framing: options.framing,
     };
-    let has_fault = run_over(setting, reader, writer, teller, tended)?;
+    // The one who watches is shown the store before the first line.
+    if tended.show(alloc, &[], &[]).is_err() {
+        return Err(RunFault::Memory);
+    }
+    let has_fault = talk(setting, reader, writer, teller, tended)?;
     let is_saved = keep(files, alloc, teller, tended, &options);
     Ok(Ending {
         is_kept: true,

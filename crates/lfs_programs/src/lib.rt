@@ -6,6 +6,7 @@ mod filed;
 mod filming;
 mod journal;
 pub mod options;
+mod over_log;
 mod script;
 pub mod server;
 pub mod shell;

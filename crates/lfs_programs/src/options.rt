@@ -7,6 +7,7 @@ ghost use Rattle.lfs_command.specs.Ranges.{IsBetween};
 ghost use Rattle.lfs_programs.specs.Ranges.{IsInRange};
 
 use clap::{Arg, ArgAction, ArgMatches, Command, Error};
+use lfs_command::flags::SERIALS;
 use lfs_command::numbers::NumberOption;
 use lfs_command::refusing::{self, wrong_value};
 use lfs_live::framing::Framing;
@@ -78,8 +79,8 @@ const VERSION: &str = "1.0";
 /// The option of `lfs_shell` that takes the file of an image.
 const IMAGE: &str = "image";
 
-/// The option of `lfs_shell` for summaries with serials.
-const SERIALS: &str = "serials";
+/// The option of `lfs_shell` for a store that refuses what would pass its share of the volume.
+const SHARE: &str = "share";
 
 /// The option of `lfs_shell` that takes the file of a film.
 const FILM: &str = "film";
@@ -178,6 +179,8 @@ pub struct ShellOptions<'a> {
     pub image: Option<&'a str>,
     /// Whether the summaries of a fresh volume have serials, so that it can be found again from its blocks alone.
     pub serials: bool,
+    /// Whether the files may take no more than a share of the volume, so that cleaning always makes room again.
+    pub shares: bool,
     /// Whether the status is 1 where a line has a fault.
     pub strict: bool,
     /// How the answers are framed.
@@ -213,7 +216,8 @@ pub fn shell_options_of<'a, S: AsStr>(
                 journal_out,
                 script: matches.get_str(SCRIPT),
                 image: matches.get_str(IMAGE),
-                serials: matches.get_flag(SERIALS),
+                serials: matches.get_flag(SERIALS.name),
+                shares: matches.get_flag(SHARE),
                 strict: matches.get_flag(STRICT),
                 framing: framing_in(&matches),
             })
@@ -292,7 +296,8 @@ fn shell_command<'a>(alloc: Global) -> Result<Command<'a>, AllocError> {
         .arg(SHELL_JOURNAL.arg(alloc))?
         .arg(journal_out(alloc))?
         .arg(image(alloc))?
-        .arg(serials(alloc))?
+        .arg(SERIALS.arg(alloc))?
+        .arg(share(alloc))?
         .arg(clean(alloc))?
         .arg(film(alloc))?
         .arg(strict(alloc))?
@@ -333,13 +338,13 @@ fn image<'a>(alloc: Global) -> Arg<'a> {
         )
 }
 
-/// The option for serials.
-fn serials<'a>(alloc: Global) -> Arg<'a> {
-    Arg::new(alloc, SERIALS)
-        .long(SERIALS)
+/// The option for a share.
+fn share<'a>(alloc: Global) -> Arg<'a> {
+    Arg::new(alloc, SHARE)
+        .long(SHARE)
         .action(ArgAction::SetTrue)
         .help(
-            "Gives each summary of a fresh volume a serial, by which lfs_check --recover finds the volume in its blocks",
+            "Refuses what would take more than a share of the volume, so that cleaning always makes room for all else",
         )
 }
 

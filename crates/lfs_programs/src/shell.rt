@@ -1,18 +1,21 @@
 //! `lfs_shell`: a line is read, from standard input or from a file, and answered on standard output before the next is read.
 
 ghost use Rattle.std.specs.Prelude.{◌≡◌, false, true, IfErr, IfOk, IsSome, MatchResult, is_some};
-ghost use Rattle.clap.specs.Values.{kind_of};
+ghost use Rattle.clap.specs.Values.{kind_of as error_kind};
 ghost use Rattle.lfs_command.specs.Ends.{EndsUnasked};
 ghost use Rattle.lfs_programs.specs.Ranges.{IsInRange};
 ghost use Rattle.lfs_audit.specs.declared.fault.RunFault.TheVariants.{Read as Failed};
 ghost use Rattle.lfs_live.specs.Faults.{IsTalkFault};
-ghost use Rattle.lfs_programs.specs.Volumes.{IsBegun};
+ghost use Rattle.lfs_live.specs.Talkers.{texts_of};
+ghost use Rattle.lfs_programs.specs.Volumes.{IsBegun, asked_kind, kind_of};
 ghost use Rattle.lfs_programs.specs.Talks.{EndsShell, EndsTalk, HasTalked, HasTalkedSoFar, IsShellEnd};
+ghost use Rattle.lfs_volume.specs.Cleanings.{cleaner_of};
 
 use crate::fault::{OpenFault, ShellFault};
 use crate::filming::{Heard, Means, NAME, Outset, finish, hear};
 use crate::journal::make_journal;
 use crate::options::{ShellOptions, shell_not_utf8, shell_options_of};
+use crate::over_log::OverLog;
 use crate::script::open_script;
 use crate::volume::begin;
 use clap::Error;
@@ -21,6 +24,7 @@ use lfs_audit::tell::{end, tell};
 use lfs_command::refusing::refuse;
 use lfs_command::words::{NoWords, words};
 use lfs_logstore::LogStore;
+use lfs_share::SharedStore;
 use lfs_volume::volume::Volume;
 use std::alloc::{AllocError, Global};
 use std::env::Env;
@@ -85,7 +89,7 @@ where
         (R.remaining stdin.old) (W.contents stdout.old) (W.contents stdout.new)
         result stdin.old stdin.new stdout.old stdout.new stderr.old stderr.new) }
     ensures not_run { IfErr asked.entry (λ error. (stdin.new ≡ stdin.old)
-        × EndsUnasked (kind_of error) result stdout.old stdout.new stderr.old stderr.new) }
+        × EndsUnasked (error_kind error) result stdout.old stdout.new stderr.old stderr.new) }
 {
     match asked {
         Ok(options) => {
@@ -121,38 +125,71 @@ where
     }
 }
 
-/// Answers the lines of a reader as was asked, and gives the status with which the program ends.
+/// Answers the lines of a reader as was asked, over the kind of store that was asked for, and gives the status with which the
+/// program ends.
 fn talk_over<F, R, W, D>(means: &Means<'_, F>, reader: &mut R, stdout: &mut W, stderr: &mut D) -> u8
 where
     F: Files,
     R: Read,
     W: Write,
     D: Write,
-    ensures { EndsTalk F.File.contents means.now.options
+    ensures { EndsTalk F.File.contents (asked_kind F.File.contents means.now.options.shares)
+        means.now.options
         (R.remaining reader.old) (W.contents stdout.old) (W.contents stdout.new)
         result reader.old reader.new stdout.old stdout.new stderr.old stderr.new }
 {
-    match begin(means.files, means.alloc, &means.options) {
+    if means.options.shares {
+        talk_in::<SharedStore, F, R, W, D>(means, reader, stdout, stderr)
+    } else {
+        talk_in::<LogStore, F, R, W, D>(means, reader, stdout, stderr)
+    }
+}
+
+/// The same over a kind of store.
+fn talk_in<S, F, R, W, D>(
+    means: &Means<'_, F>,
+    reader: &mut R,
+    stdout: &mut W,
+    stderr: &mut D,
+) -> u8
+where
+    S: OverLog + Drop,
+    F: Files,
+    R: Read,
+    W: Write,
+    D: Write,
+    ensures { let kind = kind_of F.File.contents
+        (cleaner_of S.state S.is_settled S.made S.cleaner)
+        (texts_of S.map_text S.segment_text S.space_text) S.checked S.stand in
+        EndsTalk F.File.contents kind means.now.options
+        (R.remaining reader.old) (W.contents stdout.old) (W.contents stdout.new)
+        result reader.old reader.new stdout.old stdout.new stderr.old stderr.new }
+{
+    match begin::<S, F>(means.files, means.alloc, &means.options) {
         Ok(volume) => talk_on(means, volume, reader, stdout, stderr),
         Err(fault) => end_talk(stderr, Err(fault)),
     }
 }
 
 /// The same on a volume.
-fn talk_on<F, R, W, D>(
+fn talk_on<S, F, R, W, D>(
     means: &Means<'_, F>,
-    volume: Volume<LogStore>,
+    volume: Volume<S>,
     reader: &mut R,
     stdout: &mut W,
     stderr: &mut D,
 ) -> u8
 where
+    S: OverLog + Drop,
     F: Files,
     R: Read,
     W: Write,
     D: Write,
-    requires { IsBegun means.now.options volume }
-    ensures { EndsTalk F.File.contents means.now.options
+    requires { IsBegun S.state S.stand means.now.options volume }
+    ensures { let kind = kind_of F.File.contents
+        (cleaner_of S.state S.is_settled S.made S.cleaner)
+        (texts_of S.map_text S.segment_text S.space_text) S.checked S.stand in
+        EndsTalk F.File.contents kind means.now.options
         (R.remaining reader.old) (W.contents stdout.old) (W.contents stdout.new)
         result reader.old reader.new stdout.old stdout.new stderr.old stderr.new }
 {
@@ -204,16 +241,19 @@ fn end_talk<D: Write>(stderr: &mut D, outcome: Result<(), ShellFault>) -> u8
 /// # Errors
 ///
 /// The talk's fault; `Memory` where there is none for the pieces.
-fn run<F: Files, R: Read, W: Write, D: Write>(
+fn run<S: OverLog + Drop, F: Files, R: Read, W: Write, D: Write>(
     means: &Means<'_, F>,
-    outset: Outset<F::File>,
+    outset: Outset<S, F::File>,
     reader: &mut R,
     stdout: &mut W,
     stderr: &mut D,
 ) -> Result<Heard, RunFault>
-    requires begun { IsBegun means.now.options outset.volume }
+    requires begun { IsBegun S.state S.stand means.now.options outset.volume }
     requires filed { is_some outset.journal ≡ is_some means.now.options.journal_out }
-    ensures talked { IfOk result (λ heard. HasTalked F.File.contents means.now.options heard.ending
+    ensures talked { let kind = kind_of F.File.contents
+        (cleaner_of S.state S.is_settled S.made S.cleaner)
+        (texts_of S.map_text S.segment_text S.space_text) S.checked S.stand in
+        IfOk result (λ heard. HasTalked F.File.contents kind means.now.options heard.ending
         (R.remaining reader.old) (W.contents stdout.old) (W.contents stdout.new)) }
     ensures silent { IfOk result (λ heard. heard.ending.is_kept ≡ true
         → heard.ending.is_saved ≡ true → stderr.new ≡ stderr.old) }
@@ -221,7 +261,11 @@ fn run<F: Files, R: Read, W: Write, D: Write>(
         → IsSome means.now.options.journal_out) }
     ensures saved { IfOk result (λ heard. heard.ending.is_saved ≡ false
         → IsSome means.now.options.image) }
-    ensures so_far { IfErr result (λ fault. fault ≡ Failed → HasTalkedSoFar F.File.contents means.now.options
+    ensures so_far { let kind = kind_of F.File.contents
+        (cleaner_of S.state S.is_settled S.made S.cleaner)
+        (texts_of S.map_text S.segment_text S.space_text) S.checked S.stand in
+        IfErr result (λ fault. fault ≡ Failed
+        → HasTalkedSoFar F.File.contents kind means.now.options
         (R.remaining reader.old) (W.contents stdout.old) (W.contents stdout.new)) }
     ensures fault { IfErr result IsTalkFault }
 {

@@ -8,6 +8,7 @@ ghost use Rattle.lfs_programs.specs.Volumes.{HasSaved, IsBegun, IsFresh, IsUnbeg
 use crate::fault::ShellFault;
 use crate::filming::NAME;
 use crate::options::ShellOptions;
+use crate::over_log::OverLog;
 use lfs_audit::fault::RunFault;
 use lfs_checking::fault::KeepFault;
 use lfs_checking::fresh::fresh_store;
@@ -28,14 +29,15 @@ use std::rt::Files;
 ///
 /// # Errors
 ///
-/// `Talk` with a fault of the format, or `Memory`; `Image` of a file that can't be read, or is the image of no volume.
-pub(crate) fn begin<F: Files>(
+/// `Talk` with a fault of the format, or `Memory`; `Image` of a file that can't be read, or is the image of no volume;
+/// `PastShare` of one whose volume isn't within the share that is asked for.
+pub(crate) fn begin<S: OverLog + Drop, F: Files>(
     files: &F,
     alloc: Global,
     options: &ShellOptions<'_>,
-) -> Result<Volume<LogStore>, ShellFault>
-    ensures begun { IfOk result (IsBegun options.now) }
-    ensures fault { IfErr result (IsUnbegun options.now) }
+) -> Result<Volume<S>, ShellFault>
+    ensures begun { IfOk result (IsBegun S.state S.stand options.now) }
+    ensures fault { IfErr result (IsUnbegun S.stand.refuses options.now) }
 {
     let Some(path) = options.image else {
         return fresh(alloc, options);
@@ -48,9 +50,12 @@ pub(crate) fn begin<F: Files>(
 }
 
 /// A fresh volume.
-fn fresh(alloc: Global, options: &ShellOptions<'_>) -> Result<Volume<LogStore>, ShellFault>
-    ensures begun { IfOk result (IsBegun options.now) }
-    ensures fault { IfErr result (IsUnbegun options.now) }
+fn fresh<S: OverLog + Drop>(
+    alloc: Global,
+    options: &ShellOptions<'_>,
+) -> Result<Volume<S>, ShellFault>
+    ensures begun { IfOk result (IsBegun S.state S.stand options.now) }
+    ensures fault { IfErr result (IsUnbegun S.stand.refuses options.now) }
 {
     match laid_out(alloc, options) {
         Ok(volume) => Ok(volume),
@@ -59,28 +64,42 @@ fn fresh(alloc: Global, options: &ShellOptions<'_>) -> Result<Volume<LogStore>, 
 }
 
 /// A volume over a store that is laid out anew, whose summaries have serials where they are asked for.
-fn laid_out(alloc: Global, options: &ShellOptions<'_>) -> Result<Volume<LogStore>, FormatFault>
-    ensures begun { IfOk result (IsFresh options.now) }
+fn laid_out<S: OverLog + Drop>(
+    alloc: Global,
+    options: &ShellOptions<'_>,
+) -> Result<Volume<S>, FormatFault>
+    ensures within { IfOk result (λ volume. S.stand.within volume.store) }
+    ensures begun { IfOk result (IsFresh S.state S.stand options.now) }
     ensures fault { IfErr result (IsFormatFault
         options.now.params.segments options.now.params.inodes options.now.params.frames) }
 {
     let store = fresh_store(alloc, options.params, options.serials)?;
+    let Some(store) = S::over_log(store) else {
+        unreachable!()
+    };
     let volume = Volume::new(alloc, store, options.params.journal)?;
     Ok(volume)
 }
 
 /// A volume over the store of an image.
-fn over(
+///
+/// # Errors
+///
+/// `PastShare` where it isn't within the share that is asked for; `Talk` with `Memory`.
+fn over<S: OverLog + Drop>(
     alloc: Global,
     store: LogStore,
     level: Level,
     options: &ShellOptions<'_>,
-) -> Result<Volume<LogStore>, ShellFault>
+) -> Result<Volume<S>, ShellFault>
     requires image { IsSome options.now.image }
     requires loaded { IsLoaded options.now.params.frames store level }
-    ensures begun { IfOk result (IsBegun options.now) }
-    ensures fault { IfErr result (IsUnbegun options.now) }
+    ensures begun { IfOk result (IsBegun S.state S.stand options.now) }
+    ensures fault { IfErr result (IsUnbegun S.stand.refuses options.now) }
 {
+    let Some(store) = S::over_log(store) else {
+        return Err(ShellFault::PastShare);
+    };
     match Volume::over(alloc, store, level, options.params.journal) {
         Ok(volume) => Ok(volume),
         Err(AllocError) => Err(ShellFault::Talk(RunFault::Memory)),
@@ -88,15 +107,15 @@ fn over(
 }
 
 /// Keeps the volume that a talk left in the image's file, where one is asked for. Whether it is kept there; why not is told.
-pub(crate) fn keep<F: Files, J: JournalSink + Drop, V: Drop, D: Write>(
+pub(crate) fn keep<S: OverLog + Drop, F: Files, J: JournalSink + Drop, V: Drop, D: Write>(
     files: &F,
     alloc: Global,
     teller: &mut D,
-    tended: &mut Tended<LogStore, J, V>,
+    tended: &mut Tended<S, J, V>,
     options: &ShellOptions<'_>,
 ) -> bool
     ensures saved { result ≡ true
-        → IfSome options.now.image (λ _. HasSaved F.File.contents tended.old.volume) }
+        → IfSome options.now.image (λ _. HasSaved F.File.contents S.state tended.old.volume) }
     ensures silent { result ≡ true → teller.new ≡ teller.old }
     ensures asked { result ≡ false → IsSome options.now.image }
     ensures same { tended.new ≡ record tended.old { volume = tended.new.volume } }
@@ -114,17 +133,18 @@ pub(crate) fn keep<F: Files, J: JournalSink + Drop, V: Drop, D: Write>(
 }
 
 /// Writes what waits, and saves the volume in a file.
-fn save<F: Files, J: JournalSink + Drop, V: Drop>(
+fn save<S: OverLog + Drop, F: Files, J: JournalSink + Drop, V: Drop>(
     files: &F,
     alloc: Global,
-    tended: &mut Tended<LogStore, J, V>,
+    tended: &mut Tended<S, J, V>,
     path: &str,
 ) -> Result<(), KeepFault>
-    ensures saved { OnOk result (HasSaved F.File.contents tended.old.volume) }
+    ensures saved { OnOk result (HasSaved F.File.contents S.state tended.old.volume) }
     ensures same { tended.new ≡ record tended.old { volume = tended.new.volume } }
 {
     if !tended.settle()? {
         return Err(KeepFault::Save);
     }
-    save_file(files, alloc, tended.store(), tended.level(), path)
+    let level = tended.level();
+    save_file(files, alloc, tended.store().log_store(), level, path)
 }

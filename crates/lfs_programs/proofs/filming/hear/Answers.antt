@@ -7,7 +7,7 @@ pub returns-in_err-ending-clause-so_far : goal.returns-in_err-ending-clause-so_f
 returns-in_err-ending-clause-so_far g c =
     let exit = err_from_is_err_and c.from_residual.result c.from_residual.ensures.1 in
     rw (exit.1, exit.2)
-    (λ is. talked_so_far g.F.File.Write.contents _ c.args.means.now.options false c.args.outset.volume _ _ c.hear_over.new.tended
+    (λ is. talked_so_far g.F.File.Write.contents _ _ c.args.means.now.options false c.args.outset.volume _ _ c.hear_over.new.tended
     _ (g.R.Read.remaining c.hear_over.new.reader) _ _
     (sym (ap is_some c.in_default.is) ∙ c.requires.filed) c.new-tended.ensures c.requires.begun
     (c.in_err-ending.ensures.so_far is))
@@ -19,7 +19,7 @@ returns-in_err-ending-clause-fault g c =
 
 pub returns-in_default-clause-talked : goal.returns-in_default-clause-talked
 returns-in_default-clause-talked g c =
-    talked_alone g.F.File.Write.contents _ c.args.means.now.options
+    talked_alone g.F.File.Write.contents _ _ c.args.means.now.options
     c.in_ok-ending.ending c.args.outset.volume _ _ c.hear_over.new.tended
     _ (g.R.Read.remaining c.hear_over.new.reader) _ _
     (sym c.requires.filed ∙ ap is_some c.in_default.is) c.new-tended.ensures c.requires.begun
@@ -36,7 +36,7 @@ returns-in_err-ending-2-clause-so_far g c =
     let residual = c.from_residual-in_err-ending-2 in
     let exit = err_from_is_err_and residual.result residual.ensures.1 in
     rw (exit.1, exit.2)
-    (λ is. talked_so_far g.F.File.Write.contents _ c.args.means.now.options true c.args.outset.volume _ _ c.hear_over-2.new.tended
+    (λ is. talked_so_far g.F.File.Write.contents _ _ c.args.means.now.options true c.args.outset.volume _ _ c.hear_over-2.new.tended
     _ (g.R.Read.remaining c.hear_over-2.new.reader) _ _
     (sym (ap is_some c.in-Some.is) ∙ c.requires.filed) c.new-tended-2.ensures c.requires.begun
     (c.in_err-ending-2.ensures.so_far is))
@@ -49,7 +49,7 @@ returns-in_err-ending-2-clause-fault g c =
 
 pub returns-clause-talked : goal.returns-clause-talked
 returns-clause-talked g c =
-    talked_filed g.F.File.Write.contents _ (λ k. k.writer) c.args.means.now.options
+    talked_filed g.F.File.Write.contents _ _ (λ k. k.writer) c.args.means.now.options
     c.into_witnesses-after-2.result.is_open c.in_ok-ending-2.ending c.args.outset.volume c.new.result _
     c.hear_over-2.new.tended _ (g.R.Read.remaining c.hear_over-2.new.reader) _ _
     (sym c.requires.filed ∙ ap is_some c.in-Some.is) (λ k. refl) c.new.ensures.first

@@ -1,23 +1,27 @@
-use Rattle.std.proofs.Common.{◌≡◌, ◌∙◌, ap, refl, subst, sym}
-use Rattle.lfs_parts.specs.declared.parts.Parts.{Parts}
-use Rattle.lfs_logstore.specs.States.{state_of}
-use Rattle.lfs_volume.specs.Seen.{Seen}
+use Rattle.std.proofs.Common.{refl}
+use Rattle.lfs_types.specs.declared.level.Level.TheVariants.{Insecure}
 use Rattle.lfs_volume.proofs.OpeningLemmas.{shows_opening_state}
-use Rattle.lfs_checking.specs.Files.{IsFreshStore}
+use Rattle.lfs_share.proofs.OpeningLemmas.{enough, no_fault}
+use Rattle.lfs_programs.proofs.StandLemmas.{fresh_over, opening_over, within_over}
 use Rattle.lfs_programs.proofs.volume.laid_out.Goals as goal
 
+pub unreachable-requires : goal.unreachable-requires
+unreachable-requires g c =
+    let p = c.args.options.now.params in
+    let made = c.in_ok-store.ensures in
+    g.met.S.OverLog.opens p.segments p.inodes c.in_ok-store.store made.opening
+    (enough p.segments p.inodes p.frames (λ few. no_fault _ _ (made.too_few.1 few))) c.in_default.ensures.none
+
 pub new-requires : goal.new-requires
-new-requires c = shows_opening_state _ _ c.in_ok-store.ensures.opening refl
+new-requires g c = opening_over g.S.FileStore.state g.S.OverLog.stand c.in-Some.store c.in_ok-store.store
+    (g.met.S.OverLog.contains c.in-Some.store) c.in-Some.ensures.some
+    (shows_opening_state _ _ c.in_ok-store.ensures.opening refl)
 
 pub returns-clause-begun : goal.returns-clause-begun
-returns-clause-begun c =
-    let o = c.args.options.now in
-    let is = c.in_ok-volume.ensures.fresh in
-    record {
-      opening = ap (λ (v : Seen Parts). state_of v.store) is ∙ c.in_ok-store.ensures.opening;
-      laid_out = subst (λ (p : Parts). IsFreshStore o.serials o.params p) (sym (ap (λ (v : Seen Parts). v.store) is))
-          c.in_ok-store.ensures.laid_out;
-      empty = ap (λ (v : Seen Parts). v.journal) is;
-      begins = c.in_ok-volume.ensures.opening;
-      room = ap (λ (v : Seen Parts). v.limit) is;
-    }
+returns-clause-begun g c = fresh_over g.S.FileStore.state g.S.OverLog.stand c.args.options.now c.in_ok-store.store
+    c.in-Some.store c.in_ok-volume.volume c.in-Some.ensures.some c.in_ok-store.ensures.opening
+    c.in_ok-store.ensures.laid_out c.in_ok-volume.ensures.fresh c.in_ok-volume.ensures.opening
+
+pub returns-clause-within : goal.returns-clause-within
+returns-clause-within g c = within_over g.S.OverLog.stand c.in-Some.store c.in_ok-volume.volume Insecure _
+    c.in_ok-volume.ensures.fresh c.in-Some.ensures.within

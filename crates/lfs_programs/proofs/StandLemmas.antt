@@ -1,0 +1,102 @@
+-- What a store over a log store is kept as, and how a volume over it begins.
+use Rattle.std.proofs.Common.{◌≡◌, ℕ, ◌∙◌, ap, sym, subst, [], Result, Ok, Err, OnOk, Option, List}
+use Rattle.lfs_types.specs.StoreStates.{StoreState}
+use Rattle.lfs_types.specs.Tree.{Content, World, opening_world}
+use Rattle.lfs_types.specs.declared.level.Level.{Level}
+use Rattle.lfs_types.specs.declared.level.Level.TheVariants.{Insecure}
+use Rattle.lfs_parts.specs.Store.{IsSettled}
+use Rattle.lfs_parts.specs.declared.parts.Parts.{Parts}
+use Rattle.lfs_logstore.specs.States.{opening_state, state_of}
+use Rattle.lfs_calls.specs.Content.{Shows}
+use Rattle.lfs_calls.specs.Volumes.{HasWorld, IsVolume}
+use Rattle.lfs_volume.specs.Journals.{AtPresent, Begins}
+use Rattle.lfs_volume.specs.Seen.{Seen}
+use Rattle.lfs_checking.specs.Files.{HasImage, IsFreshStore, IsLoaded}
+use Rattle.lfs_programs.specs.Stands.{Stand}
+use Rattle.lfs_programs.specs.Volumes.{HasSaved, IsFresh, IsOfImage}
+use Rattle.lfs_programs.specs.declared.options.ShellOptions.{ShellOptions}
+
+-- what follows of an outcome that is Ok
+pub on_ok : {A E : Type 0} (P Q : Type 0) (outcome : Result A E) → (P → Q) → OnOk outcome P → OnOk outcome Q
+on_ok P Q (Ok done) follows holds = follows holds
+on_ok P Q (Err fault) follows holds = tt
+
+-- a store that contains the same shows the same world
+same_volume : (s t : StoreState) (w : World) → s.content ≡ t.content → IsVolume s w → IsVolume t w
+same_volume s t w same v = record { shows = subst (λ (c : Content). Shows c w) same v.shows; tree = v.tree }
+
+-- a store contains what the log store contains of which it is made
+same_content : {S : Type 0} (state : S → StoreState) (stand : Stand S) (s : S) (log : Parts)
+    → (state s).content ≡ (state_of (stand.parts s)).content → stand.parts s ≡ log
+    → (state s).content ≡ (state_of log).content
+same_content state stand s log contains on = contains ∙ ap (λ (p : Parts). (state_of p).content) on
+
+-- and shows the world that it shows
+pub world_over : {S : Type 0} (state : S → StoreState) (stand : Stand S) (s : S) (log : Parts)
+    → (state s).content ≡ (state_of (stand.parts s)).content → stand.parts s ≡ log
+    → HasWorld (state_of log) → HasWorld (state s)
+world_over state stand s log contains on h =
+    (h.0, same_volume (state_of log) (state s) h.0 (sym (same_content state stand s log contains on)) h.1)
+
+pub opening_over : {S : Type 0} (state : S → StoreState) (stand : Stand S) (s : S) (log : Parts)
+    → (state s).content ≡ (state_of (stand.parts s)).content → stand.parts s ≡ log
+    → Shows (state_of log).content opening_world → Shows (state s).content opening_world
+opening_over state stand s log contains on shows =
+    subst (λ (c : Content). Shows c opening_world) (sym (same_content state stand s log contains on)) shows
+
+-- a volume over a store, at the beginning of its journal
+abbrev pub first_seen : {S : Type 0} → S → Level → ℕ → Seen S
+first_seen s level limit =
+    record { store = s; level = level; since = s; since_level = level; journal = []; limit = limit }
+
+-- a fresh one
+pub fresh_over : {S : Type 0} (state : S → StoreState) (stand : Stand S) (options : ShellOptions) (log : Parts) (s : S)
+    (v : Seen S) → stand.parts s ≡ log
+    → state_of log ≡ opening_state options.params.segments options.params.inodes
+    → IsFreshStore options.serials options.params log → v ≡ first_seen s Insecure options.params.journal
+    → Begins (state v.since) v.since_level opening_world → IsFresh state stand options v
+fresh_over {S} state stand options log s v on opening laid_out is begins =
+    let at : stand.parts v.store ≡ log = ap (λ (x : Seen S). stand.parts x.store) is ∙ on in
+    record {
+      opening = ap state_of at ∙ opening;
+      laid_out = subst (λ (p : Parts). IsFreshStore options.serials options.params p) (sym at) laid_out;
+      empty = ap (λ (x : Seen S). x.journal) is;
+      begins = begins;
+      room = ap (λ (x : Seen S). x.limit) is;
+    }
+
+pub within_over : {S : Type 0} (stand : Stand S) (s : S) (v : Seen S) (level : Level) (limit : ℕ)
+    → v ≡ first_seen s level limit → stand.within s → stand.within v.store
+within_over {S} stand s v level limit is within =
+    subst (λ (x : S). stand.within x) (sym (ap (λ (y : Seen S). y.store) is)) within
+
+-- one of an image
+pub image_over : {S : Type 0} (stand : Stand S) (options : ShellOptions) (log : Parts) (s : S) (level : Level)
+    (v : Seen S) → stand.parts s ≡ log → IsLoaded options.params.frames log level
+    → v ≡ first_seen s level options.params.journal → IsOfImage stand options v
+image_over {S} stand options log s level v on loaded is =
+    let at : stand.parts v.store ≡ log = ap (λ (x : Seen S). stand.parts x.store) is ∙ on in
+    let leveled : v.level ≡ level = ap (λ (x : Seen S). x.level) is in
+    record {
+      loaded = subst (λ (l : Level). IsLoaded options.params.frames (stand.parts v.store) l) (sym leveled)
+          (subst (λ (p : Parts). IsLoaded options.params.frames p level) (sym at) loaded);
+      empty = ap (λ (x : Seen S). x.journal) is;
+      room = ap (λ (x : Seen S). x.limit) is;
+      since = ap (λ (x : Seen S). x.since) is ∙ sym (ap (λ (x : Seen S). x.store) is);
+      since_level = ap (λ (x : Seen S). x.since_level) is ∙ sym leveled;
+    }
+
+-- what a talk left is kept where a file got the image of its log store
+pub saved_below : {F S : Type 0} (contents : F → Option (List ℕ)) (state : S → StoreState) (stand : Stand S)
+    (left : Seen S) (s : S) (log : Parts) (level : Level) → log ≡ stand.parts s
+    → (state s).content ≡ (state_of (stand.parts s)).content → IsSettled (stand.parts s)
+    → AtPresent state left (Begins (state s) level) → HasImage contents log.log level → HasSaved contents state left
+saved_below contents state stand left s log level is contains settled shown image = record {
+  store = stand.parts s;
+  level = level;
+  settled = settled;
+  shown = λ from begun.
+      let b = shown from begun in
+      record { shown = same_volume (state s) (state_of (stand.parts s)) _ contains b.shown; at_level = b.at_level };
+  image = subst (λ (p : Parts). HasImage contents p.log level) is image;
+}
