@@ -2,6 +2,7 @@
 //! frames.
 
 use lfs_programs::shell::lfs_shell;
+use std::alloc::Global;
 use std::env::{Env, FillError};
 use std::fs;
 use std::rt::Files;
@@ -289,6 +290,149 @@ fn is_framed_where_asked<R: Files + AllocGlobal>(rt: &R) -> bool {
         && quits.out.as_slice() == QUIT_IN_FRAMES.as_bytes()
 }
 
+/// Words that ask for a share. It has 36 units for each of the six segments but three, 108. A file takes one for its record
+/// and four for each block, an indirect one too: the root with names takes 5.
+const SHARED: [&str; 4] = ["lfs_shell", "--segments=6", "--inodes=16", "--share"];
+
+/// Lines of the superuser and of a user. Behind each stands what files take then, and what the refused ones would take. A hole
+/// counts as its blocks do, and from the thirteenth on there is an indirect block.
+const SHARES: [&str; 20] = [
+    "mkdir /d 0777", // 5 + 1
+    "create /a 0644", // 5 + 1 + 1
+    "write /a at 11775 61", // 5 + 1 + 1 + 4 * (23 + 1) are 103
+    "as 7 7",
+    "create /d/b 0644", // 103 + 5 are 108, for the names of /d take a block
+    "create /d/c 0644", // 109
+    "write /d/b at 0 62", // 112
+    "mkdir /d/e 0755", // 109
+    "as 0 0",
+    "write /a at 11776 61", // 112: nor may the superuser
+    "write /a at 0 63", // 108
+    "chown /a 7 7", // 108
+    "as 7 7",
+    "chmod /a 0600", // 108
+    "rename /d/b /d/f", // 108
+    "length /a 11264", // 104: one block less
+    "write /d/f at 0 62", // 108
+    "write /d/f at 511 62", // 108, in the same block
+    "write /d/f at 512 62", // 112
+    "unlink /d/f", // 103
+];
+
+/// What is told of them.
+const IN_SHARE: &str = "0 ok
+0 ok
+0 ok
+0 ok
+0 refused NoSpace
+0 refused NoSpace
+0 refused NoSpace
+0 refused NoSpace
+0 ok
+0 ok
+0 ok
+0 ok
+0 ok
+0 ok
+0 ok
+0 refused NoSpace
+0 ok
+entries 17
+served 12
+denied 0
+refused 5
+cleaner 0
+";
+
+/// Whether calls are refused `NoSpace` exactly where they would pass the share.
+fn is_refused_past_share<R: Files + AllocGlobal>(rt: &R) -> anyhow::Result<bool> {
+    let ended = run(rt, &SHARED, joined(rt, &SHARES)?.as_str());
+    Ok(ended.is_done() && ended.out.as_slice() == IN_SHARE.as_bytes())
+}
+
+/// How many blocks the only file may have there: 5 + 1 + 4 * (24 + 1) are 106, and with a block more 110.
+const MOST: u32 = 24;
+
+/// Appends lines that put a byte into each of so many blocks of a file, each written at once.
+fn push_writes(text: &mut String, alloc: Global, name: &str, count: u32) -> anyhow::Result<()> {
+    for block in 0..count {
+        let at = 512 * block;
+        text.push_str(format!(in alloc; "write {name} at {at} 61\nsync\n")?.as_str())?;
+    }
+    Ok(())
+}
+
+/// Lines that fill a volume to its share, overwrite all, pass it, have a pass made, cut the file and remove it, and do so again.
+fn fills<R: AllocGlobal>(rt: &R) -> anyhow::Result<String> {
+    let alloc = rt.alloc();
+    let mut text = String::new(alloc);
+    for name in ["/a", "/b"] {
+        text.push_str(format!(in alloc; "create {name} 0644\n")?.as_str())?;
+        for _ in 0..4 {
+            push_writes(&mut text, alloc, name, MOST)?;
+        }
+        let past = 512 * MOST;
+        let more = format!(in alloc; "write {name} at {past} 61\n.space\npass\n.space\n")?;
+        text.push_str(more.as_str())?;
+        let less = format!(in alloc;
+            "write {name} at {past} 61\nlength {name} 0\nunlink {name}\n"
+        )?;
+        text.push_str(less.as_str())?;
+    }
+    Ok(text)
+}
+
+/// Whether a volume that is filled to its share takes all that adds nothing: of all lines only the four that would pass it are
+/// refused, two before a pass and two behind it; and a pass leaves all clean but the segment that is written.
+fn does_a_full_share_go_on<R: Files + AllocGlobal>(rt: &R) -> anyhow::Result<bool> {
+    let ended = run(rt, &SHARED, fills(rt)?.as_str());
+    let text = str::from_utf8(ended.out.as_slice()).unwrap_or_default();
+    // The 24 blocks, the indirect one and that of names are 26, with two records 13,568 bytes.
+    let emptied = "\nsegments 5 clean of 6\nbytes 13568 live\n";
+    let passes = text.split(emptied).count();
+    Ok(ended.is_done() && text.contains("\ndenied 0\nrefused 4\n") && passes == 3)
+}
+
+/// Words that ask for an image and for a share.
+const SHARED_IMAGE: [&str; 5] = [
+    "lfs_shell",
+    "--segments=6",
+    "--inodes=16",
+    "--share",
+    "--image=volume.img",
+];
+
+/// Whether the image of a volume that is within its share is loaded with a share, and goes on so.
+fn does_share_go_on_from_an_image<R: Files + AllocGlobal>(rt: &R) -> bool {
+    let _ = fs::remove_file(rt, IMAGE);
+    let first = run(rt, &SHARED_IMAGE, "create /a 0644\nwrite /a at 12287 61\n");
+    let then = run(
+        rt,
+        &SHARED_IMAGE,
+        "write /a at 12288 61\nlength /a 11776\nstat /a\n",
+    );
+    let _ = fs::remove_file(rt, IMAGE);
+    first.is_done()
+        && first.answers() == "0 ok\n0 ok\n"
+        && then.is_done()
+        && then.answers() == "0 refused NoSpace\n0 ok\n0 stat 4 file 0 0 0644 00000000 11776\n"
+}
+
+/// Whether the image of a volume that takes more than a share, by one block, is not loaded with one, which is told, and is left.
+fn is_image_past_its_share_refused<R: Files + AllocGlobal>(rt: &R) -> bool {
+    let _ = fs::remove_file(rt, IMAGE);
+    let first = run(rt, &SMALL, "create /a 0644\nwrite /a at 12288 61\n");
+    let refused = run(rt, &SHARED_IMAGE, "stat /\n");
+    let then = run(rt, &SMALL, "stat /a\n");
+    let _ = fs::remove_file(rt, IMAGE);
+    first.is_done()
+        && refused.status == 1
+        && refused.out.is_empty()
+        && refused.err.as_slice() == b"lfs_shell: image past its share\n".as_slice()
+        && then.is_done()
+        && then.answers() == "0 stat 4 file 0 0 0644 00000000 12289\n"
+}
+
 /// Tells of each of these whether it is so. Whether all are.
 pub fn is_as_told<R: Files + AllocGlobal + Print>(rt: &R) -> anyhow::Result<bool> {
     let image = is_unbroken_by_images(rt)?;
@@ -303,5 +447,11 @@ pub fn is_as_told<R: Files + AllocGlobal + Print>(rt: &R) -> anyhow::Result<bool
     println!(rt; "lfs_shell --strict: by a line's fault, {strict}")?;
     let framed = is_framed_where_asked(rt);
     println!(rt; "lfs_shell --framed: each answer behind the count of its lines, {framed}")?;
-    Ok(image && saved && clean && film && strict && framed)
+    let share = is_refused_past_share(rt)?;
+    println!(rt; "lfs_shell --share: refused past the share alone, {share}")?;
+    let full = does_a_full_share_go_on(rt)?;
+    println!(rt; "lfs_shell --share: full, and goes on, {full}")?;
+    let loaded = does_share_go_on_from_an_image(rt) && is_image_past_its_share_refused(rt);
+    println!(rt; "lfs_shell --share --image: within the share alone, {loaded}")?;
+    Ok(image && saved && clean && film && strict && framed && share && full && loaded)
 }

@@ -62,7 +62,7 @@ fn clear<R: Files>(rt: &R) {
 }
 
 /// All options of `lfs_shell`.
-const ALL_OF_SHELL: [&str; 18] = [
+const ALL_OF_SHELL: [&str; 19] = [
     "lfs_shell",
     "--segments",
     "6",
@@ -76,6 +76,7 @@ const ALL_OF_SHELL: [&str; 18] = [
     JOURNAL,
     "--image",
     IMAGE,
+    "--share",
     "--clean",
     "--film=statuses.html",
     "--strict",
