@@ -1,7 +1,7 @@
 #!/usr/bin/env python3
 """Fills volumes by generated runs, and fails where one can't be emptied again.
 
-full-volumes.py PROGRAM [COUNT [SEED [SHAPE]]] [--segments N] [--climb TRIES] makes COUNT runs (by default 1,000) by a
+full-volumes.py PROGRAM [COUNT [SEED [SHAPE]]] [--segments N] [--climb TRIES] [--share] makes COUNT runs (by default 1,000) by a
 generator that SEED (by default 1) determines, of the shapes in turn, or of the one that is named. PROGRAM is a built
 `lfsd` or `lfs_shell`. A run has 6 to 12 segments, or N, and goes on until most calls are refused: files of one block or a
 few, also past the twelfth, are made and written, cut by a byte or a block, given other modes, removed, synced, with passes
@@ -17,6 +17,7 @@ A run that breaks one of these is wedged: its script is kept in a folder that is
 With `--climb` there are COUNT searches instead, of one who wants the volume full for good: from a sequence of steps he goes
 on to others, so many tries, behind which an administrator is refused no fewer calls, or as many and a round of passes gains
 no more blocks. What he leaves must be empty in three rounds, at once and behind ten passes. PROGRAM is `lfs_shell` then.
+With `--share` it is `lfs_shell`, too, whose volumes have a share.
 For each shape a line says how many runs there were, how many rounds they took, and how many were wedged.
 """
 import argparse
@@ -35,7 +36,6 @@ ROUNDS = 12
 # Most runs need no more, so these are tried first.
 FEW_ROUNDS = 3
 BLOCK = 512
-# As many blocks as a file here has: those of its record and of the single indirect block.
 # The most blocks of a file of a run: those that need no double indirect block.
 MOST_BLOCKS = 140
 DIRECT = 12
@@ -43,6 +43,8 @@ DIRECT = 12
 ROUND_BYTES = 40_000
 # The blocks of a segment behind its first summary.
 SEGMENT = 63
+# What PROGRAM is told besides the sizes of a run.
+OPTIONS = []
 
 
 class Run:
@@ -548,7 +550,7 @@ def filling(run):
 def printed_by(program, run, lines):
     """The lines that the program prints."""
     text = "\n".join(lines) + "\n"
-    done = subprocess.run([program, *run.arguments()], input=text.encode(), capture_output=True, timeout=SECONDS)
+    done = subprocess.run([program, *run.arguments(), *OPTIONS], input=text.encode(), capture_output=True, timeout=SECONDS)
     if done.returncode != 0:
         raise RuntimeError(f"status {done.returncode}: {done.stderr[:200]}")
     return done.stdout.decode().split("\n")
@@ -747,9 +749,11 @@ def main():
     parser.add_argument("seed", nargs="?", default="1")
     parser.add_argument("shape", nargs="?", choices=[it.__name__ for it in SHAPES])
     parser.add_argument("--climb", type=int, metavar="TRIES", help="COUNT hill climbs of so many tries, by one who wants it full")
+    parser.add_argument("--share", action="append_const", dest="options", const="--share", help="volumes that have a share")
     parser.add_argument("--segments", type=int, metavar="N", help="how many segments each run has; a hill climb by default 6")
     asked = parser.parse_args()
     program, count, seed = asked.program, asked.count, asked.seed
+    OPTIONS.extend(asked.options or [])
     if asked.climb is not None:
         climb(program, count, seed, asked.climb, asked.segments or 6)
     shapes = [it for it in SHAPES if asked.shape in (None, it.__name__)]
