@@ -353,9 +353,9 @@ fn is_refused_past_share<R: Files + AllocGlobal>(rt: &R) -> anyhow::Result<bool>
 /// How many blocks the only file may have there: 5 + 1 + 4 * (24 + 1) are 106, and with a block more 110.
 const MOST: u32 = 24;
 
-/// Appends lines that put a byte into each of so many blocks of a file, each written at once.
-fn push_writes(text: &mut String, alloc: Global, name: &str, count: u32) -> anyhow::Result<()> {
-    for block in 0..count {
+/// Appends lines that put a byte into each block that a file may have there, each written at once.
+fn push_writes(text: &mut String, alloc: Global, name: &str) -> anyhow::Result<()> {
+    for block in 0..MOST {
         let at = 512 * block;
         text.push_str(format!(in alloc; "write {name} at {at} 61\nsync\n")?.as_str())?;
     }
@@ -369,7 +369,7 @@ fn fills<R: AllocGlobal>(rt: &R) -> anyhow::Result<String> {
     for name in ["/a", "/b"] {
         text.push_str(format!(in alloc; "create {name} 0644\n")?.as_str())?;
         for _ in 0..4 {
-            push_writes(&mut text, alloc, name, MOST)?;
+            push_writes(&mut text, alloc, name)?;
         }
         let past = 512 * MOST;
         let more = format!(in alloc; "write {name} at {past} 61\n.space\npass\n.space\n")?;
