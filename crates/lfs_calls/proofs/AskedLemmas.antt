@@ -3,8 +3,7 @@
 -- Between the start of a call and its changes the store was only read, so its state is as it was (`as_old`), and what
 -- the changes make is the effect of the call, by the lemma that `leaves` is. By this the store's own contract on what
 -- it was asked reaches the caller of a volume; a call that changed the store twice would have no one list of changes.
-use Rattle.std.proofs.Common.{◌≡◌, List, [], ◌∷◌, Result, Ok, Err, refl, sym, subst, ◌∙◌}
-use Rattle.lfs_types.specs.Asking.{WasAsked}
+use Rattle.std.proofs.Common.{◌≡◌, List, [], ◌∷◌, Result, Ok, Err, refl, subst, ◌∙◌}
 use Rattle.lfs_types.specs.Caller.{Caller}
 use Rattle.lfs_types.specs.Changes.{applied}
 use Rattle.lfs_types.specs.Reserves.{reserve_of}

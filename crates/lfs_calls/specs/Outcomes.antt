@@ -1,5 +1,5 @@
 -- What a user's call may be answered over a store, with the cause of each refusal.
-use Rattle.std.specs.Prelude.{◌≡◌, ℕ, ◌≤◌, ◌==◌, List, Option, None, Some, if◌then◌else◌}
+use Rattle.std.specs.Prelude.{◌≡◌, ℕ, ◌==◌, List, Option, None, Some, if◌then◌else◌}
 use Rattle.lfs_types.specs.Caller.{Caller}
 use Rattle.lfs_types.specs.StoreStates.{MayLackSpace, StoreState}
 use Rattle.lfs_types.specs.Stored.{bytes_of}

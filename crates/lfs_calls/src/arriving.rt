@@ -4,7 +4,6 @@ ghost use Rattle.std.specs.Prelude.{◌≡◌, ◌≤◌, ◌<◌, None, Some, l
 ghost use Rattle.lfs_types.specs.declared.path.TheConstants.{PATH_MAX};
 ghost use Rattle.lfs_types.specs.Stored.{shown_attrs};
 ghost use Rattle.lfs_model.specs.Rules.{Judges, arriving, placing_tests};
-ghost use Rattle.lfs_model.specs.World.{IsChild};
 ghost use Rattle.lfs_calls.specs.Arrivals.{IsArrival, IsThere};
 ghost use Rattle.lfs_calls.specs.Volumes.{HasWorld, InWorld};
 

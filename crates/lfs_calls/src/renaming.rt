@@ -7,7 +7,7 @@ ghost use Rattle.lfs_types.specs.declared.block.TheConstants.{BLOCK_SIZE};
 ghost use Rattle.lfs_types.specs.Stored.{bytes_of, shown_attrs};
 ghost use Rattle.lfs_types.specs.Tree.{Content, World, root};
 ghost use Rattle.lfs_types.specs.declared.rule.Rule.TheVariants.{IsNotBeneathItself};
-ghost use Rattle.lfs_model.specs.Rules.{Judges, apart_test, arriving, first_failing, front, judged, last, moving_tests, position, reached, rule_table, visited};
+ghost use Rattle.lfs_model.specs.Rules.{Judges, apart_test, arriving, first_failing, judged, moving_tests, position, rule_table, visited};
 ghost use Rattle.lfs_calls.specs.Asked.{Asks, IsAsked, OnPlaced};
 ghost use Rattle.lfs_dirs.specs.Directory.{IsDirectoryBlock, number_in};
 ghost use Rattle.lfs_dirs.specs.Reading.{entries_of};
@@ -19,7 +19,6 @@ ghost use Rattle.lfs_model.specs.Walks.{is_on_way};
 ghost use Rattle.lfs_calls.specs.Makes.{IsBlockOf, with_block};
 ghost use Rattle.lfs_calls.specs.Renames.{ArePlaces, AreSwapped, CanSwap, GoesOver, GoesTo, GoesWith, HasNoRoom, IsMove, IsSwap, IsSwapIn, IsTarget, MovesOver, MovesTo, PlacedAt, PlacesRow, PutsRow, StaysInPlace, SwapsBlocks, WritesBlocks, name_left, target_number};
 ghost use Rattle.lfs_model.specs.Walks.{walked};
-ghost use Rattle.lfs_model.specs.World.{child};
 ghost use Rattle.lfs_calls.specs.Arrivals.{IsArrival};
 ghost use Rattle.lfs_calls.specs.Removes.{IsRemoval};
 

@@ -1,4 +1,4 @@
-use Rattle.std.proofs.Common.{List, [], ◌∷◌, ℕ, refl, subst}
+use Rattle.std.proofs.Common.{List, [], ◌∷◌, ℕ, refl}
 use Rattle.std.proofs.lemmas.Result.{IfOk-weaker}
 use Rattle.lfs_types.specs.Splicing.{resized}
 use Rattle.lfs_types.specs.declared.store.Change.TheVariants.{SetAttrs, SetLength}

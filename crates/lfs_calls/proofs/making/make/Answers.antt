@@ -5,7 +5,6 @@ use Rattle.lfs_types.specs.StoreStates.{StoreState, MayRefuse}
 use Rattle.lfs_types.specs.Stored.{bytes_of, IsUsedBelow, IsLeastFree}
 use Rattle.lfs_types.specs.declared.answer.Resource.TheVariants.{NoInodes, DirectoryFull}
 use Rattle.std.proofs.lemmas.Result.{err_from_is_err_and}
-use Rattle.lfs_model.specs.Effects.{effect}
 use Rattle.lfs_calls.proofs.AskedLemmas.{asked_refused, asked_served, on_change}
 use Rattle.lfs_calls.proofs.CallLemmas.{denied, lacking, refused_so, done_so}
 use Rattle.lfs_types.specs.Tree.{World, Content}

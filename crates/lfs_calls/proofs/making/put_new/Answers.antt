@@ -1,5 +1,4 @@
-use Rattle.std.proofs.Common.{[], ◌∷◌, refl, subst}
-use Rattle.lfs_types.specs.declared.store.Change.{Change}
+use Rattle.std.proofs.Common.{refl}
 use Rattle.lfs_calls.proofs.AskedLemmas.{asks_list}
 use Rattle.std.proofs.lemmas.Result.{IfOk-weaker}
 use Rattle.lfs_calls.proofs.MakeLemmas.{makes_file, can_make, grown_length}

@@ -11,7 +11,7 @@ use Rattle.lfs_calls.proofs.CallLemmas.{still}
 use Rattle.lfs_calls.proofs.MoveJudging.{front_count, move_barred, move_beneath, move_granted, move_not_granted}
 use Rattle.lfs_calls.proofs.MoveJudging.{not_there, target_free, target_taken, there_in}
 use Rattle.lfs_calls.proofs.renaming.judge_target.Goals as goal
-use Rattle.lfs_calls.proofs.renaming.judge_target.Goals.{After-component-at, In_ok-there, in-None, in-Some}
+use Rattle.lfs_calls.proofs.renaming.judge_target.Goals.{After-component-at, in-None, in-Some}
 
 -- what the judge gives back: what has the new name
 abbrev IsFound : Content → ℕ → Option ℕ → Target → Type 0
