@@ -10,7 +10,8 @@ use Rattle.lfs_model.specs.Rules.{front, last, reached}
 
 -- a directory that a path's names before the last lead to, as the store shows it, and the number that has the last name
 -- there
-pub record IsArrival (c : Content) (rows : Rows) (path : List (List ℕ)) (arrival : Arrival) : Type 0 where
+pub record IsArrival (c : Content) (rows : Rows) (path : List (List ℕ))
+    (arrival : Arrival) : Type 0 where
   pub some : 0 < length path
   pub object : reached rows root (front path) ≡ arrival.dir.number
   pub shown : Some arrival.dir.attrs ≡ shown_attrs c arrival.dir.number

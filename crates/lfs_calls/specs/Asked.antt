@@ -27,12 +27,14 @@ abbrev pub ComesOf : {F : Type 0} → (F → StoreState)
     → (F → List Change → Reserve → Result (Unit {0}) StoreRefusal → F → Type 0)
     → F → List Change → Reserve → Result (Unit {0}) StoreRefusal → F → Type 0
 ComesOf state made old [] by result new = (result ≡ Ok tt) × (state new ≡ state old)
-ComesOf state made old (change ∷ changes) by result new = WasAsked state made old (change ∷ changes) by result new
+ComesOf state made old (change ∷ changes) by result new =
+    WasAsked state made old (change ∷ changes) by result new
 
 -- on somebody's behalf a store was asked for changes that make a content of which P holds, and it came to this
-pub record Asks {F : Type 0} (state : F → StoreState) (made : F → List Change → Reserve → Result (Unit {0}) StoreRefusal
-    → F → Type 0)
-    (old : F) (by : Reserve) (P : Content → Type 0) (result : Result (Unit {0}) StoreRefusal) (new : F) : Type 0 where
+pub record Asks {F : Type 0} (state : F → StoreState)
+    (made : F → List Change → Reserve → Result (Unit {0}) StoreRefusal → F → Type 0) (old : F)
+    (by : Reserve) (P : Content → Type 0) (result : Result (Unit {0}) StoreRefusal)
+    (new : F) : Type 0 where
   pub changes : List Change
   pub came : ComesOf state made old changes by result new
   pub makes : P (applied changes (state old).content)
@@ -48,7 +50,8 @@ OnAsked (Refused resources.DirectoryFull) P = Unit {0}
 OnAsked (Refused resources.JournalFull) P = Unit {0}
 
 -- so where a row was to be put in its place
-abbrev pub OnPlaced : Result (Unit {0}) NotServed → (Result (Unit {0}) StoreRefusal → Type 0) → Type 0
+abbrev pub OnPlaced : Result (Unit {0}) NotServed
+    → (Result (Unit {0}) StoreRefusal → Type 0) → Type 0
 OnPlaced (Ok placed) P = P (Ok placed)
 OnPlaced (Err why) P = OnAsked (answered (Err why)) P
 
@@ -69,4 +72,5 @@ abbrev pub IsAsked : {F : Type 0} → (F → StoreState)
     → F → Caller → Request → Answer → F → Type 0
 IsAsked state made old caller request answer new =
     OnChange request (OnAsked answer (λ result. Asks state made old (reserve_of caller)
-    (λ c. InWorld (state old) (λ w. Shows c (effect (state old).shape.numbers w caller request))) result new))
+    (λ c. InWorld (state old) (λ w. Shows c (effect (state old).shape.numbers w caller request)))
+    result new))

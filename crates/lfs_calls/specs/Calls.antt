@@ -33,8 +33,8 @@ answered (Err (Denied denial)) = answers.Denied denial
 answered (Err (Refused resource)) = answers.Refused resource
 
 -- a store is changed to a content of which P holds, or not at all; a refusal has its cause
-pub record ChangesTo (old : StoreState) (P : Content → Type 0) (result : Result (Unit {0}) StoreRefusal)
-    (new : StoreState) : Type 0 where
+pub record ChangesTo (old : StoreState) (P : Content → Type 0)
+    (result : Result (Unit {0}) StoreRefusal) (new : StoreState) : Type 0 where
   pub ok : OnOk result (P new.content)
   pub err : OnErr result (new.content ≡ old.content)
   pub refused : IfErr result (MayRefuse old)
@@ -66,9 +66,12 @@ OnUnasked (answers.Refused resources.JournalFull) P = P
 -- whole state as it was, and the state that is left is a later one (`Follows`).
 pub record IsCallAt (level : Level) (old new : StoreState) (caller : Caller) (request : Request)
     (result : Result Served NotServed) : Type 0 where
-  pub outcome : InWorld old (λ w. w.level ≡ level → IsOutcome old w caller request (answered result))
-  pub leaves : InWorld old (λ w. IsVolume new (after_answer old.shape.numbers w caller request (answered result)))
-  pub entries : OnServed (answered result) (InWorld old (λ w. LeavesEntries request old.content new.content w.rows))
+  pub outcome : InWorld old (λ w. w.level ≡ level
+      → IsOutcome old w caller request (answered result))
+  pub leaves : InWorld old (λ w. IsVolume new
+      (after_answer old.shape.numbers w caller request (answered result)))
+  pub entries : OnServed (answered result)
+      (InWorld old (λ w. LeavesEntries request old.content new.content w.rows))
   pub halted : OnErr result (new.content ≡ old.content)
   pub looks : LooksOn request old new
   pub unasked : OnUnasked (answered result) (new ≡ old)
@@ -77,4 +80,5 @@ pub record IsCallAt (level : Level) (old new : StoreState) (caller : Caller) (re
 
 -- so at any securelevel
 abbrev pub IsCall : StoreState → StoreState → Caller → Request → Result Served NotServed → Type 0
-IsCall old new caller request result = (level : Level) → IsCallAt level old new caller request result
+IsCall old new caller request result = (level : Level)
+    → IsCallAt level old new caller request result

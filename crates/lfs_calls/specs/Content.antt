@@ -56,9 +56,11 @@ visible f = record f { bytes = visible_bytes f.kind f.bytes }
 -- A store's content shows a world: numbers and attributes agree, a file's bytes are its row's, each file has a
 -- length that its kind may have, and the bytes of each directory list the rows that hang in it.
 pub record Shows (c : Content) (w : World) : Type 0 where
-  pub files : (n : ℕ) → option_map visible (map.get c n) ≡ option_map (λ (r : Row). r.file) (map.get w.rows n)
+  pub files : (n : ℕ) → option_map visible (map.get c n)
+      ≡ option_map (λ (r : Row). r.file) (map.get w.rows n)
   pub sizes : (n : ℕ) (f : File) → map.get c n ≡ Some f → IsLength f.kind (length f.bytes)
-  pub listings : (n : ℕ) (f : File) → map.get c n ≡ Some f → f.kind ≡ Directory → ListsRows w.rows n f.bytes
+  pub listings : (n : ℕ) (f : File) → map.get c n ≡ Some f → f.kind ≡ Directory
+      → ListsRows w.rows n f.bytes
 
 -- A number has a directory. But for one number, each directory has the bytes that it had; one that is new has none.
 abbrev pub IsDirectoryAt : Content → ℕ → Type 0
@@ -80,5 +82,5 @@ left_of (Some name) es = without name es
 -- that it may have
 pub record FitsNowhere (bytes : List ℕ) (taken : Option (List ℕ)) (name : List ℕ) : Type 0 where
   pub whole : length bytes ≡ FILE_BYTES
-  pub full : (k : ℕ) → k < FILE_BLOCKS → BLOCK_SIZE < used_of (left_of taken (entries_of (block_at bytes k))) + 5
-      + length name
+  pub full : (k : ℕ) → k < FILE_BLOCKS
+      → BLOCK_SIZE < used_of (left_of taken (entries_of (block_at bytes k))) + 5 + length name

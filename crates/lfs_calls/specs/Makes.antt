@@ -23,7 +23,8 @@ use Rattle.lfs_model.specs.Rules.{front, last, reached}
 use Rattle.lfs_calls.specs.Content.{AreBlocks, HasBlocks, KeepsOthers, all_entries, block_at}
 
 -- a directory that a path's names before the last lead to, and that hasn't the last name, as the store shows it
-pub record IsParent (c : Content) (rows : Rows) (path : List (List ℕ)) (dir : Reached) : Type 0 where
+pub record IsParent (c : Content) (rows : Rows) (path : List (List ℕ))
+    (dir : Reached) : Type 0 where
   pub some : 0 < length path
   pub object : reached rows root (front path) ≡ dir.number
   pub shown : Some dir.attrs ≡ shown_attrs c dir.number
@@ -42,7 +43,8 @@ pub record IsRoom (bytes : List ℕ) (number : ℕ) (name : List ℕ) (room : Ro
   pub fits : k < FILE_BLOCKS
   pub block : IsDirectoryBlock room.block (entries_of room.block)
   pub adds : entries_of room.block ≡ entries_of (block_at bytes k) ++ (number, name) ∷ []
-  pub first : (j : ℕ) → j < k → BLOCK_SIZE < used_of (entries_of (block_at bytes j)) + 5 + length name
+  pub first : (j : ℕ) → j < k → BLOCK_SIZE
+      < used_of (entries_of (block_at bytes j)) + 5 + length name
 
 -- a block may be read in place of one of a directory's bytes
 pub record StandsIn (bytes : List ℕ) (room : Room) : Type 0 where
@@ -64,7 +66,8 @@ with_block bytes (Some room) = splice bytes room.now.off room.now.block
 
 -- a directory of this size, in one of whose blocks another may be read, may get a name that it doesn't list, for a
 -- number
-pub record CanEnter (c : Content) (dir size : ℕ) (taken : Option (Bor Room)) (name : List ℕ) (number : ℕ) : Type 0 where
+pub record CanEnter (c : Content) (dir size : ℕ) (taken : Option (Bor Room)) (name : List ℕ)
+    (number : ℕ) : Type 0 where
   pub stored : HasBlocks c dir size
   pub bounded : size ≤ FILE_BYTES
   pub stands : IfSome taken (λ room. StandsIn (bytes_of c dir) room.now)
@@ -74,8 +77,9 @@ pub record CanEnter (c : Content) (dir size : ℕ) (taken : Option (Bor Room)) (
 
 -- a block of a directory's bytes, or one at their end
 pub record IsBlockOf (c : Content) (dir : ℕ) (room : Room) : Type 0 where
-  pub directory : IsSomeAnd (map.get c dir) (λ f. (f.kind ≡ Directory) × (length f.bytes % BLOCK_SIZE ≡ 0)
-      × (length f.bytes ≤ FILE_BYTES) × (room.off ≤ length f.bytes))
+  pub directory : IsSomeAnd (map.get c dir)
+      (λ f. (f.kind ≡ Directory) × (length f.bytes % BLOCK_SIZE ≡ 0) × (length f.bytes ≤ FILE_BYTES)
+      × (room.off ≤ length f.bytes))
   pub aligned : room.off % BLOCK_SIZE ≡ 0
   pub fits : room.off < FILE_BYTES
   pub size : length room.block ≡ BLOCK_SIZE
@@ -88,7 +92,8 @@ pub record CanMake (s : StoreState) (number dir : ℕ) (room : Room) : Type 0 wh
   pub block : IsBlockOf s.content dir room
 
 -- the content after a file was made and a block of its directory was written; all other files stay
-pub record MakesFile (old new : Content) (number : ℕ) (file : File) (dir : ℕ) (off : ℕ) (block : List ℕ) : Type 0 where
+pub record MakesFile (old new : Content) (number : ℕ) (file : File) (dir : ℕ) (off : ℕ)
+    (block : List ℕ) : Type 0 where
   pub made : map.get new number ≡ Some file
   pub listed : (f : File) → map.get old dir ≡ Some f → map.get new dir
       ≡ Some (record f { bytes = splice f.bytes off block })
@@ -98,7 +103,8 @@ pub record MakesFile (old new : Content) (number : ℕ) (file : File) (dir : ℕ
 -- end, and all other blocks are what they were.
 abbrev pub ListsFirst : List ℕ → List ℕ → List ℕ → Type 0
 ListsFirst old new name =
-    (number : ℕ) × (room : Room) × (k : ℕ) × (IsRoom old number name room k × (new ≡ splice old room.off room.block))
+    (number : ℕ) × (room : Room) × (k : ℕ)
+    × (IsRoom old number name room k × (new ≡ splice old room.off room.block))
 
 -- the directory of a new path's last name lists it so, and all other directories keep their bytes
 abbrev pub EntersFirst : Content → Content → Rows → List (List ℕ) → Type 0

@@ -31,8 +31,8 @@ AreTrue names c = (dir : ℕ) (name : List ℕ) (found : Option ℕ) → says na
 
 -- what is known: what caches say of names and of attributes is what a content has, what hints say of room is so, and
 -- in a directory that a table knows names stand only where it says that they may
-pub record IsTrueOf (names : NameCache) (attributes : Slots Attrs) (hints : Slots Hint) (table : Option NameTable)
-    (c : Content) : Type 0 where
+pub record IsTrueOf (names : NameCache) (attributes : Slots Attrs) (hints : Slots Hint)
+    (table : Option NameTable) (c : Content) : Type 0 where
   pub listed : AreTrue names c
   pub shown : AreShown attributes c
   pub full : AreFull hints c
@@ -46,10 +46,12 @@ KeepsNames old new = (dir : ℕ) (name : List ℕ) (found : Option ℕ) → IsFo
 -- but for one name
 abbrev pub KeepsBut : ℕ → List ℕ → Content → Content → Type 0
 KeepsBut dir name old new =
-    (d : ℕ) (n : List ℕ) (found : Option ℕ) → (d ≡ dir → n ≡ name → ⊥) → IsFound old d n found → IsFound new d n found
+    (d : ℕ) (n : List ℕ) (found : Option ℕ) → (d ≡ dir → n ≡ name → ⊥) → IsFound old d n found
+    → IsFound new d n found
 
 -- under which this is found, and which alone may stand in a block where it didn't
-pub record FindsNew (old new : Content) (dir : ℕ) (name : List ℕ) (found : Option ℕ) (k : ℕ) : Type 0 where
+pub record FindsNew (old new : Content) (dir : ℕ) (name : List ℕ) (found : Option ℕ)
+    (k : ℕ) : Type 0 where
   pub keeps : KeepsBut dir name old new
   pub finds : IsFound new dir name found
   pub stands : StandsBesides old new dir name k

@@ -19,16 +19,20 @@ use Rattle.lfs_model.specs.Memory.{MayLackMemory}
 -- the name that a Rename takes away from the directory of the new name, if it is there
 abbrev pub taken_from : Rows → List (List ℕ) → List (List ℕ) → Option (List ℕ)
 taken_from rows from to =
-    if reached rows root (front from) == reached rows root (front to) then Some (last from) else None
+    if reached rows root (front from) == reached rows root (front to)
+    then Some (last from) else None
 
 -- the call wants a new name that fits in no block of its directory, which has all the blocks that it may have; a Rename
 -- only one that isn't there, once its old name is taken away
 abbrev pub FillsDirectory : Content → World → Request → Type 0
-FillsDirectory c w (Create path mode) = FitsNowhere (bytes_of c (reached w.rows root (front path))) None (last path)
-FillsDirectory c w (Mkdir path mode) = FitsNowhere (bytes_of c (reached w.rows root (front path))) None (last path)
+FillsDirectory c w (Create path mode) =
+    FitsNowhere (bytes_of c (reached w.rows root (front path))) None (last path)
+FillsDirectory c w (Mkdir path mode) =
+    FitsNowhere (bytes_of c (reached w.rows root (front path))) None (last path)
 FillsDirectory c w (Rename from to) =
     (child w.rows (reached w.rows root (front to)) (last to) ≡ None)
-    × FitsNowhere (bytes_of c (reached w.rows root (front to))) (taken_from w.rows from to) (last to)
+    × FitsNowhere (bytes_of c (reached w.rows root (front to)))
+    (taken_from w.rows from to) (last to)
 FillsDirectory c w request = ⊥
 
 -- A call may be answered so over a store in this state that shows this world: by a step of the volume, NoSpace only
@@ -36,8 +40,10 @@ FillsDirectory c w request = ⊥
 -- would be served and may lack memory.
 abbrev pub IsOutcome : StoreState → World → Caller → Request → Answer → Type 0
 IsOutcome s w caller request (Served shown) =
-    IsAnswer s.shape.numbers w caller request (Served shown) × (FillsDirectory s.content w request → ⊥)
-IsOutcome s w caller request (Denied denial) = IsAnswer s.shape.numbers w caller request (Denied denial)
+    IsAnswer s.shape.numbers w caller request (Served shown)
+    × (FillsDirectory s.content w request → ⊥)
+IsOutcome s w caller request (Denied denial) =
+    IsAnswer s.shape.numbers w caller request (Denied denial)
 IsOutcome s w caller request (Refused NoMemory) =
     (decide w caller request ≡ None)
     × (LacksInodes s.shape.numbers w request → ⊥)
@@ -47,7 +53,9 @@ IsOutcome s w caller request (Refused NoSpace) =
     IsAnswer s.shape.numbers w caller request (Refused NoSpace)
     × (FillsDirectory s.content w request → ⊥)
     × MayLackSpace s
-IsOutcome s w caller request (Refused NoInodes) = IsAnswer s.shape.numbers w caller request (Refused NoInodes)
+IsOutcome s w caller request (Refused NoInodes) =
+    IsAnswer s.shape.numbers w caller request (Refused NoInodes)
 IsOutcome s w caller request (Refused DirectoryFull) =
-    IsAnswer s.shape.numbers w caller request (Refused DirectoryFull) × FillsDirectory s.content w request
+    IsAnswer s.shape.numbers w caller request (Refused DirectoryFull)
+    × FillsDirectory s.content w request
 IsOutcome s w caller request (Refused JournalFull) = ⊥

@@ -31,7 +31,8 @@ removed_tests Regular empty file k = unlink_tests file k
 removed_tests Directory empty dir k = rmdir_tests empty dir k
 
 -- the row that a path leads to, and its directory, as the store shows them
-pub record IsRemoval (c : Content) (rows : Rows) (path : List (List ℕ)) (removal : Removal) : Type 0 where
+pub record IsRemoval (c : Content) (rows : Rows) (path : List (List ℕ))
+    (removal : Removal) : Type 0 where
   pub some : 0 < length path
   pub object : reached rows root (front path) ≡ removal.dir.number
   pub row : reached rows root path ≡ removal.file.number
@@ -45,7 +46,8 @@ abbrev pub IsChildless : Rows → ℕ → Type 0
 IsChildless rows n = (name : List ℕ) → child rows n name ≡ None
 
 -- such a row, in which nothing hangs
-pub record IsRemovable (c : Content) (rows : Rows) (path : List (List ℕ)) (removal : Removal) : Type 0 where
+pub record IsRemovable (c : Content) (rows : Rows) (path : List (List ℕ))
+    (removal : Removal) : Type 0 where
   pub is : IsRemoval c rows path removal
   pub childless : IsChildless rows removal.file.number
 
@@ -87,7 +89,8 @@ TakesRow old new removal name =
 -- A directory's bytes list a name no more: the block that listed it was written without it, closed up, and all other
 -- blocks, and how many there are, are what they were.
 abbrev pub ListsNoMore : List ℕ → List ℕ → List ℕ → Type 0
-ListsNoMore old new name = (room : Room) × (k : ℕ) × (IsTaking old name room k × (new ≡ splice old room.off room.block))
+ListsNoMore old new name = (room : Room) × (k : ℕ)
+    × (IsTaking old name room k × (new ≡ splice old room.off room.block))
 
 -- the directory of a path's last name lists it no more, and all other directories keep their bytes
 abbrev pub ClosesUp : Content → Content → Rows → List (List ℕ) → Type 0

@@ -47,7 +47,8 @@ number_there move = target_number move.removal.file.number move.target
 abbrev pub IsTarget : Content → ℕ → Target → Type 0
 IsTarget c moved targets.Itself = Unit {0}
 IsTarget c moved targets.Free = Unit {0}
-IsTarget c moved (targets.Taken there) = (there.number ≢ moved) × (Some there.attrs ≡ shown_attrs c there.number)
+IsTarget c moved (targets.Taken there) = (there.number ≢ moved)
+    × (Some there.attrs ≡ shown_attrs c there.number)
 
 -- the row that a path leads to, and the directory that is to list it at another path, as the store shows them
 pub record IsMove (c : Content) (rows : Rows) (from to : List (List ℕ)) (move : Move) : Type 0 where
@@ -57,7 +58,8 @@ pub record IsMove (c : Content) (rows : Rows) (from to : List (List ℕ)) (move 
 
 -- the content after a block of a directory was written
 abbrev pub block_put : ℕ → Room → Content → Content
-block_put dir room c = changed_at (map.get c dir) dir (λ f. record f { bytes = splice f.bytes room.off room.block }) c
+block_put dir room c = changed_at (map.get c dir) dir
+    (λ f. record f { bytes = splice f.bytes room.off room.block }) c
 
 -- the content after blocks of two directories, or of one, were written, one after the other
 abbrev pub WritesBlocks : Content → Content → ℕ → Room → ℕ → Room → Type 0
@@ -83,8 +85,9 @@ name_left move old = if move.removal.dir.number == move.dir.number then Some old
 -- one
 pub record ArePlaces (c : Content) (move : Move) (old new : List ℕ) (places : Places) : Type 0 where
   pub taking : (k : ℕ) × IsTaking (bytes_of c move.removal.dir.number) old places.taken k
-  pub room : (k : ℕ) × IsRoom (bytes_of (block_put move.removal.dir.number places.taken c) move.dir.number)
-      move.removal.file.number new places.room k
+  pub room : (k : ℕ) × IsRoom (bytes_of
+      (block_put move.removal.dir.number places.taken c) move.dir.number) move.removal.file.number
+      new places.room k
 
 -- A Rename's new name stands in the first block of its directory where it fits, once the old name was taken away from
 -- its own, or else in a new one at the end; nothing but these two blocks was written.
@@ -95,7 +98,8 @@ pub record MovesFirst (old new : Content) (rows : Rows) (from to : List (List �
   pub lists : (k : ℕ) × IsRoom (bytes_of (block_put (reached rows root (front from)) taken old)
       (reached rows root (front to)))
       (reached rows root from) (last to) room k
-  pub written : WritesBlocks old new (reached rows root (front from)) taken (reached rows root (front to)) room
+  pub written : WritesBlocks old new (reached rows root (front from)) taken
+      (reached rows root (front to)) room
 
 -- ---- a name that is there
 
@@ -115,7 +119,8 @@ pub record IsSwapIn (seen : Room) (name : List ℕ) (number : ℕ) (room : Room)
   pub swaps : entries_of room.block ≡ renumbered name number (entries_of seen.block)
 
 -- a row hangs in a directory under a name, and another row under a name in the directory to which it goes
-pub record GoesOver (c : Content) (rows : Rows) (move : Move) (old new : List ℕ) (there : ℕ) : Type 0 where
+pub record GoesOver (c : Content) (rows : Rows) (move : Move) (old new : List ℕ)
+    (there : ℕ) : Type 0 where
   pub leaves : Leaves c rows move old
   pub taken : child rows move.dir.number new ≡ Some there
   pub other : there ≢ move.removal.file.number
@@ -123,26 +128,31 @@ pub record GoesOver (c : Content) (rows : Rows) (move : Move) (old new : List �
 
 -- the block that lists the old name, without it, and after that was written the block that lists the new one, with the
 -- moved row's number
-pub record AreSwapped (c : Content) (move : Move) (old new : List ℕ) (places : Places) : Type 0 where
+pub record AreSwapped (c : Content) (move : Move) (old new : List ℕ)
+    (places : Places) : Type 0 where
   pub taking : (k : ℕ) × IsTaking (bytes_of c move.removal.dir.number) old places.taken k
-  pub swap : (k : ℕ) × IsSwap (bytes_of (block_put move.removal.dir.number places.taken c) move.dir.number) new
+  pub swap : (k : ℕ) × IsSwap (bytes_of
+      (block_put move.removal.dir.number places.taken c) move.dir.number) new
       move.removal.file.number places.room k
 
 -- the content after such blocks were written and a file was removed
 abbrev pub SwapsBlocks : Content → Content → ℕ → Room → ℕ → Room → ℕ → Type 0
 SwapsBlocks old new first taken second room gone =
-    (q : ℕ) → map.get new q ≡ map.get (map.remove (block_put second room (block_put first taken old)) gone) q
+    (q : ℕ) → map.get new q
+    ≡ map.get (map.remove (block_put second room (block_put first taken old)) gone) q
 
 -- A Rename over another row: its old name was taken away, and the new one has its number in the entry's place; nothing
 -- but these two blocks was written, and nothing but the other row removed.
-pub record SwapsInPlace (old new : Content) (rows : Rows) (from to : List (List ℕ)) (gone : ℕ) : Type 0 where
+pub record SwapsInPlace (old new : Content) (rows : Rows) (from to : List (List ℕ))
+    (gone : ℕ) : Type 0 where
   pub taken : Room
   pub takes : (k : ℕ) × IsTaking (bytes_of old (reached rows root (front from))) (last from) taken k
   pub room : Room
   pub swaps : (k : ℕ) × IsSwap (bytes_of (block_put (reached rows root (front from)) taken old)
       (reached rows root (front to)))
       (last to) (reached rows root from) room k
-  pub written : SwapsBlocks old new (reached rows root (front from)) taken (reached rows root (front to)) room gone
+  pub written : SwapsBlocks old new (reached rows root (front from)) taken
+      (reached rows root (front to)) room gone
 
 -- how a Rename onto a name that is there leaves them, by whether it is its own
 abbrev pub PlacesOver : Bool → Content → Content → Rows → List (List ℕ) → List (List ℕ) → ℕ → Type 0
@@ -152,10 +162,12 @@ PlacesOver false old new rows from to there = SwapsInPlace old new rows from to 
 -- how a Rename leaves the entries, by what has the new name
 abbrev pub PlacesName : Content → Content → Rows → List (List ℕ) → List (List ℕ) → Option ℕ → Type 0
 PlacesName old new rows from to None = MovesFirst old new rows from to
-PlacesName old new rows from to (Some m) = PlacesOver (m == reached rows root from) old new rows from to m
+PlacesName old new rows from to (Some m) =
+    PlacesOver (m == reached rows root from) old new rows from to m
 
 -- a directory of this size, in one of whose blocks another may be read, lists a name, which may get this number
-pub record CanSwap (c : Content) (dir size : ℕ) (taken : Option (Bor Room)) (name : List ℕ) (number : ℕ) : Type 0 where
+pub record CanSwap (c : Content) (dir size : ℕ) (taken : Option (Bor Room)) (name : List ℕ)
+    (number : ℕ) : Type 0 where
   pub stored : HasBlocks c dir size
   pub bounded : size ≤ FILE_BYTES
   pub stands : IfSome taken (λ room. StandsIn (bytes_of c dir) room.now)
@@ -175,8 +187,8 @@ IsCauseOf old full (reasons.Refused resource) = ⊥
 
 -- a row was put in a place, so that P holds of the content, or no content changed, which has its cause; where its name
 -- has no room the state is as it was
-pub record PutsRow (old : StoreState) (full : Type 0) (P : Content → Type 0) (result : Result (Unit {0}) NotServed)
-    (after : StoreState) : Type 0 where
+pub record PutsRow (old : StoreState) (full : Type 0) (P : Content → Type 0)
+    (result : Result (Unit {0}) NotServed) (after : StoreState) : Type 0 where
   pub ok : OnOk result (P after.content)
   pub err : OnErr result (after.content ≡ old.content)
   pub refused : IfErr result (IsCauseOf old full)
@@ -212,10 +224,12 @@ PlacedAt c move name new targets.Free after = MovesTo c after move name new
 PlacedAt c move name new (targets.Taken there) after = MovesOver c after move name new there.number
 
 -- a row was put in its place, or not: nothing changes where it has it already
-abbrev pub PlacesRow : StoreState → Move → List ℕ → List ℕ → Target → Result (Unit {0}) NotServed → StoreState → Type 0
+abbrev pub PlacesRow : StoreState → Move → List ℕ → List ℕ → Target → Result (Unit {0}) NotServed
+    → StoreState → Type 0
 PlacesRow old move name new targets.Itself result after = (result ≡ Ok tt) × (after ≡ old)
 PlacesRow old move name new targets.Free result after =
-    PutsRow old (HasNoRoom old.content move name new) (λ c. MovesTo old.content c move name new) result after
+    PutsRow old (HasNoRoom old.content move name new)
+    (λ c. MovesTo old.content c move name new) result after
 PlacesRow old move name new (targets.Taken there) result after =
     PutsRow old ⊥ (λ c. MovesOver old.content c move name new there.number) result after
 

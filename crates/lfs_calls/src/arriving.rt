@@ -62,7 +62,8 @@ pub(crate) fn judge_there<F: FileStore>(
     requires short { at < PATH_MAX }
     requires dir { Some arrival.now.dir.attrs ≡ shown_attrs (F.state store.old).content
         arrival.now.dir.number }
-    requires moved { Some moved.now.attrs ≡ shown_attrs (F.state store.old).content moved.now.number }
+    requires moved { Some moved.now.attrs
+        ≡ shown_attrs (F.state store.old).content moved.now.number }
     requires hangs { IfSome arrival.now.there (λ n. InWorld (F.state store.old) (λ w.
         IsThere w.rows n)) }
     ensures judge { InWorld (F.state store.old) (λ w. Judges

@@ -29,7 +29,8 @@ pub fn chmod<F: FileStore>(
     mode: Mode,
 ) -> Result<Served, NotServed>
     requires { HasWorld (F.state store.old) }
-    ensures call { IsCall (F.state store.old) (F.state store.new) cred.now (Request.Chmod path.now mode)
+    ensures call { IsCall (F.state store.old) (F.state store.new) cred.now
+        (Request.Chmod path.now mode)
         result }
     ensures asked { IsAsked F.state F.made store.old cred.now
         (Request.Chmod path.now mode) (answered result) store.new }

@@ -225,7 +225,8 @@ fn first_to_try<F: FileStore>(store: &Tree<F>, dir: u32, name: &Name) -> u64
 /// entry of the name more.
 fn taken_room(taken: Option<&Room>, first: u64, name: &Name, number: u32) -> Option<Room>
     requires above { 0 < number }
-    requires free { IfSome taken (λ room. IsDirectoryBlock room.now.block (entries_of room.now.block)
+    requires free { IfSome taken (λ room. IsDirectoryBlock room.now.block
+        (entries_of room.now.block)
         × (number_in name.now (entries_of room.now.block) ≡ None)) }
     ensures { MatchOption result
         (IfSome taken.entry (λ room. room.now.off / BLOCK_SIZE < first
@@ -354,7 +355,8 @@ fn take_from<F: FileStore>(store: &mut Tree<F>, dir: u32, k: u64, name: &Name) -
     requires blocks { AreBlocks (bytes_of (F.state store.old).content dir) }
     requires within { k < length (bytes_of (F.state store.old).content dir) / BLOCK_SIZE }
     ensures room { MatchOption result
-        (number_in name.now (entries_of (block_at (bytes_of (F.state store.old).content dir) k)) ≡ None)
+        (number_in name.now (entries_of (block_at (bytes_of (F.state store.old).content dir) k))
+        ≡ None)
         (λ room. IsTaking (bytes_of (F.state store.old).content dir) name.now room k) }
     ensures state { F.state store.new ≡ F.state store.old }
 {

@@ -123,7 +123,8 @@ pub fn create<F: FileStore>(
     mode: Mode,
 ) -> Result<Served, NotServed>
     requires { HasWorld (F.state store.old) }
-    ensures call { IsCall (F.state store.old) (F.state store.new) cred.now (Request.Create path.now mode)
+    ensures call { IsCall (F.state store.old) (F.state store.new) cred.now
+        (Request.Create path.now mode)
         result }
     ensures asked { IsAsked F.state F.made store.old cred.now
         (Request.Create path.now mode) (answered result) store.new }
@@ -139,7 +140,8 @@ pub fn mkdir<F: FileStore>(
     mode: Mode,
 ) -> Result<Served, NotServed>
     requires { HasWorld (F.state store.old) }
-    ensures call { IsCall (F.state store.old) (F.state store.new) cred.now (Request.Mkdir path.now mode)
+    ensures call { IsCall (F.state store.old) (F.state store.new) cred.now
+        (Request.Mkdir path.now mode)
         result }
     ensures asked { IsAsked F.state F.made store.old cred.now
         (Request.Mkdir path.now mode) (answered result) store.new }

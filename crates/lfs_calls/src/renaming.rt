@@ -326,7 +326,8 @@ fn swap_number<F: FileStore>(
 ) -> Room
     requires { CanSwap (F.state store.old).content dir size taken name.now number }
     ensures room { (k : ℕ) × IsSwap
-        (with_block (bytes_of (F.state store.old).content dir) taken.entry) name.now number result k }
+        (with_block (bytes_of (F.state store.old).content dir) taken.entry) name.now
+        number result k }
     ensures state { F.state store.new ≡ F.state store.old }
 {
     if let Some(room) = swap_taken(taken, name, number) {
@@ -445,7 +446,8 @@ fn place_row<F: FileStore>(
     new: &Name,
 ) -> Result<(), NotServed>
     requires goes { (w : World) × (IsVolume (F.state store.old) w
-        × GoesWith (F.state store.old).content w.rows planned.now old.now new.now planned.now.target) }
+        × GoesWith (F.state store.old).content w.rows planned.now old.now new.now
+        planned.now.target) }
     ensures places { PlacesRow (F.state store.old) planned.now old.now new.now planned.now.target
         result (F.state store.new) }
     ensures asked { OnPlaced result (λ said. Asks F.state F.made store.old by

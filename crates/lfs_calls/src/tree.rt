@@ -49,7 +49,8 @@ impl<F: FileStore> Model for Tree<F> {
 
     ghost view = { λ t. t.store };
 
-    ghost invariant = { λ t. IsTrueOf t.names t.attributes t.hints t.table (F.state t.store).content };
+    ghost invariant = { λ t. IsTrueOf t.names t.attributes t.hints t.table
+        (F.state t.store).content };
 }
 
 impl<F: FileStore + Drop> Tree<F> {

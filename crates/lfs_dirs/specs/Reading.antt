@@ -6,7 +6,8 @@ use Rattle.lfs_dirs.specs.Directory.{Entry, entry_bytes, number_in}
 
 -- whether a number, the length of a name and as many bytes as are left begin with an entry
 abbrev pub is_entry : ℕ → ℕ → ℕ → Bool
-is_entry number name_length left = nat_lt 0 number && nat_lt 0 name_length && nat_le name_length left
+is_entry number name_length left = nat_lt 0 number && nat_lt 0 name_length
+    && nat_le name_length left
 
 -- the entries behind the first `skip` bytes, up to the first place that is no entry: fewer than five
 -- bytes are left, the number is 0, the name's length is 0, or the name runs over the end
@@ -20,7 +21,8 @@ entries_at zero (a ∷ b ∷ c ∷ []) = []
 entries_at zero (a ∷ b ∷ c ∷ d ∷ []) = []
 entries_at zero (a ∷ b ∷ c ∷ d ∷ name_length ∷ bytes) =
     if is_entry (from_be_bytes w32 (a ∷ b ∷ c ∷ d ∷ [])) name_length (length bytes)
-    then (from_be_bytes w32 (a ∷ b ∷ c ∷ d ∷ []), take name_length bytes) ∷ entries_at name_length bytes
+    then (from_be_bytes w32 (a ∷ b ∷ c ∷ d ∷ []), take name_length bytes)
+    ∷ entries_at name_length bytes
     else []
 
 -- the entries of a block, up to the first place that is no entry

@@ -66,8 +66,10 @@ pub fn find(block: &Block, name: &Name) -> Option<u32>
 pub fn is_directory_block(block: &Block) -> bool
     ensures test { IsTrue result ↔ IsDirectoryBlock block.now (entries_of block.now) }
     // A block has one list of entries, and a list has one block.
-    ensures one_list { (es : List (ℕ × List ℕ)) → IsDirectoryBlock block.now es → entries_of block.now ≡ es }
-    ensures one_block { IsTrue result → (other : List ℕ) → IsDirectoryBlock other (entries_of block.now) → other ≡ block.now }
+    ensures one_list { (es : List (ℕ × List ℕ)) → IsDirectoryBlock block.now es
+        → entries_of block.now ≡ es }
+    ensures one_block { IsTrue result → (other : List ℕ)
+        → IsDirectoryBlock other (entries_of block.now) → other ≡ block.now }
 {
     let mut rest: &[u8] = block;
     while let Some((_, name, others)) = first_entry(rest) {
@@ -81,7 +83,8 @@ pub fn is_directory_block(block: &Block) -> bool
 
 /// The entry that the bytes begin with, as its number and its name, and the bytes after it.
 fn first_entry(bytes: &[u8]) -> Option<(u32, &[u8], &[u8])>
-    ensures { MatchOption result (entries_of bytes.now ≡ []) (λ e. StandsFirst bytes.now (e.0, e.1.now) e.2.now) }
+    ensures { MatchOption result (entries_of bytes.now ≡ [])
+        (λ e. StandsFirst bytes.now (e.0, e.1.now) e.2.now) }
 {
     let (head, rest) = bytes.split_first_chunk::<HEAD_SIZE>()?;
     let [a, b, c, d, name_length] = *head;

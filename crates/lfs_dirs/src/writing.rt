@@ -16,8 +16,10 @@ pub fn added(block: &Block, name: &Name, number: u32) -> Option<Block>
     requires above { 0 < number }
     requires new_name { number_in name.now (entries_of block.now) ≡ None }
     ensures fits { IsSome result ↔ (used_of (entries_of block.now) + 5 + length name.now ≤ 512) }
-    ensures block { IfSome result (λ b. IsDirectoryBlock b (entries_of block.now ++ (number, name.now) ∷ [])) }
-    ensures listed { IfSome result (λ b. entries_of b ≡ entries_of block.now ++ (number, name.now) ∷ []) }
+    ensures block { IfSome result (λ b. IsDirectoryBlock b
+        (entries_of block.now ++ (number, name.now) ∷ [])) }
+    ensures listed { IfSome result (λ b. entries_of b
+        ≡ entries_of block.now ++ (number, name.now) ∷ []) }
 {
     let name = name.as_bytes();
     let size = HEAD_SIZE + name.len();
@@ -39,7 +41,8 @@ pub fn removed(block: &Block, name: &Name) -> Option<Block>
     requires { IsDirectoryBlock block.now (entries_of block.now) }
     ensures found { MatchOption result (number_in name.now (entries_of block.now) ≡ None)
         (λ b. IsSome (number_in name.now (entries_of block.now))) }
-    ensures block { IfSome result (λ b. IsDirectoryBlock b (without name.now (entries_of block.now))) }
+    ensures block { IfSome result (λ b. IsDirectoryBlock b
+        (without name.now (entries_of block.now))) }
     ensures listed { IfSome result (λ b. entries_of b ≡ without name.now (entries_of block.now)) }
 {
     let unwanted = name.as_bytes();
@@ -51,7 +54,8 @@ pub fn removed(block: &Block, name: &Name) -> Option<Block>
 /// The block of these bytes, one after the other, and zeros.
 fn joined(front: &[u8], rest: &[u8]) -> Block
     requires { length front.now + length rest.now ≤ 512 }
-    ensures { result ≡ front.now ++ (rest.now ++ replicate (512 - length front.now - length rest.now) 0) }
+    ensures { result ≡ front.now ++ (rest.now
+        ++ replicate (512 - length front.now - length rest.now) 0) }
 {
     let end = front.len();
     let mut block = [0; BLOCK_SIZE];

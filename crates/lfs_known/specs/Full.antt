@@ -17,7 +17,8 @@ pub record IsFullBefore (bytes : List ℕ) (hint : Hint) : Type 0 where
 
 -- what hints say is true of a content
 abbrev pub AreFull : Slots Hint → Content → Type 0
-AreFull hints c = (dir : ℕ) (hint : Hint) → says hints dir ≡ Some hint → IsFullBefore (bytes_of c dir) hint
+AreFull hints c = (dir : ℕ) (hint : Hint) → says hints dir ≡ Some hint
+    → IsFullBefore (bytes_of c dir) hint
 
 -- a hint says no more than another: of no block behind those of the other, for names of its length
 pub record IsLowered (old new : Hint) : Type 0 where

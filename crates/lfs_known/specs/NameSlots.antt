@@ -19,4 +19,5 @@ kept_of name said = if nat_le (length name) 24 then said else None
 
 -- what slots have for a name of a directory, if anything
 abbrev pub said : List (Option Pair) → ℕ → List ℕ → Option (Option ℕ)
-said slots dir name = kept_of name (slot_says (slice_index_or slots (place_of dir name) None) dir name)
+said slots dir name =
+    kept_of name (slot_says (slice_index_or slots (place_of dir name) None) dir name)

@@ -10,5 +10,6 @@ says cache dir name = said cache.slots.items dir name
 -- of each pair but one a cache says what another says, or nothing
 abbrev pub SaysNoMore : NameCache → NameCache → ℕ → List ℕ → Type 0
 SaysNoMore old new dir name =
-    (d : ℕ) (n : List ℕ) (found : Option ℕ) → (d ≡ dir → n ≡ name → ⊥) → says new d n ≡ Some found → says old d n
+    (d : ℕ) (n : List ℕ) (found : Option ℕ) → (d ≡ dir → n ≡ name → ⊥) → says new d n ≡ Some found
+    → says old d n
     ≡ Some found

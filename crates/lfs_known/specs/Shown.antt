@@ -8,4 +8,5 @@ use Rattle.lfs_known.specs.declared.slots.Slots.{Slots}
 
 -- what a cache says is what a content shows
 abbrev pub AreShown : Slots Attrs → Content → Type 0
-AreShown cache c = (ino : ℕ) (attrs : Attrs) → says cache ino ≡ Some attrs → shown_attrs c ino ≡ Some attrs
+AreShown cache c = (ino : ℕ) (attrs : Attrs) → says cache ino ≡ Some attrs
+    → shown_attrs c ino ≡ Some attrs

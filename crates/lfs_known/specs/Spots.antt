@@ -29,7 +29,8 @@ MayStand spots dir name k = Allows (slice_index_or spots (hash_of dir name) Anyw
 
 -- a directory lists a name in a block
 abbrev pub StandsAt : List ℕ → List ℕ → ℕ → Type 0
-StandsAt bytes name k = IsSome (number_in name (entries_of (take BLOCK_SIZE (drop (BLOCK_SIZE * k) bytes))))
+StandsAt bytes name k =
+    IsSome (number_in name (entries_of (take BLOCK_SIZE (drop (BLOCK_SIZE * k) bytes))))
 
 -- a directory has so many blocks, and each of its names stands only where spots say that it may
 pub record IsPlaced (spots : List Spot) (dir : ℕ) (bytes : List ℕ) (blocks : ℕ) : Type 0 where
@@ -48,7 +49,8 @@ ArePlacedIn (Some table) c = ArePlaced table c
 
 -- each directory of which a table has a number has so many blocks
 abbrev pub AreSized : Slots ℕ → Content → Type 0
-AreSized whole c = (dir blocks : ℕ) → says whole dir ≡ Some blocks → length (bytes_of c dir) ≡ BLOCK_SIZE * blocks
+AreSized whole c = (dir blocks : ℕ) → says whole dir ≡ Some blocks
+    → length (bytes_of c dir) ≡ BLOCK_SIZE * blocks
 
 -- bytes that were put into a directory of so many blocks are one, over another or behind the last, and leave so many
 pub record IsGrown (blocks off long now : ℕ) : Type 0 where

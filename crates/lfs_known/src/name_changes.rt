@@ -15,7 +15,8 @@ use lfs_types::store::Change;
 /// Follows changes that were made, in order: what a table says of a content is so of that with the changes. A table that
 /// is full is dropped.
 pub fn follow_names(table: &mut Option<NameTable>, changes: &[Change<'_>])
-    ensures { (c : Content) → ArePlacedIn table.old c → ArePlacedIn table.new (applied changes.now c) }
+    ensures { (c : Content) → ArePlacedIn table.old c
+        → ArePlacedIn table.new (applied changes.now c) }
 {
     if let Some(known) = table {
         follow_all(known, changes);

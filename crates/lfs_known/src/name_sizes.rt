@@ -12,7 +12,8 @@ use lfs_types::store::Change;
 
 /// Follows changes, in order: how many blocks directories have.
 pub(crate) fn follow_sizes(whole: &mut Slots<u64>, changes: &[Change<'_>])
-    ensures sized { (c : Content) → AreSized whole.old c → AreSized whole.new (applied changes.now c) }
+    ensures sized { (c : Content) → AreSized whole.old c
+        → AreSized whole.new (applied changes.now c) }
     ensures fewer { (d : ℕ) → IsSome (says whole.new d) → IsSome (says whole.old d) }
 {
     for change in changes {
@@ -22,7 +23,8 @@ pub(crate) fn follow_sizes(whole: &mut Slots<u64>, changes: &[Change<'_>])
 
 /// Follows a change.
 fn follow_size(whole: &mut Slots<u64>, change: &Change<'_>)
-    ensures sized { (c : Content) → AreSized whole.old c → AreSized whole.new (changed change.now c) }
+    ensures sized { (c : Content) → AreSized whole.old c
+        → AreSized whole.new (changed change.now c) }
     ensures fewer { (d : ℕ) → IsSome (says whole.new d) → IsSome (says whole.old d) }
 {
     match *change {

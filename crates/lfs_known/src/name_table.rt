@@ -59,7 +59,8 @@ impl NameTable {
     pub fn next_block(&self, dir: u32, name: &Name, from: u64) -> u64
         ensures from { from ≤ result }
         ensures absent { (c : Content) → ArePlaced self.now c → (k : ℕ) → from ≤ k → k < result
-            → number_in name.now (entries_of (take BLOCK_SIZE (drop (BLOCK_SIZE * k) (bytes_of c dir)))) ≡ None }
+            → number_in name.now (entries_of (take BLOCK_SIZE
+            (drop (BLOCK_SIZE * k) (bytes_of c dir)))) ≡ None }
     {
         if !self.knows(dir) {
             return from;
@@ -84,7 +85,8 @@ impl NameTable {
 
     /// A name may stand in a block of a directory besides, if the directory is known.
     pub(crate) fn enter_name(&mut self, dir: u32, name: &Name, k: u64)
-        ensures entered { IsSome (says self.old.whole dir) → MayStand self.new.spots.items dir name.now k }
+        ensures entered { IsSome (says self.old.whole dir)
+            → MayStand self.new.spots.items dir name.now k }
         ensures keeps { (d : ℕ) (n : List ℕ) (j : ℕ) → MayStand self.old.spots.items d n j
             → MayStand self.new.spots.items d n j }
         ensures whole { self.new.whole ≡ self.old.whole }
