@@ -29,4 +29,5 @@ attr_bytes a =
 
 -- an entry and its attributes; the four zeros behind the node say that neither is kept for any time
 abbrev pub entry_bytes : Entry → List ℕ
-entry_bytes e = longs (e.node ∷ e.generation ∷ 0 ∷ 0 ∷ []) ++ words (0 ∷ 0 ∷ []) ++ attr_bytes e.attr
+entry_bytes e = longs (e.node ∷ e.generation ∷ 0 ∷ 0 ∷ []) ++ words (0 ∷ 0 ∷ [])
+    ++ attr_bytes e.attr

@@ -44,8 +44,10 @@ impl DirEntry<'_> {
     /// nothing.
     pub fn append(&self, listing: &mut Vec<u8>, most: usize) -> Result<bool, AllocError>
         requires { length self.now.name.now < 256 }
-        ensures fits { IfOk result (λ fits. fits ≡ fits_in most listing.old.items (dirent_bytes self.now)) }
-        ensures entry { OnOk result (listing.new.items ≡ listed most listing.old.items (dirent_bytes self.now)) }
+        ensures fits { IfOk result (λ fits. fits
+            ≡ fits_in most listing.old.items (dirent_bytes self.now)) }
+        ensures entry { OnOk result (listing.new.items
+            ≡ listed most listing.old.items (dirent_bytes self.now)) }
     {
         if !has_room(listing, self.size(), most) {
             return Ok(false);
@@ -80,8 +82,10 @@ impl DirEntryPlus<'_> {
     /// nothing.
     pub fn append(&self, listing: &mut Vec<u8>, most: usize) -> Result<bool, AllocError>
         requires { length self.now.dirent.name.now < 256 }
-        ensures fits { IfOk result (λ fits. fits ≡ fits_in most listing.old.items (plus_bytes self.now)) }
-        ensures entry { OnOk result (listing.new.items ≡ listed most listing.old.items (plus_bytes self.now)) }
+        ensures fits { IfOk result (λ fits. fits
+            ≡ fits_in most listing.old.items (plus_bytes self.now)) }
+        ensures entry { OnOk result (listing.new.items
+            ≡ listed most listing.old.items (plus_bytes self.now)) }
     {
         if !has_room(listing, self.size(), most) {
             return Ok(false);
