@@ -9,7 +9,8 @@ fresh_row = record { used = false; address = 0; slot = 0; version = 0 }
 
 -- where the record of a used number stands
 abbrev pub place_in : InodeRow → Option InodePlace
-place_in row = if row.used then Some (record { addr = row.address; slot = row.slot; version = row.version }) else None
+place_in row = if row.used
+    then Some (record { addr = row.address; slot = row.slot; version = row.version }) else None
 
 -- the version after this one: 1 follows the last
 abbrev pub raised_version : ℕ → ℕ

@@ -38,13 +38,15 @@ row_bytes row = u32_bytes row.address ++ u16_bytes row.slot ++ u16_bytes (if row
 -- the bytes of an ifile: the header, each segment from 0, each inode number from 0
 abbrev pub ifile_bytes : Tables → List ℕ
 ifile_bytes tables =
-    header_bytes (length tables.live) (length tables.rows) ++ flat_map segment_bytes (zip tables.live tables.states)
+    header_bytes (length tables.live) (length tables.rows)
+    ++ flat_map segment_bytes (zip tables.live tables.states)
     ++ flat_map row_bytes tables.rows
 
 -- the number in the four bytes from a place on, the highest first
 unfoldable pub number_at : List ℕ → ℕ → ℕ
 number_at bytes place =
-    from_be_bytes w32 (slice_index bytes place ∷ slice_index bytes (place + 1) ∷ slice_index bytes (place + 2)
+    from_be_bytes w32 (slice_index bytes place ∷ slice_index bytes (place + 1)
+    ∷ slice_index bytes (place + 2)
     ∷ slice_index bytes (place + 3) ∷ [])
 
 -- the first four bytes are `LFIF`, and the length is that of the header's two numbers
@@ -100,7 +102,8 @@ pub record ReadsTables (bytes : List ℕ) (tables : Tables) : Type 0 where
 abbrev pub IsIfileFaultOf : List ℕ → IfileFault → Type 0
 IsIfileFaultOf bytes Head = IsHead bytes → ⊥
 IsIfileFaultOf bytes (Segment segment) =
-    (segment < number_at bytes 4) × ((any : SegUse) → ReadsSegment bytes segment any → any.live ≤ SEGMENT_BYTES → ⊥)
+    (segment < number_at bytes 4) × ((any : SegUse) → ReadsSegment bytes segment any
+    → any.live ≤ SEGMENT_BYTES → ⊥)
 IsIfileFaultOf bytes (Row number) =
     (number < number_at bytes 8)
     × ((any : InodeRow) → ReadsRow bytes (row_place (number_at bytes 4) number) any

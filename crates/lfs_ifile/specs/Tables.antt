@@ -23,7 +23,8 @@ blocks_of tables = SEGMENT_BLOCKS * length tables.live
 
 -- how a segment is used
 abbrev pub usage_of : Tables → ℕ → SegUse
-usage_of tables seg = record { live = slice_index tables.live seg; state = slice_index_or tables.states seg Clean }
+usage_of tables seg =
+    record { live = slice_index tables.live seg; state = slice_index_or tables.states seg Clean }
 
 -- the row at a place of the inode map
 abbrev pub row_at : List InodeRow → ℕ → InodeRow
@@ -82,7 +83,8 @@ pub record IsLeastFree (rows : List InodeRow) (ino : ℕ) : Type 0 where
 
 -- no segment from `low` up and below `high` is clean
 abbrev pub AreUnclean : List SegState → ℕ → ℕ → Type 0
-AreUnclean states low high = (seg : ℕ) → low ≤ seg → seg < high → slice_index_or states seg Clean ≢ Clean
+AreUnclean states low high = (seg : ℕ) → low ≤ seg → seg < high
+    → slice_index_or states seg Clean ≢ Clean
 
 -- the first clean segment
 pub record IsFirstClean (tables : Tables) (seg : ℕ) : Type 0 where

@@ -40,7 +40,8 @@ pub(crate) fn read_live(alloc: Global, bytes: &[u8], segments: u32) -> Result<Ve
     requires head { IsHead bytes.now }
     requires many { segments ≡ number_at bytes.now 4 }
     ensures long { IfOk result (λ live. length live.items ≡ segments) }
-    ensures read { IfOk result (λ live. (s : ℕ) → s < segments → slice_index live.items s ≡ number_at bytes.now (12 + 8 * s)) }
+    ensures read { IfOk result (λ live. (s : ℕ) → s < segments
+        → slice_index live.items s ≡ number_at bytes.now (12 + 8 * s)) }
     ensures few { IfOk result (λ live. (s : ℕ) → slice_index live.items s ≤ SEGMENT_BYTES) }
     ensures fault { IfErr result (IsIfileFaultOf bytes.now) }
 {
@@ -92,7 +93,8 @@ fn is_row(row: InodeRow, blocks: u32) -> bool
 fn row_at(bytes: &[u8], place: usize, blocks: u32) -> Option<InodeRow>
     requires { place + 12 ≤ length bytes.now }
     ensures some { IfSome result (λ row. ReadsRow bytes.now place row × IsRow blocks row) }
-    ensures none { IfNone result ((row : InodeRow) → ReadsRow bytes.now place row → IsRow blocks row → ⊥) }
+    ensures none { IfNone result ((row : InodeRow) → ReadsRow bytes.now place row
+        → IsRow blocks row → ⊥) }
 {
     let slot_and_use = number_at(bytes, place + 4);
     if slot_and_use % 65536 > 1 {

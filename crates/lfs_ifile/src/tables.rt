@@ -41,10 +41,12 @@ impl Model for Ifile {
 
     ghost Value = { Tables };
 
-    ghost view = { λ file. record { live = file.live.items; states = file.states.items; rows = file.rows.items } };
+    ghost view = { λ file.
+        record { live = file.live.items; states = file.states.items; rows = file.rows.items } };
 
     ghost invariant = { λ file.
-        IsIfile (record { live = file.live.items; states = file.states.items; rows = file.rows.items })
+        IsIfile
+        (record { live = file.live.items; states = file.states.items; rows = file.rows.items })
         × (FIRST_INODE ≤ file.used_below) × (file.used_below ≤ length file.rows.items)
         × AreUsed file.rows.items FIRST_INODE file.used_below
         × (file.unclean_below ≤ length file.states.items)
@@ -262,7 +264,8 @@ impl Ifile {
         requires used { (row_of self.old ino).used ≡ true }
         requires addr_in_volume { addr < blocks_of self.old }
         requires slot_in_block { slot < 4 }
-        ensures after { self.new ≡ with_row self.old ino (placed_row addr slot (row_of self.old ino)) }
+        ensures after { self.new ≡ with_row self.old ino
+            (placed_row addr slot (row_of self.old ino)) }
         ensures row { row_of self.new ino ≡ placed_row addr slot (row_of self.old ino) }
         ensures kept { KeepsButRow ino self.old self.new }
         ensures formed { IsIfile self.new }
@@ -342,8 +345,10 @@ impl Ifile {
     /// each segment and 12 for each inode number.
     pub fn bytes(&self) -> Result<Vec<u8>, AllocError>
         ensures layout { IfOk result (λ bytes. bytes.items ≡ ifile_bytes self.now) }
-        ensures len { IfOk result (λ bytes. vec_len bytes ≡ 12 + 8 * length self.now.live + 12 * length self.now.rows) }
-        ensures read_back { IfOk result (λ bytes. (seg : ℕ) → seg < length self.now.live → ReadsUse bytes.items seg (usage_of self.now seg)) }
+        ensures len { IfOk result (λ bytes. vec_len bytes
+            ≡ 12 + 8 * length self.now.live + 12 * length self.now.rows) }
+        ensures read_back { IfOk result (λ bytes. (seg : ℕ) → seg < length self.now.live
+            → ReadsUse bytes.items seg (usage_of self.now seg)) }
     {
         let segments = self.live.len();
         let inodes = self.rows.len();

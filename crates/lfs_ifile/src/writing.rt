@@ -55,7 +55,8 @@ pub(crate) fn push_segments(
     states: &[SegState],
 ) -> Result<(), AllocError>
     requires { length states.now ≡ length live.now }
-    ensures { OnOk result (bytes.new.items ≡ bytes.old.items ++ flat_map segment_bytes (zip live.now states.now)) }
+    ensures { OnOk result (bytes.new.items
+        ≡ bytes.old.items ++ flat_map segment_bytes (zip live.now states.now)) }
 {
     for seg in 0..live.len() {
         push_segment(bytes, live[seg], states[seg])?;
