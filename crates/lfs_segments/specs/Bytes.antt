@@ -5,7 +5,8 @@ use Rattle.lfs_types.specs.declared.block.TheConstants.{BLOCK_SIZE}
 -- the number in the four bytes from a place
 abbrev pub word_at : List ℕ → ℕ → ℕ
 word_at bytes place =
-    16777216 * slice_index bytes place + 65536 * slice_index bytes (place + 1) + 256 * slice_index bytes (place + 2)
+    16777216 * slice_index bytes place + 65536 * slice_index bytes (place + 1)
+    + 256 * slice_index bytes (place + 2)
     + slice_index bytes (place + 3)
 
 -- the number in the two bytes from a place

@@ -59,14 +59,16 @@ pub record IsEntryAt (bytes : List ℕ) (place : ℕ) (e : SummaryEntry) : Type 
 pub record AreEntriesAt (bytes : List ℕ) (count : ℕ) (entries : List SummaryEntry) : Type 0 where
   pub whole : length entries ≡ ENTRY_LIMIT
   pub named : (k : ℕ) → k < count → IsEntry (slice_index_or entries k unused)
-  pub spelled : (k : ℕ) → k < count → IsEntryAt bytes (16 + 12 * k) (slice_index_or entries k unused)
+  pub spelled : (k : ℕ) → k < count → IsEntryAt bytes (16 + 12 * k)
+      (slice_index_or entries k unused)
   pub rest : (k : ℕ) → count ≤ k → slice_index_or entries k unused ≡ unused
 
 -- each of these facts has one proof at most
 IsFileNumber-prop : (number : ℕ) → IsProp (IsFileNumber number)
 IsFileNumber-prop number p q = λ i. record {
   above = le_prop p.above q.above i;
-  not_three = λ three. let same : p.not_three three ≡ q.not_three three = absurd (p.not_three three) in same i;
+  not_three = λ three. let same : p.not_three three ≡ q.not_three three =
+      absurd (p.not_three three) in same i;
   below = le_prop p.below q.below i;
 }
 
@@ -92,4 +94,5 @@ IsEntry-prop e p q = λ i. record {
 
 pub AreNamed-prop : (count : ℕ) (entries : List SummaryEntry)
     → IsProp ((k : ℕ) → k < count → IsEntry (slice_index_or entries k unused))
-AreNamed-prop count entries p q = λ i k below. IsEntry-prop (slice_index_or entries k unused) (p k below) (q k below) i
+AreNamed-prop count entries p q = λ i k below. IsEntry-prop (slice_index_or entries k unused)
+    (p k below) (q k below) i

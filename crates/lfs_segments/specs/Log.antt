@@ -30,11 +30,13 @@ log_block m segment k = block_at m (first_of segment + k)
 
 -- what the log of a segment expects at an address of it
 abbrev pub expected_at : SegmentMemory → ℕ → ℕ → Option (List SummaryEntry)
-expected_at m segment address = expected (has_serials m) (log_block m segment) (address - first_of segment)
+expected_at m segment address = expected (has_serials m) (log_block m segment)
+    (address - first_of segment)
 
 -- what the log of its segment names at an address: none at a summary, behind the log's end, and at the label
 unfoldable pub entry_at : SegmentMemory → ℕ → Option SummaryEntry
-entry_at m address = option_and_then (λ entries. slice_get entries 0) (expected_at m (address / SEGMENT_BLOCKS) address)
+entry_at m address = option_and_then (λ entries. slice_get entries 0)
+    (expected_at m (address / SEGMENT_BLOCKS) address)
 
 -- an address with what is named there, as a list of one, or of none
 abbrev pub named_one : ℕ → Option SummaryEntry → List (ℕ × SummaryEntry)
@@ -51,11 +53,13 @@ names_from m first (suc n) = names_from m first n ++ named_one (first + n) (entr
 pub record Expects (m : SegmentMemory) (entries : List SummaryEntry) : Type 0 where
   pub pending : expected_at m m.active (next_address m) ≡ Some entries
   pub fit : length entries ≤ room_of m
-  pub zeros : (a : ℕ) → next_address m ≤ a → a < m.active * SEGMENT_BLOCKS + SEGMENT_BLOCKS → block_at m a ≡ zero_block
+  pub zeros : (a : ℕ) → next_address m ≤ a → a < m.active * SEGMENT_BLOCKS + SEGMENT_BLOCKS
+      → block_at m a ≡ zero_block
 
 -- an address before the end of the active segment's log, or of another segment
 abbrev pub IsOlder : SegmentMemory → ℕ → Type 0
-IsOlder m address = (address < next_address m) ⊎ (m.active * SEGMENT_BLOCKS + SEGMENT_BLOCKS ≤ address)
+IsOlder m address = (address < next_address m)
+    ⊎ (m.active * SEGMENT_BLOCKS + SEGMENT_BLOCKS ≤ address)
 
 -- The memory after more was written behind the active segment's log: what was there stays, with its entries.
 pub record Extends (old new : SegmentMemory) : Type 0 where

@@ -66,7 +66,8 @@ pub record IsLaidOut (m : SegmentMemory) : Type 0 where
 
 -- block 0: the mark LFS1, the number of segments, the number of inode numbers
 unfoldable pub label : ℕ → ℕ → List ℕ
-label segments inodes = big_bytes 4 0x4c46_5331 ++ (big_bytes 4 segments ++ (big_bytes 4 inodes ++ replicate 500 0))
+label segments inodes = big_bytes 4 0x4c46_5331
+    ++ (big_bytes 4 segments ++ (big_bytes 4 inodes ++ replicate 500 0))
 
 -- a volume before anything is written: zeros behind the label, segment 0 active, and the serial of its first summary
 abbrev pub fresh_with : Option ℕ → ℕ → ℕ → SegmentMemory
@@ -96,11 +97,13 @@ room_of m = SEGMENT_BLOCKS - m.fill
 
 -- the blocks, with others written from an address on
 abbrev pub written : List (List ℕ) → ℕ → List (List ℕ) → List (List ℕ)
-written blocks address others = take address blocks ++ (others ++ drop (address + length others) blocks)
+written blocks address others = take address blocks
+    ++ (others ++ drop (address + length others) blocks)
 
 -- the memory with blocks appended to the log
 abbrev pub appended : SegmentMemory → List (List ℕ) → SegmentMemory
-appended m others = record m { fill = m.fill + length others; blocks = written m.blocks (next_address m) others }
+appended m others =
+    record m { fill = m.fill + length others; blocks = written m.blocks (next_address m) others }
 
 -- the memory with its serial used up
 abbrev pub raised : SegmentMemory → SegmentMemory

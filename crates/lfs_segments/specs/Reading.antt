@@ -16,7 +16,8 @@ block_from number =
     if number == 0x8000_0000 then Single
     else (if number == 0x8000_0001 then Double
     else (if number == 0xffff_ffff then Inodes
-    else (if nat_le 0x8000_0100 number && nat_lt number 0x8000_0180 then Child (number - 0x8000_0100)
+    else (if nat_le 0x8000_0100 number && nat_lt number 0x8000_0180
+    then Child (number - 0x8000_0100)
     else Data number)))
 
 -- the entry that would stand in twelve bytes
@@ -39,10 +40,12 @@ is_file_number number = nat_le 2 number && (not (number == 3) && nat_lt number m
 
 -- whether a block of this kind may stand in an entry with this number and version
 abbrev pub may_name : LogicalBlock → ℕ → ℕ → Bool
-may_name (Data index) number version = nat_lt index FILE_BLOCKS && (is_file_number number && nat_le 1 version)
+may_name (Data index) number version = nat_lt index FILE_BLOCKS
+    && (is_file_number number && nat_le 1 version)
 may_name Single number version = is_file_number number && nat_le 1 version
 may_name Double number version = is_file_number number && nat_le 1 version
-may_name (Child index) number version = nat_lt index 128 && (is_file_number number && nat_le 1 version)
+may_name (Child index) number version = nat_lt index 128
+    && (is_file_number number && nat_le 1 version)
 may_name Inodes number version = (number == 0) && (version == 0)
 
 -- whether each number below n passes
@@ -59,7 +62,8 @@ is_summary bytes =
     && (nat_le (half_at bytes 10) ENTRY_LIMIT
     && (nat_le (half_at bytes 8 + half_at bytes 10) 63
     && ((word_at bytes 12 == 0)
-    && (all_below (λ k. let e = entry_from bytes (16 + 12 * k) in may_name e.block e.number e.version)
+    && (all_below (λ k. let e = entry_from bytes (16 + 12 * k) in
+    may_name e.block e.number e.version)
     (half_at bytes 10)
     && all_below (λ i. slice_index bytes (16 + 12 * half_at bytes 10 + i) == 0)
     (512 - (16 + 12 * half_at bytes 10))))))))
@@ -70,4 +74,5 @@ named_by s = take s.count s.entries
 
 -- the entries that a block names, where it is a summary
 unfoldable pub summary_entries : List ℕ → Option (List SummaryEntry)
-summary_entries bytes = if is_summary bytes then Some (entries_from bytes 16 (half_at bytes 10)) else None
+summary_entries bytes = if is_summary bytes
+    then Some (entries_from bytes 16 (half_at bytes 10)) else None

@@ -19,9 +19,10 @@ pub record IsRisingTo (m : SegmentMemory) (next : ℕ) : Type 0 where
   pub below : (a : ℕ) (t : Told) → IsSummaryAt m a t → t.serial < next
   pub rises : (a b : ℕ) (t u : Told) → IsSummaryAt m a t → IsSummaryAt m b u
       → a / SEGMENT_BLOCKS ≡ b / SEGMENT_BLOCKS → a < b → t.serial < u.serial
-  pub active : (a b : ℕ) (t u : Told) → IsSummaryAt m a t → IsSummaryAt m b u → a / SEGMENT_BLOCKS ≢ m.active
-      → b / SEGMENT_BLOCKS ≡ m.active → t.serial < u.serial
-  pub apart : (a b : ℕ) (t u : Told) → IsSummaryAt m a t → IsSummaryAt m b u → t.serial ≡ u.serial → a ≡ b
+  pub active : (a b : ℕ) (t u : Told) → IsSummaryAt m a t → IsSummaryAt m b u
+      → a / SEGMENT_BLOCKS ≢ m.active → b / SEGMENT_BLOCKS ≡ m.active → t.serial < u.serial
+  pub apart : (a b : ℕ) (t u : Told) → IsSummaryAt m a t → IsSummaryAt m b u
+      → t.serial ≡ u.serial → a ≡ b
   pub segment : (a : ℕ) (t : Told) → IsSummaryAt m a t → t.segment ≡ a / SEGMENT_BLOCKS
   pub offset : (a : ℕ) (t : Told) → IsSummaryAt m a t → t.offset ≡ a % SEGMENT_BLOCKS
 

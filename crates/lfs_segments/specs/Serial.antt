@@ -58,7 +58,8 @@ entries_in false bytes = summary_entries bytes
 entries_in true bytes = option_map (λ t. t.entries) (told_in bytes)
 
 -- a block is the summary, at this place of a segment, of blocks that have these entries
-pub record IsSummaryOf (block : List ℕ) (in_segment at_offset : ℕ) (entries : List SummaryEntry) : Type 0 where
+pub record IsSummaryOf (block : List ℕ) (in_segment at_offset : ℕ)
+    (entries : List SummaryEntry) : Type 0 where
   pub summary : Summary
   pub spelled : IsSummaryBlock block summary
   pub segment : summary.segment ≡ in_segment
@@ -66,7 +67,8 @@ pub record IsSummaryOf (block : List ℕ) (in_segment at_offset : ℕ) (entries 
   pub named : named_by summary ≡ entries
 
 -- and has this serial
-pub record IsSerialOf (block : List ℕ) (serial in_segment at_offset : ℕ) (entries : List SummaryEntry) : Type 0 where
+pub record IsSerialOf (block : List ℕ) (serial in_segment at_offset : ℕ)
+    (entries : List SummaryEntry) : Type 0 where
   pub summary : SerialSummary
   pub spelled : IsSerialBlock block summary
   pub told : told_by summary ≡ record {
@@ -79,4 +81,5 @@ pub record IsSerialOf (block : List ℕ) (serial in_segment at_offset : ℕ) (en
 -- such a summary with this serial, or without one where there is none
 abbrev pub IsSummaryWith : Option ℕ → List ℕ → ℕ → ℕ → List SummaryEntry → Type 0
 IsSummaryWith None block segment offset entries = IsSummaryOf block segment offset entries
-IsSummaryWith (Some serial) block segment offset entries = IsSerialOf block serial segment offset entries
+IsSummaryWith (Some serial) block segment offset entries =
+    IsSerialOf block serial segment offset entries

@@ -11,5 +11,6 @@ pub record IsSummaryBlock (bytes : List ℕ) (s : Summary) : Type 0 where
   pub offset : half_at bytes 8 ≡ s.offset
   pub count : half_at bytes 10 ≡ s.count
   pub gap : word_at bytes 12 ≡ 0
-  pub entries : (k : ℕ) → k < s.count → IsEntryAt bytes (16 + 12 * k) (slice_index_or s.entries k unused)
+  pub entries : (k : ℕ) → k < s.count → IsEntryAt bytes (16 + 12 * k)
+      (slice_index_or s.entries k unused)
   pub rest : (i : ℕ) → 16 + 12 * s.count ≤ i → slice_index bytes i ≡ 0

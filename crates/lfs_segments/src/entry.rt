@@ -54,7 +54,8 @@ impl LogicalBlock {
 
     /// The block that a number spells, or None where no block has that number.
     pub fn from_number(number: u32) -> Option<LogicalBlock>
-        ensures found { IfSome result (λ block. IsLogicalBlock block × (block_number block ≡ number)) }
+        ensures found { IfSome result (λ block. IsLogicalBlock block
+            × (block_number block ≡ number)) }
         ensures only { (block : LogicalBlock) → IsLogicalBlock block → block_number block ≡ number
             → result ≡ Some block }
     {
@@ -126,7 +127,8 @@ impl SummaryEntry {
         ensures bytes { IsBlock bytes.new }
         ensures written { IsEntryAt bytes.new place self.now }
         ensures before { (i : ℕ) → i < place → slice_index bytes.new i ≡ slice_index bytes.old i }
-        ensures after { (i : ℕ) → place + 12 ≤ i → slice_index bytes.new i ≡ slice_index bytes.old i }
+        ensures after { (i : ℕ) → place + 12 ≤ i
+            → slice_index bytes.new i ≡ slice_index bytes.old i }
     {
         put_word(bytes, place, self.number);
         put_word(bytes, place + 4, self.version);

@@ -28,7 +28,8 @@ impl SerialSummary {
     /// refused.
     pub fn encode(&self) -> Block
         ensures spelled { IsSerialBlock result self.now }
-        ensures only { (bytes : List ℕ) → IsBlock bytes → IsSerialBlock bytes self.now → bytes ≡ result }
+        ensures only { (bytes : List ℕ) → IsBlock bytes → IsSerialBlock bytes self.now
+            → bytes ≡ result }
         ensures told { told_in result ≡ Some (told_by self.now) }
         ensures apart { summary_entries result ≡ None }
     {
@@ -40,7 +41,8 @@ impl SerialSummary {
     /// The summary with a serial that a block spells, or None where it spells none, as where it has no serial.
     pub fn decode(block: &Block) -> Option<SerialSummary>
         ensures found { IfSome result (λ summary. IsSerialBlock block.now summary) }
-        ensures only { (summary : SerialSummary) → IsSerialBlock block.now summary → result ≡ Some summary }
+        ensures only { (summary : SerialSummary) → IsSerialBlock block.now summary
+            → result ≡ Some summary }
         ensures told { option_map told_by result ≡ told_in block.now }
     {
         let serial = word(block, SERIAL_PLACE);

@@ -65,7 +65,8 @@ impl Summary {
     /// The block that spells the summary. No other block does.
     pub fn encode(&self) -> Block
         ensures spelled { IsSummaryBlock result self.now }
-        ensures only { (bytes : List ℕ) → IsBlock bytes → IsSummaryBlock bytes self.now → bytes ≡ result }
+        ensures only { (bytes : List ℕ) → IsBlock bytes → IsSummaryBlock bytes self.now
+            → bytes ≡ result }
         ensures entries { summary_entries result ≡ Some (named_by self.now) }
     {
         let mut block = ZERO_BLOCK;
@@ -80,7 +81,8 @@ impl Summary {
     /// The summary that a block spells, or None where it spells none.
     pub fn decode(block: &Block) -> Option<Summary>
         ensures found { IfSome result (λ summary. IsSummaryBlock block.now summary) }
-        ensures only { (summary : Summary) → IsSummaryBlock block.now summary → result ≡ Some summary }
+        ensures only { (summary : Summary) → IsSummaryBlock block.now summary
+            → result ≡ Some summary }
         ensures entries { option_map named_by result ≡ summary_entries block.now }
     {
         Summary::parse(block)
@@ -89,7 +91,8 @@ impl Summary {
     /// What `decode` gives.
     fn parse(block: &Block) -> Option<Summary>
         ensures found { IfSome result (λ summary. IsSummaryBlock block.now summary) }
-        ensures only { (summary : Summary) → IsSummaryBlock block.now summary → result ≡ Some summary }
+        ensures only { (summary : Summary) → IsSummaryBlock block.now summary
+            → result ≡ Some summary }
     {
         let segment = word(block, 4);
         let offset = half(block, 8);
@@ -135,9 +138,11 @@ fn entry_place(k: usize) -> usize
 fn write_entries(entries: &[SummaryEntry; ENTRY_LIMIT], count: usize, block: &mut Block)
     requires { count ≤ ENTRY_LIMIT }
     ensures bytes { IsBlock block.new }
-    ensures written { (k : ℕ) → k < count → IsEntryAt block.new (16 + 12 * k) (slice_index_or entries.now k unused) }
+    ensures written { (k : ℕ) → k < count
+        → IsEntryAt block.new (16 + 12 * k) (slice_index_or entries.now k unused) }
     ensures before { (i : ℕ) → i < 16 → slice_index block.new i ≡ slice_index block.old i }
-    ensures after { (i : ℕ) → 16 + 12 * count ≤ i → slice_index block.new i ≡ slice_index block.old i }
+    ensures after { (i : ℕ) → 16 + 12 * count ≤ i
+        → slice_index block.new i ≡ slice_index block.old i }
 {
     for k in 0..count {
         entries[k].write(block, entry_place(k));
@@ -148,7 +153,8 @@ fn write_entries(entries: &[SummaryEntry; ENTRY_LIMIT], count: usize, block: &mu
 fn read_entries(block: &Block, count: usize) -> Option<[SummaryEntry; ENTRY_LIMIT]>
     requires { count ≤ ENTRY_LIMIT }
     ensures found { IfSome result (λ entries. AreEntriesAt block.now count entries) }
-    ensures only { (entries : List SummaryEntry) → AreEntriesAt block.now count entries → result ≡ Some entries }
+    ensures only { (entries : List SummaryEntry) → AreEntriesAt block.now count entries
+        → result ≡ Some entries }
 {
     let mut entries = [SummaryEntry::UNUSED; ENTRY_LIMIT];
     for k in 0..count {
