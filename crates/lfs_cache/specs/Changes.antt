@@ -15,13 +15,15 @@ pub record KeepsBlocks (old new : Contents) : Type 0 where
 -- every key but this one has the block that it had, dirty or clean as it was
 pub record KeepsOthers (key : Key) (old new : Contents) : Type 0 where
   pub blocks : (other : Key) → same_key key other ≡ false → block_of other new ≡ block_of other old
-  pub dirty : (other : Key) → same_key key other ≡ false → block_in other new.locked ≡ block_in other old.locked
+  pub dirty : (other : Key) → same_key key other ≡ false
+      → block_in other new.locked ≡ block_in other old.locked
 
 -- every key but this one has the block that it had, or its block was clean and gave way
 pub record GainsOnly (key : Key) (old new : Contents) : Type 0 where
   pub blocks : (other : Key) (block : List ℕ) → same_key key other ≡ false
       → block_of other new ≡ Some block → block_of other old ≡ Some block
-  pub dirty : (other : Key) → same_key key other ≡ false → block_in other new.locked ≡ block_in other old.locked
+  pub dirty : (other : Key) → same_key key other ≡ false
+      → block_in other new.locked ≡ block_in other old.locked
 
 -- what holds of every cache: no key is held twice, each block is whole, and few keys are LOCKED
 pub record IsContents (s : Contents) : Type 0 where

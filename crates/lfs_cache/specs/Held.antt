@@ -28,7 +28,8 @@ held_by l keys = record {
 
 -- the keys at the frames are as the queues say, but for the frame of the number `but`, and `names` are those of the
 -- locked frames
-pub record AreHeld (l : FrameLists) (keys : List (Option Key)) (but : ℕ) (names : List Key) : Type 0 where
+pub record AreHeld (l : FrameLists) (keys : List (Option Key)) (but : ℕ)
+    (names : List Key) : Type 0 where
   pub whole : IsWhole l
   pub sized : length keys ≡ frame_count l
   pub many : least_frames ≤ frame_count l
@@ -39,9 +40,11 @@ pub record AreHeld (l : FrameLists) (keys : List (Option Key)) (but : ℕ) (name
 
 -- each frame that has a key has a whole block
 abbrev pub AreSized : List (Option Key) → List (List ℕ) → Type 0
-AreSized keys blocks = (f : ℕ) (k : Key) → key_at keys f ≡ Some k → length (slice_index_or blocks f []) ≡ BLOCK_SIZE
+AreSized keys blocks = (f : ℕ) (k : Key) → key_at keys f ≡ Some k
+    → length (slice_index_or blocks f []) ≡ BLOCK_SIZE
 
-pub record IsCache (l : FrameLists) (keys : List (Option Key)) (names : List Key) (capacity : ℕ) : Type 0 where
+pub record IsCache (l : FrameLists) (keys : List (Option Key)) (names : List Key)
+    (capacity : ℕ) : Type 0 where
   pub are : AreHeld l keys (frame_count l) names
   pub limit : length l.locked ≤ LOCKED_LIMIT
   pub room : LOCKED_LIMIT ≤ capacity

@@ -20,7 +20,8 @@ IsFree places start d = (start + d < length places) × (frame_at places (start +
 
 -- f is found from `start` on, before any free place
 abbrev pub IsReached : List (Option ℕ) → ℕ → ℕ → Type 0
-IsReached places start f = (d : ℕ) × (start + d < length places) × (frame_at places (start + d) ≡ Some f)
+IsReached places start f = (d : ℕ) × (start + d < length places)
+    × (frame_at places (start + d) ≡ Some f)
     × ((e : ℕ) → e < d → IsSome (frame_at places (start + e)))
 
 -- how many places are taken
@@ -35,6 +36,7 @@ pub record IsIndex (keys : List (Option Key)) (places : List (Option ℕ)) (take
   pub bounded : length keys ≤ most_frames
   pub sized : length places ≡ 6 * length keys
   pub inside : (p f : ℕ) → frame_at places p ≡ Some f → f < length keys
-  pub found : (f : ℕ) (k : Key) → key_at keys f ≡ Some k → IsReached places (start_of k (4 * length keys)) f
+  pub found : (f : ℕ) (k : Key) → key_at keys f ≡ Some k
+      → IsReached places (start_of k (4 * length keys)) f
   pub counted : count_taken places ≡ taken
   pub room : taken ≤ 2 * length keys

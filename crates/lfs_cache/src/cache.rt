@@ -49,7 +49,8 @@ impl Model for Cache {
 fn move_first(frames: &mut Frames, locked: &mut Vec<Key>, frame: u32, key: Key, queue: Queue)
     requires in_range { frame < frame_count frames.old }
     requires listed { HoldsNoOther frame key frames.old locked.old.items }
-    requires room { HasRoom queue (length (names_without key locked.old.items)) (vec_capacity locked.old) }
+    requires room { HasRoom queue (length (names_without key locked.old.items))
+        (vec_capacity locked.old) }
     ensures frames { frames.new ≡ fronted frame queue frames.old }
     ensures whole { IsWhole frames.new }
     ensures names { locked.new.items ≡ names_after queue key locked.old.items }
@@ -169,7 +170,8 @@ impl Cache {
         ensures dirty { block_in key self.new.locked ≡ Some block.now }
         ensures others { GainsOnly key self.old self.new }
         ensures one_more { length self.new.locked ≤ length self.old.locked + 1 }
-        ensures none_more { IsLocked key self.old → length self.new.locked ≡ length self.old.locked }
+        ensures none_more { IsLocked key self.old
+            → length self.new.locked ≡ length self.old.locked }
         ensures formed { IsContents self.new }
     {
         if let Some(frame) = self.index.find(key) {
@@ -232,8 +234,10 @@ impl Cache {
         ensures contents { self.new ≡ forgotten key self.old }
         ensures gone { block_of key self.new ≡ None }
         ensures unlocked { block_in key self.new.locked ≡ None }
-        ensures one_less { IsLocked key self.old → length self.new.locked + 1 ≡ length self.old.locked }
-        ensures none_less { block_in key self.old.locked ≡ None → self.new.locked ≡ self.old.locked }
+        ensures one_less { IsLocked key self.old
+            → length self.new.locked + 1 ≡ length self.old.locked }
+        ensures none_less { block_in key self.old.locked ≡ None
+            → self.new.locked ≡ self.old.locked }
         ensures others { KeepsOthers key self.old self.new }
         ensures formed { IsContents self.new }
     {

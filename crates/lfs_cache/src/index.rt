@@ -131,7 +131,8 @@ impl Index {
 
     /// The frame of a key.
     pub(crate) fn find(&self, key: Key) -> Option<u32>
-        ensures { MatchOption result ((f : ℕ) → key_at self.now f ≢ Some key) (λ f. (f < length self.now) × (key_at self.now f ≡ Some key)) }
+        ensures { MatchOption result ((f : ℕ) → key_at self.now f ≢ Some key)
+            (λ f. (f < length self.now) × (key_at self.now f ≡ Some key)) }
     {
         let start = start(key, 4 * self.keys.len());
         for place in start..self.places.len() {
