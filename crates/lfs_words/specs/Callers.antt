@@ -29,7 +29,8 @@ is_short word = nat_le (decimal_value word) 4294967295
 -- the first fault of decimals that stand in one word
 abbrev pub decimals_fault : List (List ℕ) → Option FaultKind
 decimals_fault parts =
-    if list_all is_decimal parts then (if list_all is_short parts then None else Some Range) else Some Number
+    if list_all is_decimal parts then (if list_all is_short parts then None else Some Range)
+    else Some Number
 
 abbrev pub or_cred : Option BadCred → Option FaultKind
 or_cred None = None

@@ -5,7 +5,8 @@ use Rattle.lfs_words.specs.declared.fault.FaultKind.TheVariants.{Memory}
 
 -- the second reading, if the first has no fault
 infixl 10 ◌>>=◌
-abbrev pub ◌>>=◌ : {A B : Type 0} → Result A FaultKind → (A → Result B FaultKind) → Result B FaultKind
+abbrev pub ◌>>=◌ : {A B : Type 0} → Result A FaultKind → (A → Result B FaultKind)
+    → Result B FaultKind
 Ok x >>= next = next x
 Err kind >>= next = Err kind
 

@@ -23,7 +23,8 @@ are_decimals first second third fourth =
 abbrev pub info_from : List ℕ → List ℕ → List ℕ → List ℕ → Result BlockInfo FaultKind
 info_from first second third fourth =
     if are_decimals first second third fourth then
-    (short_of first >>= (λ ino. short_of second >>= (λ version. short_of third >>= (λ lbn. short_of fourth >>= (λ addr.
+    (short_of first >>= (λ ino. short_of second >>= (λ version.
+    short_of third >>= (λ lbn. short_of fourth >>= (λ addr.
     Ok (record { ino = ino; version = version; lbn = lbn; addr = addr }))))))
     else Err Number
 
@@ -54,7 +55,8 @@ infos_within most words = if nat_lt most (length words) then Err Many else infos
 
 -- an info as a word: its number, version, logical block and address, with a colon between
 abbrev pub info_text : BlockInfo → List ℕ
-info_text info = join_with_byte 58 (map decimal (info.ino ∷ info.version ∷ info.lbn ∷ info.addr ∷ []))
+info_text info = join_with_byte 58
+    (map decimal (info.ino ∷ info.version ∷ info.lbn ∷ info.addr ∷ []))
 
 -- each part of an info is below 2^32
 pub record IsShortInfo (info : BlockInfo) : Type 0 where

@@ -15,11 +15,13 @@ or_range (Some level) = Ok level
 -- the level of the number that 1 to 20 decimal digits and this sign spell
 abbrev pub level_signed : (ℤ → ℤ) → List ℕ → Result Level FaultKind
 level_signed sign digits =
-    if is_numeral 10 20 digits then or_range (level_of (sign (pos (digits_value 10 digits)))) else Err Number
+    if is_numeral 10 20 digits then or_range (level_of (sign (pos (digits_value 10 digits))))
+    else Err Number
 
 -- the level that a word spells, or why it spells none
 abbrev pub level_word : List ℕ → Result Level FaultKind
-level_word word = if starts_with_minus word then level_signed neg_ℤ (drop 1 word) else level_signed (λ n. n) word
+level_word word = if starts_with_minus word then level_signed neg_ℤ (drop 1 word)
+    else level_signed (λ n. n) word
 
 -- a level as a word
 abbrev pub level_text : Level → List ℕ

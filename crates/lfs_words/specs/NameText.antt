@@ -8,7 +8,8 @@ use Rattle.lfs_words.specs.BytesText.{hex_text}
 -- four octal digits
 unfoldable pub mode_text : ℕ → List ℕ
 mode_text bits =
-    digit_char (bits / 512) ∷ digit_char (bits / 64 % 8) ∷ digit_char (bits / 8 % 8) ∷ digit_char (bits % 8) ∷ []
+    digit_char (bits / 512) ∷ digit_char (bits / 64 % 8) ∷ digit_char (bits / 8 % 8)
+    ∷ digit_char (bits % 8) ∷ []
 
 -- eight hexadecimal digits
 unfoldable pub flags_text : ℕ → List ℕ

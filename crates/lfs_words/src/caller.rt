@@ -51,7 +51,8 @@ fn caller_of(user: &str, groups: &str, init: bool) -> Result<Cred, FaultKind>
 /// Appends the words of a credential, each behind a space, as they stand behind `as`: a user, groups with a comma between,
 /// and the mark of init. They are read back.
 pub fn spell_caller(out: &mut Vec<u8>, cred: &Cred) -> Result<(), AllocError>
-    ensures spelled { OnOk result (out.new.items ≡ out.old.items ++ spaced (caller_words cred.now)) }
+    ensures spelled { OnOk result (out.new.items
+        ≡ out.old.items ++ spaced (caller_words cred.now)) }
     ensures back { OnOk result (caller_said (caller_words cred.now) ≡ Ok cred.now) }
 {
     push_number(out, u64::from(cred.uid()))?;

@@ -76,7 +76,8 @@ fn are_decimals(first: &str, second: &str, third: &str, fourth: &str) -> bool
 
 /// Appends infos, each as a word, which are read back as they are.
 pub fn spell_infos(out: &mut Vec<u8>, infos: &[BlockInfo]) -> Result<(), AllocError>
-    ensures spelled { OnOk result (out.new.items ≡ out.old.items ++ spaced (map info_text infos.now)) }
+    ensures spelled { OnOk result (out.new.items
+        ≡ out.old.items ++ spaced (map info_text infos.now)) }
     ensures back { OnOk result (AreReadBack infos.now) }
 {
     for info in infos {

@@ -12,7 +12,8 @@ use std::str;
 
 /// A text up to its first line feed, and what is behind it.
 pub fn cut_line(text: &[u8]) -> Option<(&[u8], &[u8])>
-    ensures { MatchOption result (HasNoLineFeed text.now) (λ cut. IsFirstLine text.now cut.0.now cut.1.now) }
+    ensures { MatchOption result (HasNoLineFeed text.now)
+        (λ cut. IsFirstLine text.now cut.0.now cut.1.now) }
 {
     match line_feed_at(text) {
         Some(at) => Some((&text[..at], &text[at + 1..])),

@@ -150,7 +150,8 @@ fn push_spelled(out: &mut Vec<u8>, names: &[Name]) -> Result<(), AllocError>
 
 /// Appends `%` and names as a List's answer has them.
 fn push_escaped(out: &mut Vec<u8>, names: &[Name]) -> Result<(), AllocError>
-    ensures { OnOk result (out.new.items ≡ out.old.items ++ 32 ∷ 37 ∷ slashed (map name_text names.now)) }
+    ensures { OnOk result (out.new.items
+        ≡ out.old.items ++ 32 ∷ 37 ∷ slashed (map name_text names.now)) }
 {
     push_word(out, "%")?;
     for name in names {

@@ -19,7 +19,8 @@ pub type Pieces<'a> = SmallVec<&'a str, INLINE_PIECES>;
 #[inline(always)]
 pub fn pieces<'a>(alloc: Global, text: &'a str, separator: char) -> Result<Pieces<'a>, AllocError>
     requires { separator < 128 }
-    ensures { IfOk result (λ v. map (λ x. x.now) v.items ≡ slice_split (λ b. b == separator) text.now) }
+    ensures { IfOk result (λ v. map (λ x. x.now) v.items
+        ≡ slice_split (λ b. b == separator) text.now) }
 {
     let mut pieces = SmallVec::new(alloc);
     let mut rest = text;
@@ -86,7 +87,8 @@ pub fn two_words<'a>(words: &[&'a str]) -> Result<(&'a str, &'a str), FaultKind>
 /// Three words.
 pub fn three_words<'a>(words: &[&'a str]) -> Result<(&'a str, &'a str, &'a str), FaultKind>
     ensures { MatchResult result
-        (λ three. three_words (map (λ x. x.now) words.now) ≡ Ok (three.0.now, three.1.now, three.2.now))
+        (λ three. three_words (map (λ x. x.now) words.now)
+        ≡ Ok (three.0.now, three.1.now, three.2.now))
         (λ kind. three_words (map (λ x. x.now) words.now) ≡ Err kind) }
 {
     match words {
