@@ -1,11 +1,12 @@
 //! A table of where the names of large directories stand, as FreeBSD's dirhash.
 
-ghost use Rattle.std.specs.Prelude.{◌≡◌, ◌≤◌, ◌<◌, ◌*◌, ℕ, List, take, drop, None, IfOk, IsSome, is_some, vec_len};
+ghost use Rattle.std.specs.Prelude.{◌≡◌, ◌≤◌, ◌<◌, ◌*◌, ℕ, List, take, drop, None, IfOk, IsSome, is_some, nat_le, vec_len};
 ghost use Rattle.lfs_types.specs.declared.block.TheConstants.{BLOCK_SIZE};
 ghost use Rattle.lfs_types.specs.Stored.{bytes_of};
 ghost use Rattle.lfs_types.specs.Tree.{Content};
 ghost use Rattle.lfs_dirs.specs.Directory.{number_in};
 ghost use Rattle.lfs_dirs.specs.Reading.{entries_of};
+ghost use Rattle.lfs_known.specs.declared.name_table.TheConstants.{MOST_PUTS};
 
 use crate::slots::Slots;
 use crate::spot::{SPOTS, Spot, hash};
@@ -50,8 +51,10 @@ impl NameTable {
         self.whole.look(dir).is_some()
     }
 
-    /// Whether so many blocks were followed that it should be made anew.
-    pub fn is_full(&self) -> bool {
+    /// Whether so many blocks and names were followed, 8,192 or more, that it should be made anew.
+    pub fn is_full(&self) -> bool
+        ensures { result ≡ nat_le MOST_PUTS self.now.puts }
+    {
         self.puts >= MOST_PUTS
     }
 
