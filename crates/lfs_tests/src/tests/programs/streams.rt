@@ -56,6 +56,7 @@ fn programs_over_a_reader_that_fails(rt: HostRuntime) {
 fn programs_over_a_writer_that_fails(rt: HostRuntime) {
     let alloc = rt.alloc();
     for (program, name, told) in PROGRAMS {
+        // The first write fails; or up to nine pass, and the flush fails.
         for (writes, flushes) in [(0, true), (9, false)] {
             let mut stdin = INPUT;
             let mut stdout = Full { writes, flushes };
