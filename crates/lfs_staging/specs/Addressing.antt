@@ -25,7 +25,8 @@ pub record IsWaiting (p : Parts) (v : Inode) : Type 0 where
 -- Other bytes wait for a key, what else waits is what waited, and no block is clean that wasn't.
 pub record Restages (old new : Contents) (key : Key) (block : List ℕ) : Type 0 where
   pub here : block_in key new.locked ≡ Some block
-  pub others : (other : Key) → same_key key other ≡ false → block_in other new.locked ≡ block_in other old.locked
+  pub others : (other : Key) → same_key key other ≡ false
+      → block_in other new.locked ≡ block_in other old.locked
   pub clean : GainsNoClean old new
   pub formed : IsContents new
   pub many : length new.locked ≡ length old.locked
@@ -51,11 +52,13 @@ pub record StaysWaiting (old new : Parts) (v : Inode) : Type 0 where
   pub after : Inode
   pub here : IsWaiting new after
   pub same : attributes after ≡ attributes v
-  pub others : (number : ℕ) → number ≢ v.number → waiting_in new.waiting number ≡ waiting_in old.waiting number
+  pub others : (number : ℕ) → number ≢ v.number
+      → waiting_in new.waiting number ≡ waiting_in old.waiting number
   pub numbers : numbers_of new.waiting ≡ numbers_of old.waiting
 
 -- An address was set in an indirect block that waits.
-pub record SetsEntry (old new : Contents) (key : Key) (index address : ℕ) (before : List ℕ) : Type 0 where
+pub record SetsEntry (old new : Contents) (key : Key) (index address : ℕ)
+    (before : List ℕ) : Type 0 where
   pub after : List ℕ
   pub changed : cells after ≡ slice_set (cells before) index address
   pub rewritten : Restages old new key after

@@ -26,7 +26,8 @@ pub record StaysInLog (old new : Parts) : Type 0 where
 
 -- The version of a number after a change: the one behind its last where the change makes it, else the one that it had.
 abbrev pub version_after : Change → ℕ → ℕ → ℕ
-version_after (Make ino attrs) number version = if number == ino then raised_version version else version
+version_after (Make ino attrs) number version = if number == ino then raised_version version
+    else version
 version_after (Remove ino) number version = version
 version_after (SetAttrs ino attrs) number version = version
 version_after (Put ino off bytes) number version = version
@@ -52,7 +53,8 @@ abbrev pub frames_of : Change → ℕ
 frames_of (Make ino attrs) = 0
 frames_of (Remove ino) = 0
 frames_of (SetAttrs ino attrs) = 0
-frames_of (Put ino off bytes) = if length bytes.now == 0 then 0 else frames_of_put off (length bytes.now)
+frames_of (Put ino off bytes) = if length bytes.now == 0 then 0
+    else frames_of_put off (length bytes.now)
 frames_of (SetLength ino len) = frames_of_length len
 
 -- the records that it has wait at most

@@ -29,7 +29,8 @@ use Rattle.lfs_parts.specs.Waiting.{KeepsOtherRecords, without}
 
 -- the content with a file cut, or with zeros added to it, to have this many bytes
 abbrev pub with_length : ℕ → ℕ → Content → Content
-with_length number len c = changed_at (map.get c number) number (λ f. record f { bytes = resized f.bytes len }) c
+with_length number len c = changed_at (map.get c number) number
+    (λ f. record f { bytes = resized f.bytes len }) c
 
 -- The block at the end of a way of a number has no address, and doesn't wait.
 pub record IsGone (p : Parts) (number : ℕ) (way : List ℕ) : Type 0 where
@@ -38,7 +39,8 @@ pub record IsGone (p : Parts) (number : ℕ) (way : List ℕ) : Type 0 where
 
 -- no block of a number that leads only to data blocks from one on has an address, and none waits
 abbrev pub GoneFrom : Parts → ℕ → ℕ → Type 0
-GoneFrom p number first = (block : FileBlock) → IsFileBlock block → code_of block ≢ 0 → first ≤ first_under block
+GoneFrom p number first = (block : FileBlock) → IsFileBlock block → code_of block ≢ 0
+    → first ≤ first_under block
     → IsGone p number (way_to block)
 
 -- A block of a file may be given back: it lies within the file, whose record waits, and so does what holds the block's
@@ -50,7 +52,8 @@ pub record MayClear (p : Parts) (number : ℕ) (block : FileBlock) : Type 0 wher
   pub can : IsFileBlock block
   pub other : code_of block ≢ 0
   pub within : (f : Fields) → record_of p number ≡ Some f → IsWithin block f.attributes.size
-  pub parent : (i : ℕ) (up : List ℕ) → way_to block ≡ i ∷ up → HolderWaits p.cache number (version_of p number) up
+  pub parent : (i : ℕ) (up : List ℕ) → way_to block ≡ i ∷ up
+      → HolderWaits p.cache number (version_of p number) up
   pub beneath : (j : ℕ) → IsBlockWay (j ∷ way_to block) → IsGone p number (j ∷ way_to block)
 
 -- the record of a number has these attributes
@@ -63,7 +66,8 @@ pub record KeepsRest (number : ℕ) (old new : Parts) : Type 0 where
   pub log : StaysInLog old new
   pub rows : new.log.tables.rows ≡ old.log.tables.rows
   pub others : (n : ℕ) → n ≢ number → record_of new n ≡ record_of old n
-  pub attributes : (f : Fields) → record_of old number ≡ Some f → HasAttributes new number f.attributes
+  pub attributes : (f : Fields) → record_of old number ≡ Some f
+      → HasAttributes new number f.attributes
   pub waits : IsSome (waiting_in new.waiting number)
   pub other_records : KeepsOtherRecords number old.waiting new.waiting
   pub many : length new.waiting ≤ length old.waiting
@@ -74,11 +78,11 @@ pub record ClearsBlock (number : ℕ) (block : FileBlock) (old new : Parts) : Ty
   pub rest : KeepsRest number old new
   pub nowhere : address (tree_of new number) (way_to block) ≡ 0
   pub free : IsLocked (key_of number (version_of old number) (code_of block)) new.cache → ⊥
-  pub addresses : (way : List ℕ) → IsBlockWay way → way ≢ way_to block → address (tree_of new number) way
-      ≡ address (tree_of old number) way
+  pub addresses : (way : List ℕ) → IsBlockWay way → way ≢ way_to block
+      → address (tree_of new number) way ≡ address (tree_of old number) way
   pub only : (key : Key) → IsLocked key new.cache → IsLocked key old.cache
-  pub kept : (key : Key) → same_key (key_of number (version_of old number) (code_of block)) key ≡ false
-      → IsLocked key old.cache → IsLocked key new.cache
+  pub kept : (key : Key) → same_key (key_of number (version_of old number) (code_of block)) key
+      ≡ false → IsLocked key old.cache → IsLocked key new.cache
   pub data_same : (n index : ℕ) → (n ≢ number) ⊎ (FIRST_DATA_CODE + index ≢ code_of block)
       → data_block (tree_of new n) index ≡ data_block (tree_of old n) index
 
@@ -101,10 +105,11 @@ pub record ClearsBlocks (number first end : ℕ) (old new : Parts) : Type 0 wher
   pub gone : (index : ℕ) → first ≤ index → index < end → IsGone new number (data_way index)
   pub still : (block : FileBlock) → IsFileBlock block → IsGone old number (way_to block)
       → IsGone new number (way_to block)
-  pub tables : (code : ℕ) → code < FIRST_DATA_CODE → IsLocked (key_of number (version_of old number) code) old.cache
+  pub tables : (code : ℕ) → code < FIRST_DATA_CODE
+      → IsLocked (key_of number (version_of old number) code) old.cache
       → IsLocked (key_of number (version_of old number) code) new.cache
-  pub data_same : (n index : ℕ) → (n ≢ number) ⊎ ((index < first) ⊎ (end ≤ index)) → data_block (tree_of new n) index
-      ≡ data_block (tree_of old n) index
+  pub data_same : (n index : ℕ) → (n ≢ number) ⊎ ((index < first) ⊎ (end ≤ index))
+      → data_block (tree_of new n) index ≡ data_block (tree_of old n) index
 
 -- An indirect block that waits may be given back, with the data blocks up to before one whose addresses stand in it:
 -- these may be given back, and then the block itself.
@@ -126,11 +131,10 @@ pub record ClearsTable (number : ℕ) (table : FileBlock) (end : ℕ) (old new :
 -- Of the blocks of a file that lead only to data blocks from one on those are gone that hold addresses and have a code
 -- from `turn` on, and the data blocks whose addresses stand in a block with such a code.
 pub record GoneDown (p : Parts) (number left turn : ℕ) : Type 0 where
-  pub tables : (block : FileBlock) → IsFileBlock block → code_of block < FIRST_DATA_CODE → turn ≤ code_of block
-      → left ≤ first_under block
-      → IsGone p number (way_to block)
-  pub blocks : (index : ℕ) → index < FILE_BLOCKS → turn ≤ code_of (table_of (Data index)) → left ≤ index
-      → IsGone p number (data_way index)
+  pub tables : (block : FileBlock) → IsFileBlock block → code_of block < FIRST_DATA_CODE
+      → turn ≤ code_of block → left ≤ first_under block → IsGone p number (way_to block)
+  pub blocks : (index : ℕ) → index < FILE_BLOCKS → turn ≤ code_of (table_of (Data index))
+      → left ≤ index → IsGone p number (data_way index)
 
 -- What a block that holds addresses leads to may be given back, from data block `left` on: what has a greater code went
 -- before, and there are frames for the block and its parents.
@@ -162,7 +166,8 @@ last_table left = table_of (Data (left - 1))
 -- The codes of the blocks that a cut has wait while what a block leads to goes: the last data block that is left and
 -- what holds its address, the block and its parents. What leads to that holder is among these.
 abbrev pub cut_codes : ℕ → FileBlock → List ℕ
-cut_codes left table = (FIRST_DATA_CODE + (left - 1)) ∷ code_of (last_table left) ∷ codes_on (way_to table)
+cut_codes left table = (FIRST_DATA_CODE + (left - 1)) ∷ code_of (last_table left)
+    ∷ codes_on (way_to table)
 
 -- The codes of the blocks that it has wait when the turn of the block with a code is over: those that lead to the last
 -- data block that is left, and the double indirect block, as long as its turn is to come.
@@ -197,7 +202,8 @@ pub record MayDropAll (p : Parts) (number left blocks : ℕ) : Type 0 where
 pub record DropsBlocks (number left : ℕ) (old new : Parts) : Type 0 where
   pub staged : IsStaged new 0
   pub rest : KeepsRest number old new
-  pub takes : TakesOnly number (version_of old number) (codes_on (way_to (last_table left))) old.cache new.cache
+  pub takes : TakesOnly number (version_of old number)
+      (codes_on (way_to (last_table left))) old.cache new.cache
   pub gone : GoneFrom new number left
   pub data_same : (n index : ℕ) → (n ≢ number) ⊎ (index < left) → data_block (tree_of new n) index
       ≡ data_block (tree_of old n) index
@@ -207,9 +213,12 @@ pub record CutsBlock (number index len : ℕ) (old new : Parts) : Type 0 where
   pub staged : IsStaged new 0
   pub log : new.log ≡ old.log
   pub records : (n : ℕ) → record_of new n ≡ record_of old n
-  pub addresses : (n : ℕ) (way : List ℕ) → IsBlockWay way → address (tree_of new n) way ≡ address (tree_of old n) way
-  pub cut : IsBlockCut index len (data_block (tree_of old number) index) (data_block (tree_of new number) index)
-  pub others : (n m : ℕ) → (n ≢ number) ⊎ (m ≢ index) → data_block (tree_of new n) m ≡ data_block (tree_of old n) m
+  pub addresses : (n : ℕ) (way : List ℕ) → IsBlockWay way
+      → address (tree_of new n) way ≡ address (tree_of old n) way
+  pub cut : IsBlockCut index len (data_block (tree_of old number) index)
+      (data_block (tree_of new number) index)
+  pub others : (n m : ℕ) → (n ≢ number) ⊎ (m ≢ index)
+      → data_block (tree_of new n) m ≡ data_block (tree_of old n) m
   pub takes : TakesFrames number (Data index) old new
 
 -- What the blocks of a file that a length takes have past it is zero. Nothing else changed.
@@ -217,7 +226,8 @@ pub record CutsLast (number len : ℕ) (old new : Parts) : Type 0 where
   pub staged : IsStaged new 0
   pub log : new.log ≡ old.log
   pub records : (n : ℕ) → record_of new n ≡ record_of old n
-  pub addresses : (n : ℕ) (way : List ℕ) → IsBlockWay way → address (tree_of new n) way ≡ address (tree_of old n) way
+  pub addresses : (n : ℕ) (way : List ℕ) → IsBlockWay way
+      → address (tree_of new n) way ≡ address (tree_of old n) way
   pub cut : (m : ℕ) → m < block_count len → IsBlockCut m len (data_block (tree_of old number) m)
       (data_block (tree_of new number) m)
   pub others : (n m : ℕ) → (n ≢ number) ⊎ (block_count len ≤ m) → data_block (tree_of new n) m
@@ -257,8 +267,10 @@ pub record CutsFile (number len : ℕ) (old new : Parts) : Type 0 where
   pub here : (f : Fields) → record_of old number ≡ Some f
       → HasAttributes new number (record (f.attributes) { size = len })
   pub others : (n : ℕ) → n ≢ number → record_of new n ≡ record_of old n
-  pub cut : (m : ℕ) → IsBlockCut m len (data_block (tree_of old number) m) (data_block (tree_of new number) m)
-  pub data_same : (n m : ℕ) → n ≢ number → data_block (tree_of new n) m ≡ data_block (tree_of old n) m
+  pub cut : (m : ℕ) → IsBlockCut m len (data_block (tree_of old number) m)
+      (data_block (tree_of new number) m)
+  pub data_same : (n m : ℕ) → n ≢ number
+      → data_block (tree_of new n) m ≡ data_block (tree_of old n) m
   pub frames : length new.cache.locked ≤ length old.cache.locked + frames_of_length len
   pub takes : TakesOnly number (version_of old number) (length_codes len) old.cache new.cache
   pub other_records : KeepsOtherRecords number old.waiting new.waiting

@@ -28,7 +28,8 @@ use Rattle.lfs_parts.specs.View.{LiesIn, blocks_of, key_of, record_of, tree_of, 
 
 -- all of block n of a file is among some bytes at a place of it
 abbrev pub Covers : ℕ → ℕ → List ℕ → Type 0
-Covers n start bytes = (start ≤ BLOCK_SIZE * n) × (BLOCK_SIZE * n + BLOCK_SIZE ≤ start + length bytes)
+Covers n start bytes = (start ≤ BLOCK_SIZE * n)
+    × (BLOCK_SIZE * n + BLOCK_SIZE ≤ start + length bytes)
 
 -- how many blocks some bytes at a place of a file fall into, at least one
 abbrev pub blocks_of_put : ℕ → ℕ → ℕ
@@ -50,16 +51,21 @@ pub record LeadsToPut (start count code : ℕ) : Type 0 where
 abbrev pub TakesPut : ℕ → ℕ → ℕ → ℕ → Contents → Contents → Type 0
 TakesPut number version start count old new =
     (key : Key) → IsLocked key new
-    → ((code : ℕ) × LeadsToPut start count code × (key ≡ key_of number version code)) ⊎ IsLocked key old
+    → ((code : ℕ) × LeadsToPut start count code × (key ≡ key_of number version code))
+    ⊎ IsLocked key old
 
 -- What falls of some bytes, put at `start` of a file, into one of its data blocks is there, and nothing else changed.
 pub record PutsBlock (v : Inode) (index start : ℕ) (bytes : List ℕ) (old new : Parts) : Type 0 where
   pub log : new.log ≡ old.log
   pub records : (n : ℕ) → record_of new n ≡ record_of old n
-  pub put : IsPut index start bytes (data_block (tree_of old v.number) index) (data_block (tree_of new v.number) index)
-  pub rest : (m : ℕ) → m ≢ index → data_block (tree_of new v.number) m ≡ data_block (tree_of old v.number) m
-  pub others : (n m : ℕ) → n ≢ v.number → data_block (tree_of new n) m ≡ data_block (tree_of old n) m
-  pub addresses : (n : ℕ) (way : List ℕ) → IsBlockWay way → address (tree_of new n) way ≡ address (tree_of old n) way
+  pub put : IsPut index start bytes (data_block (tree_of old v.number) index)
+      (data_block (tree_of new v.number) index)
+  pub rest : (m : ℕ) → m ≢ index → data_block (tree_of new v.number) m
+      ≡ data_block (tree_of old v.number) m
+  pub others : (n m : ℕ) → n ≢ v.number
+      → data_block (tree_of new n) m ≡ data_block (tree_of old n) m
+  pub addresses : (n : ℕ) (way : List ℕ) → IsBlockWay way
+      → address (tree_of new n) way ≡ address (tree_of old n) way
   pub again : MayStage new v
   pub kept : (spare : ℕ) → IsStaged old spare → IsStaged new spare
   pub takes : TakesFrames v.number (Data index) old new
@@ -68,12 +74,16 @@ pub record PutsBlock (v : Inode) (index start : ℕ) (bytes : List ℕ) (old new
 pub record PutsBytes (v : Inode) (start : ℕ) (bytes : List ℕ) (old new : Parts) : Type 0 where
   pub log : new.log ≡ old.log
   pub records : (n : ℕ) → record_of new n ≡ record_of old n
-  pub put : (m : ℕ) → IsPut m start bytes (data_block (tree_of old v.number) m) (data_block (tree_of new v.number) m)
-  pub others : (n m : ℕ) → n ≢ v.number → data_block (tree_of new n) m ≡ data_block (tree_of old n) m
-  pub addresses : (n : ℕ) (way : List ℕ) → IsBlockWay way → address (tree_of new n) way ≡ address (tree_of old n) way
+  pub put : (m : ℕ) → IsPut m start bytes (data_block (tree_of old v.number) m)
+      (data_block (tree_of new v.number) m)
+  pub others : (n m : ℕ) → n ≢ v.number
+      → data_block (tree_of new n) m ≡ data_block (tree_of old n) m
+  pub addresses : (n : ℕ) (way : List ℕ) → IsBlockWay way
+      → address (tree_of new n) way ≡ address (tree_of old n) way
   pub again : MayStage new v
   pub kept : (spare : ℕ) → IsStaged old spare → IsStaged new spare
-  pub frames : length new.cache.locked ≤ length old.cache.locked + frames_of_put start (length bytes)
+  pub frames : length new.cache.locked
+      ≤ length old.cache.locked + frames_of_put start (length bytes)
   pub only : TakesPut v.number (version_of old v.number) start (length bytes) old.cache new.cache
   pub waiting : without v.number new.waiting ≡ without v.number old.waiting
 

@@ -31,8 +31,9 @@ pub record IsStaged (p : Parts) (spare : ℕ) : Type 0 where
   pub parents : ParentsWait p
   pub once : AreOnce p.waiting
   pub few : length p.waiting ≤ WAITING_LIMIT
-  pub within : (number : ℕ) (block : FileBlock) (f : Fields) → record_of p number ≡ Some f → IsFileBlock block
-      → IsLocked (key_of number (version_of p number) (code_of block)) p.cache → IsWithin block f.attributes.size
+  pub within : (number : ℕ) (block : FileBlock) (f : Fields) → record_of p number ≡ Some f
+      → IsFileBlock block → IsLocked (key_of number (version_of p number) (code_of block)) p.cache
+      → IsWithin block f.attributes.size
 
 -- A record waits, in place of any other of its number. Nothing else changed.
 pub record StagesRecord (v : Inode) (old new : Parts) : Type 0 where
@@ -54,7 +55,8 @@ pub record GrowsBy (key : Key) (old new : Parts) : Type 0 where
   pub none_more : IsLocked key old.cache → length new.cache.locked ≡ length old.cache.locked
 
 -- Bytes wait for a block of a number. Nothing else changed.
-pub record StagesBlock (number : ℕ) (block : FileBlock) (bytes : List ℕ) (old new : Parts) : Type 0 where
+pub record StagesBlock (number : ℕ) (block : FileBlock) (bytes : List ℕ)
+    (old new : Parts) : Type 0 where
   pub log : new.log ≡ old.log
   pub waiting : new.waiting ≡ old.waiting
   pub staged : Stages (tree_of old number) (tree_of new number) (way_to block) bytes
@@ -75,7 +77,8 @@ pub record HasParents (p : Parts) (number : ℕ) (block : FileBlock) : Type 0 wh
 -- each key that waits is of one of some codes of a number, or waited
 abbrev pub TakesOnly : ℕ → ℕ → List ℕ → Contents → Contents → Type 0
 TakesOnly number version codes old new =
-    (key : Key) → IsLocked key new → ((code : ℕ) × Contains codes code × (key ≡ key_of number version code))
+    (key : Key) → IsLocked key new
+    → ((code : ℕ) × Contains codes code × (key ≡ key_of number version code))
     ⊎ IsLocked key old
 
 -- A data block of the file with this record may wait: it is the record of a number in use, and there is room for it.
@@ -91,13 +94,14 @@ pub record MayStage (p : Parts) (v : Inode) : Type 0 where
 -- There are frames for the blocks of some codes of a number: whichever of them come to wait, each other one finds a
 -- frame.
 pub record HasFrames (p : Parts) (number : ℕ) (codes : List ℕ) : Type 0 where
-  pub each : (c : Contents) → IsContents c → TakesOnly number (version_of p number) codes p.cache c → (code : ℕ)
-      → Contains codes code
-      → IsLocked (key_of number (version_of p number) code) c ⊎ (length c.locked < LOCKED_LIMIT)
+  pub each : (c : Contents) → IsContents c → TakesOnly number (version_of p number) codes p.cache c
+      → (code : ℕ) → Contains codes code → IsLocked (key_of number (version_of p number) code) c
+      ⊎ (length c.locked < LOCKED_LIMIT)
 
 -- some bytes may be data block `index` of a file of this size: they are zeros past it
 abbrev pub IsZeroPast : ℕ → ℕ → List ℕ → Type 0
-IsZeroPast size index bytes = (k : ℕ) → k < BLOCK_SIZE → size ≤ BLOCK_SIZE * index + k → slice_index bytes k ≡ 0
+IsZeroPast size index bytes = (k : ℕ) → k < BLOCK_SIZE → size ≤ BLOCK_SIZE * index + k
+    → slice_index bytes k ≡ 0
 
 -- The record of a number waits, with what it had, and each file is what it was.
 pub record StagesOwnRecord (number : ℕ) (old new : Parts) : Type 0 where
@@ -118,7 +122,8 @@ pub record StagesParents (number : ℕ) (block : FileBlock) (old new : Parts) : 
   pub room : without number new.waiting ≡ without number old.waiting
   pub once : AreOnce old.waiting → AreOnce new.waiting
   pub stays : (key : Key) → IsLocked key old.cache → IsLocked key new.cache
-  pub takes : TakesOnly number (version_of old number) (codes_on (way_to (table_of block))) old.cache new.cache
+  pub takes : TakesOnly number (version_of old number)
+      (codes_on (way_to (table_of block))) old.cache new.cache
 
 -- A block of a number was staged with its parents: what waits more is on its way.
 pub record TakesFrames (number : ℕ) (block : FileBlock) (old new : Parts) : Type 0 where
@@ -142,6 +147,8 @@ pub record StagesData (number index : ℕ) (bytes : List ℕ) (old new : Parts) 
   pub log : new.log ≡ old.log
   pub records : (n : ℕ) → record_of new n ≡ record_of old n
   pub here : data_block (tree_of new number) index ≡ bytes
-  pub others : (n m : ℕ) → (n ≢ number) ⊎ (m ≢ index) → data_block (tree_of new n) m ≡ data_block (tree_of old n) m
-  pub addresses : (n : ℕ) (way : List ℕ) → IsBlockWay way → address (tree_of new n) way ≡ address (tree_of old n) way
+  pub others : (n m : ℕ) → (n ≢ number) ⊎ (m ≢ index)
+      → data_block (tree_of new n) m ≡ data_block (tree_of old n) m
+  pub addresses : (n : ℕ) (way : List ℕ) → IsBlockWay way
+      → address (tree_of new n) way ≡ address (tree_of old n) way
   pub takes : TakesFrames number (Data index) old new

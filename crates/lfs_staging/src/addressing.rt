@@ -45,7 +45,8 @@ pub fn set_address(parts: &mut Parts, inode: &Inode, block: FileBlock, address: 
     requires within { IsWithin block inode.now.size }
     requires in_volume { address < ADDRESS_LIMIT }
     requires cache { IsContents parts.old.cache }
-    requires present { All (λ (w : Inode). IsPresent parts.old w.number w.version) parts.old.waiting }
+    requires present { All (λ (w : Inode). IsPresent parts.old w.number w.version)
+        parts.old.waiting }
     requires parent { (i : ℕ) (up : List ℕ) → way_to block ≡ i ∷ up
         → HolderWaits parts.old.cache inode.now.number inode.now.version up }
     ensures set { (i : ℕ) (up : List ℕ) → way_to block ≡ i ∷ up

@@ -25,7 +25,8 @@ use lfs_types::block::{BLOCK_SIZE, Block};
 /// A data block of a file, where all of it is among bytes put at byte `off` of the file.
 fn whole_of<'a>(index: u32, off: u64, bytes: &'a [u8]) -> Option<&'a Block>
     requires { off + length bytes.now < 2 ^ 64 }
-    ensures whole { IfSome result (λ block. (old : List ℕ) → IsPut index off bytes.now old block.now) }
+    ensures whole { IfSome result (λ block. (old : List ℕ)
+        → IsPut index off bytes.now old block.now) }
     ensures part { IfNone result (Covers index off bytes.now → ⊥) }
 {
     let first = BLOCK_SIZE as u64 * u64::from(index);

@@ -38,7 +38,8 @@ pub fn set_length(parts: &mut Parts, ino: u32, len: u64)
     requires staged { IsStaged parts.old 0 }
     requires in_range { ino < length parts.old.log.tables.rows }
     requires in_use { (row_of parts.old.log.tables ino).used ≡ true }
-    requires sized { (f : Fields) → record_of parts.old ino ≡ Some f → IsSizeOf f.attributes.kind len }
+    requires sized { (f : Fields) → record_of parts.old ino ≡ Some f
+        → IsSizeOf f.attributes.kind len }
     requires frames { length parts.old.cache.locked + CUT_FRAMES ≤ LOCKED_LIMIT }
     requires records { length parts.old.waiting < WAITING_LIMIT }
     ensures staged { IsStaged parts.new 0 }
@@ -46,7 +47,8 @@ pub fn set_length(parts: &mut Parts, ino: u32, len: u64)
     ensures size { (f : Fields) → record_of parts.new ino ≡ Some f → f.attributes.size ≡ len }
     ensures log { StaysInLog parts.old parts.new }
     ensures rows { parts.new.log.tables.rows ≡ parts.old.log.tables.rows }
-    ensures frames { length parts.new.cache.locked ≤ length parts.old.cache.locked + frames_of_length len }
+    ensures frames { length parts.new.cache.locked
+        ≤ length parts.old.cache.locked + frames_of_length len }
     ensures waiting { length parts.new.waiting ≤ length parts.old.waiting + 1 }
     // No more records of other numbers wait than records waited.
     ensures others { length (without ino parts.new.waiting) ≤ length parts.old.waiting }

@@ -32,7 +32,8 @@ pub fn make(parts: &mut Parts, ino: u32, attrs: &Attrs)
     requires free { (row_of parts.old.log.tables ino).used ≡ false }
     requires records { length parts.old.waiting < WAITING_LIMIT }
     ensures staged { IsStaged parts.new 0 }
-    ensures content { content_of parts.new ≡ insert (content_of parts.old) ino (file_of attrs.now []) }
+    ensures content { content_of parts.new
+        ≡ insert (content_of parts.old) ino (file_of attrs.now []) }
     ensures log { StaysInLog parts.old parts.new }
     ensures versions { (n : ℕ) → version_of parts.new n ≡ (if n == ino
         then raised_version (version_of parts.old n) else version_of parts.old n) }

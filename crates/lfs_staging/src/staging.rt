@@ -38,7 +38,8 @@ pub fn stage_block(parts: &mut Parts, inode: &Inode, block: FileBlock, bytes: &B
     requires block { IsFileBlock block }
     requires other { code_of block ≢ 0 }
     requires version { inode.now.version ≡ version_of parts.old inode.now.number }
-    requires room { IsLocked (key_of inode.now.number inode.now.version (code_of block)) parts.old.cache
+    requires room { IsLocked (key_of inode.now.number inode.now.version (code_of block))
+        parts.old.cache
         ⊎ (length parts.old.cache.locked < LOCKED_LIMIT) }
     ensures { StagesBlock inode.now.number block bytes.now parts.old parts.new }
 {
@@ -125,7 +126,8 @@ pub fn stage_table(parts: &mut Parts, inode: &Inode, table: FileBlock)
     requires here { record_of parts.old inode.now.number ≡ Some (fields_of inode.now) }
     requires block { IsFileBlock table }
     requires other { code_of table ≢ 0 }
-    requires room { IsLocked (key_of inode.now.number (version_of parts.old inode.now.number) (code_of table))
+    requires room { IsLocked (key_of inode.now.number (version_of parts.old inode.now.number)
+        (code_of table))
         parts.old.cache ⊎ (length parts.old.cache.locked < LOCKED_LIMIT) }
     ensures { StagesBlock inode.now.number table
         (read (tree_of parts.old inode.now.number) (way_to table)) parts.old parts.new }
