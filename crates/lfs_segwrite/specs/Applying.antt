@@ -54,7 +54,8 @@ records_of_all changes = sum_by records_of changes
 
 -- the blocks that so many frames and records take in the log, with the summary before them; nothing takes none
 abbrev pub blocks_for : ℕ → ℕ → ℕ
-blocks_for frames records = if frames + inode_blocks records == 0 then 0 else frames + inode_blocks records + 1
+blocks_for frames records = if frames + inode_blocks records == 0 then 0
+    else frames + inode_blocks records + 1
 
 -- the blocks of the log that changes take at most
 abbrev pub needs_of : List Change → ℕ
@@ -97,7 +98,8 @@ may_use_reserve Superuser c changes = give_back c changes || unlock c changes
 -- the version of a number after changes, in order
 abbrev pub versions_after : List Change → ℕ → ℕ → ℕ
 versions_after [] number version = version
-versions_after (change ∷ changes) number version = versions_after changes number (version_after change number version)
+versions_after (change ∷ changes) number version =
+    versions_after changes number (version_after change number version)
 
 -- the number that a change names
 abbrev pub number_of : Change → ℕ
@@ -131,27 +133,30 @@ pub record OneNames (changes : List Change) (number : ℕ) : Type 0 where
 
 -- The parts are staged with this content and these versions, by at most so many frames and so many records more. What
 -- waits waited, or is one of these blocks of numbers or a record of these numbers. Nothing was written.
-pub record StagesTo (content : Content) (versions : ℕ → ℕ → ℕ) (frames records : ℕ) (blocks : ℕ → ℕ → Type 0)
-    (numbers : ℕ → Type 0) (old new : Parts) : Type 0 where
+pub record StagesTo (content : Content) (versions : ℕ → ℕ → ℕ) (frames records : ℕ)
+    (blocks : ℕ → ℕ → Type 0) (numbers : ℕ → Type 0) (old new : Parts) : Type 0 where
   pub staged : IsStaged new 0
   pub content_is : content_of new ≡ content
   pub versions_are : (number : ℕ) → version_of new number ≡ versions number (version_of old number)
   pub log : StaysInLog old new
   pub frames_more : length new.cache.locked ≤ length old.cache.locked + frames
   pub records_more : length new.waiting ≤ length old.waiting + records
-  pub frames_only : (key : Key) → IsLocked key new.cache → blocks key.ino key.lbn.0 ⊎ IsLocked key old.cache
+  pub frames_only : (key : Key) → IsLocked key new.cache
+      → blocks key.ino key.lbn.0 ⊎ IsLocked key old.cache
   pub records_only : (number : ℕ) → (numbers number → ⊥) → waiting_in new.waiting number
       ≡ waiting_in old.waiting number
 
 -- a change waits
 abbrev pub StagesChange : Change → Parts → Parts → Type 0
-StagesChange change old new = StagesTo (changed change (content_of old)) (version_after change) (frames_of change)
+StagesChange change old new = StagesTo (changed change (content_of old)) (version_after change)
+    (frames_of change)
     (records_of change) (λ number code. (number ≡ number_of change) × MayHaveWait change code)
     (λ number. number ≡ number_of change) old new
 
 -- changes wait, in order
 abbrev pub StagesAll : List Change → Parts → Parts → Type 0
-StagesAll changes old new = StagesTo (applied changes (content_of old)) (versions_after changes) (frames_of_all changes)
+StagesAll changes old new = StagesTo (applied changes (content_of old)) (versions_after changes)
+    (frames_of_all changes)
     (records_of_all changes) (OneMayHaveWait changes) (OneNames changes) old new
 
 -- the blocks of the log that what waits takes, with the summary before them
@@ -170,22 +175,26 @@ pub record WritesWaiting (old new : Parts) : Type 0 where
   pub settled : IsSettled new
   pub content : content_of new ≡ content_of old
   pub log : WritesAhead old new
-  pub used : (number : ℕ) → (row_of new.log.tables number).used ≡ (row_of old.log.tables number).used
+  pub used : (number : ℕ) → (row_of new.log.tables number).used
+      ≡ (row_of old.log.tables number).used
   pub versions : (number : ℕ) → version_of new number ≡ version_of old number
-  pub still : (number code : ℕ) → number < length old.log.tables.rows → code < BLOCK_CODES → (Waits old number code → ⊥)
-      → (log_state new).at number code ≡ (log_state old).at number code
+  pub still : (number code : ℕ) → number < length old.log.tables.rows → code < BLOCK_CODES
+      → (Waits old number code → ⊥) → (log_state new).at number code
+      ≡ (log_state old).at number code
   pub held : KeepsFrames old.cache new.cache
   pub left : ((next_address new.log.memory ≡ next_address old.log.memory + waiting_blocks old)
-      × (room_of old.log.memory ≤ room_of new.log.memory + waiting_blocks old) × (new.log.clean ≡ old.log.clean))
-      ⊎ ((SEGMENT_BLOCKS ≤ room_of new.log.memory + waiting_blocks old + 1) × (new.log.clean + 1 ≡ old.log.clean)
-      × (room_of old.log.memory < waiting_blocks old))
+      × (room_of old.log.memory ≤ room_of new.log.memory + waiting_blocks old)
+      × (new.log.clean ≡ old.log.clean))
+      ⊎ ((SEGMENT_BLOCKS ≤ room_of new.log.memory + waiting_blocks old + 1)
+      × (new.log.clean + 1 ≡ old.log.clean) × (room_of old.log.memory < waiting_blocks old))
 
 -- the frames that a change takes at most while it is staged: a cut has more wait than it leaves waiting
 abbrev pub peak_of : Change → ℕ
 peak_of (Make ino attrs) = 0
 peak_of (Remove ino) = CUT_FRAMES
 peak_of (SetAttrs ino attrs) = 0
-peak_of (Put ino off bytes) = if length bytes.now == 0 then 0 else frames_of_put off (length bytes.now)
+peak_of (Put ino off bytes) = if length bytes.now == 0 then 0
+    else frames_of_put off (length bytes.now)
 peak_of (SetLength ino len) = CUT_FRAMES
 
 -- those that changes take at most, in order: to those of a change come those that the changes before it left waiting
@@ -196,8 +205,8 @@ peak_of_all (change ∷ changes) = max (peak_of change) (frames_of change + peak
 -- changes could have more wait than may wait
 abbrev pub passes_limits : Parts → List Change → Bool
 passes_limits p changes =
-    nat_lt LOCKED_LIMIT (length p.cache.locked + peak_of_all changes) || nat_lt WAITING_LIMIT (length p.waiting
-    + length changes)
+    nat_lt LOCKED_LIMIT (length p.cache.locked + peak_of_all changes)
+    || nat_lt WAITING_LIMIT (length p.waiting + length changes)
 
 -- There is room for so many blocks that are to be written for any changes: more than two segments are clean, or two,
 -- and the blocks fit the active one.
@@ -219,7 +228,8 @@ HasRoomToGive by changes blocks p =
 -- there is room for so many blocks that are to be written for changes
 abbrev pub HasRoomForBlocks : Reserve → List Change → ℕ → Parts → Type 0
 HasRoomForBlocks by changes blocks p =
-    HasRoomToTake blocks p ⊎ ((may_use_reserve by (content_of p) changes ≡ true) × HasRoomToGive by changes blocks p)
+    HasRoomToTake blocks p ⊎ ((may_use_reserve by (content_of p) changes ≡ true)
+    × HasRoomToGive by changes blocks p)
 
 -- there is room for what waits and for changes
 abbrev pub HasRoomFor : Reserve → List Change → Parts → Type 0
@@ -244,16 +254,18 @@ pub record MakesChanges (by : Reserve) (changes : List Change) (old new : Parts)
   pub store : IsStore new
   pub room : HasRoom new
   pub content : content_of new ≡ applied changes (content_of old)
-  pub versions : (number : ℕ) → version_of new number ≡ versions_after changes number (version_of old number)
+  pub versions : (number : ℕ) → version_of new number
+      ≡ versions_after changes number (version_of old number)
   pub log : WritesAhead old new
   pub reserve : new.log.clean < old.log.clean → HasRoomFor by changes old
       × ((may_use_reserve by (content_of old) changes ≡ true) ⊎ (2 < old.log.clean))
-  pub leaves : may_use_reserve by (content_of old) changes ≡ false → (last : Parts) → WritesWaiting new last
-      → 2 ≤ last.log.clean
+  pub leaves : may_use_reserve by (content_of old) changes ≡ false → (last : Parts)
+      → WritesWaiting new last → 2 ≤ last.log.clean
   pub opened : old.log.clean ≤ new.log.clean + 1
   pub enough : waiting_blocks old ≤ room_of old.log.memory → new.log.clean ≡ old.log.clean
   pub delayed : passes_limits old changes ≡ false → StaysInLog old new
-  pub few : length old.cache.locked ≡ 0 → length old.waiting + 4 ≤ WAITING_LIMIT → StaysInLog old new
+  pub few : length old.cache.locked ≡ 0 → length old.waiting + 4 ≤ WAITING_LIMIT
+      → StaysInLog old new
   pub between : Parts
   pub way : MakesWay changes old between
   pub stages : StagesAll changes between new

@@ -18,7 +18,8 @@ is_of pass key = rank_of key.lbn.0 == pass
 
 -- what a summary says of the block of a key
 abbrev pub entry_of : Key → SummaryEntry
-entry_of key = record { number = key.ino; version = key.version; block = logical_of (block_with key.lbn.0) }
+entry_of key =
+    record { number = key.ino; version = key.version; block = logical_of (block_with key.lbn.0) }
 
 -- the keys of the passes below one, pass by pass
 unfoldable pub in_passes : ℕ → List Key → List Key
@@ -43,7 +44,8 @@ inode_blocks records = (records + 3) / SLOT_COUNT
 -- both.
 unfoldable pub entries_of : Parts → List SummaryEntry
 entries_of p =
-    map entry_of (in_order (keys_of p.cache.locked)) ++ replicate (inode_blocks (length p.waiting)) inodes_entry
+    map entry_of (in_order (keys_of p.cache.locked))
+    ++ replicate (inode_blocks (length p.waiting)) inodes_entry
 
 -- the blocks that these entries take in the log, with the summary before them; nothing takes none
 abbrev pub blocks_of_entries : List SummaryEntry → ℕ

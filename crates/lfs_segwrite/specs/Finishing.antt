@@ -17,11 +17,13 @@ LieIn segment infos = All (λ (info : BlockInfo). info.addr / SEGMENT_BLOCKS ≡
 
 -- A dirty segment can be finished where the blocks of some infos, so many, are written again first: these and what it
 -- takes to clean it have room; or what it takes alone, where they lie in it and so are part of that.
-pub record IsFinishable (infos : List BlockInfo) (blocks : ℕ) (p : Parts) (segment : ℕ) : Type 0 where
+pub record IsFinishable (infos : List BlockInfo) (blocks : ℕ) (p : Parts)
+    (segment : ℕ) : Type 0 where
   pub inside : segment < p.log.memory.segments
   pub dirty : DirtyIn (log_state p) segment
-  pub room : (LieIn segment infos × HaveRoom (pass_blocks p segment) (max (widest p segment) blocks) p)
-      ⊎ HaveRoom (pass_blocks p segment + blocks) (max (widest p segment) blocks) p
+  pub room : (LieIn segment infos × HaveRoom (pass_blocks p segment)
+      (max (widest p segment) blocks) p) ⊎ HaveRoom (pass_blocks p segment + blocks)
+      (max (widest p segment) blocks) p
 
 -- no segment can be
 abbrev pub NoneIsFinishable : List BlockInfo → ℕ → Parts → Type 0
@@ -60,5 +62,6 @@ pub record MarksAgain (marks : List BlockInfo) (count : ℕ) (old new : Parts) :
   pub last : old.log.clean ≤ 1 → 0 < count → HasRoomToMark marks between
   pub moves : Moves (DirtyIn (log_state old)) (log_state old) (log_state new)
   pub dirty : StaysDirty (log_state old) (log_state new)
-  pub blocks : (a : ℕ) → a / SEGMENT_BLOCKS < old.log.memory.segments → DirtyIn (log_state old) (a / SEGMENT_BLOCKS)
+  pub blocks : (a : ℕ) → a / SEGMENT_BLOCKS < old.log.memory.segments
+      → DirtyIn (log_state old) (a / SEGMENT_BLOCKS)
       → block_at new.log.memory a ≡ block_at old.log.memory a

@@ -54,17 +54,21 @@ pub record Flushes (old new : Parts) : Type 0 where
   pub states : new.log.tables.states ≡ old.log.tables.states
   pub clean : new.log.clean ≡ old.log.clean
   pub numbers : length new.log.tables.rows ≡ length old.log.tables.rows
-  pub used : (number : ℕ) → (row_of new.log.tables number).used ≡ (row_of old.log.tables number).used
+  pub used : (number : ℕ) → (row_of new.log.tables number).used
+      ≡ (row_of old.log.tables number).used
   pub versions : (number : ℕ) → version_of new number ≡ version_of old number
-  pub still : (number code : ℕ) → number < length old.log.tables.rows → code < BLOCK_CODES → (Waits old number code → ⊥)
-      → (log_state new).at number code ≡ (log_state old).at number code
-  pub moved : (number code : ℕ) → number < length old.log.tables.rows → code < BLOCK_CODES → Waits old number code
-      → (next_address old.log.memory ≤ (log_state new).at number code / 4)
+  pub still : (number code : ℕ) → number < length old.log.tables.rows → code < BLOCK_CODES
+      → (Waits old number code → ⊥) → (log_state new).at number code
+      ≡ (log_state old).at number code
+  pub moved : (number code : ℕ) → number < length old.log.tables.rows → code < BLOCK_CODES
+      → Waits old number code → (next_address old.log.memory ≤ (log_state new).at number code / 4)
       × ((log_state new).at number code / 4 < next_address new.log.memory)
   pub blocks : (a : ℕ) → (a < next_address old.log.memory)
       ⊎ (SEGMENT_BLOCKS * old.log.memory.active + SEGMENT_BLOCKS ≤ a)
       → block_at new.log.memory a ≡ block_at old.log.memory a
   pub held : KeepsFrames old.cache new.cache
-  pub grown : next_address new.log.memory ≡ next_address old.log.memory + blocks_of_entries (entries_of old)
-  pub written : 0 < length old.waiting → WritesEntries old.log.memory new.log.memory (entries_of old)
+  pub grown : next_address new.log.memory
+      ≡ next_address old.log.memory + blocks_of_entries (entries_of old)
+  pub written : 0 < length old.waiting
+      → WritesEntries old.log.memory new.log.memory (entries_of old)
   pub whole : IsRecoverable old.log.memory → IsRecoverable new.log.memory

@@ -26,7 +26,8 @@ use Rattle.lfs_segwrite.specs.declared.room.TheConstants.{WHOLE}
 
 -- an info names a block with its present address, which isn't 0
 abbrev pub names_block : LogState → BlockInfo → Bool
-names_block l info = not (info.addr == 0) && present_address l info.ino info.version (code_named info.lbn) == info.addr
+names_block l info = not (info.addr == 0)
+    && present_address l info.ino info.version (code_named info.lbn) == info.addr
 
 -- the infos of a segment that do, in the log's order
 unfoldable pub live_infos : Parts → ℕ → List BlockInfo
@@ -70,7 +71,8 @@ widest p segment = widest_eight (live_infos p segment)
 -- written at once, is made up for too.
 abbrev pub IsWorth : ℕ → ℕ → Parts → Type 0
 IsWorth blocks most p =
-    (blocks < WHOLE) × ((blocks ≤ room_of p.log.memory) ⊎ ((0 < p.log.clean) × (blocks + most ≤ WHOLE)))
+    (blocks < WHOLE) × ((blocks ≤ room_of p.log.memory)
+    ⊎ ((0 < p.log.clean) × (blocks + most ≤ WHOLE)))
 
 -- A dirty segment is gainful: cleaning it can be done, and gains room.
 pub record IsGainful (p : Parts) (segment : ℕ) : Type 0 where
@@ -100,7 +102,8 @@ abbrev pub Spends : ℕ → ℕ → Parts → Parts → Type 0
 Spends blocks most old new =
     ((new.log.clean ≡ old.log.clean) × (room_of old.log.memory ≤ room_of new.log.memory + blocks))
     ⊎ ((new.log.clean + 1 ≡ old.log.clean) × (WHOLE ≤ room_of new.log.memory + blocks)
-    × (room_of old.log.memory + WHOLE < room_of new.log.memory + blocks + most) × (room_of old.log.memory < blocks))
+    × (room_of old.log.memory + WHOLE < room_of new.log.memory + blocks + most)
+    × (room_of old.log.memory < blocks))
 
 -- Blocks were written again, with what they had. What moved went to segments that weren't dirty; these are dirty still,
 -- and their blocks are what they were.
@@ -113,18 +116,21 @@ pub record MovesBlocks (old new : Parts) : Type 0 where
   pub rising : IsRising old.log.memory → IsRising new.log.memory
   pub whole : IsRecoverable old.log.memory → IsRecoverable new.log.memory
   pub numbers : length new.log.tables.rows ≡ length old.log.tables.rows
-  pub used : (number : ℕ) → (row_of new.log.tables number).used ≡ (row_of old.log.tables number).used
+  pub used : (number : ℕ) → (row_of new.log.tables number).used
+      ≡ (row_of old.log.tables number).used
   pub versions : (number : ℕ) → version_of new number ≡ version_of old number
   pub moves : Moves (DirtyIn (log_state old)) (log_state old) (log_state new)
   pub dirty : StaysDirty (log_state old) (log_state new)
-  pub blocks : (a : ℕ) → a / SEGMENT_BLOCKS < old.log.memory.segments → DirtyIn (log_state old) (a / SEGMENT_BLOCKS)
+  pub blocks : (a : ℕ) → a / SEGMENT_BLOCKS < old.log.memory.segments
+      → DirtyIn (log_state old) (a / SEGMENT_BLOCKS)
       → block_at new.log.memory a ≡ block_at old.log.memory a
 
 -- The blocks of the first so many eights of some infos were written again, so that none of these infos names a block
 -- now. Each key that is on no way to one of them has the place that it had.
 pub record MovesEights (infos : List BlockInfo) (count : ℕ) (old new : Parts) : Type 0 where
   pub moved : MovesBlocks old new
-  pub gone : All (λ (info : BlockInfo). IsNamed (log_state new) info → ⊥) (take (MARK_LIMIT * count) infos)
+  pub gone : All (λ (info : BlockInfo). IsNamed (log_state new) info → ⊥)
+      (take (MARK_LIMIT * count) infos)
   pub still : (number code : ℕ) → number < length old.log.tables.rows → code < BLOCK_CODES
       → (IsOnWay infos old number code → ⊥)
       → (log_state new).at number code ≡ (log_state old).at number code

@@ -49,8 +49,10 @@ staying_widest p changes segment = widest_eight (staying_infos p changes segment
 
 -- Behind changes, for which so many blocks are written first, a dirty segment can be finished: what it takes to write
 -- again what stays of it has room, and leaves so many blocks to spare.
-pub record LeavesFinishable (spare : ℕ) (changes : List Change) (blocks : ℕ) (p : Parts) (segment : ℕ) : Type 0 where
+pub record LeavesFinishable (spare : ℕ) (changes : List Change) (blocks : ℕ) (p : Parts)
+    (segment : ℕ) : Type 0 where
   pub inside : segment < p.log.memory.segments
   pub dirty : DirtyIn (log_state p) segment
-  pub room : HaveRoom (staying_blocks p changes segment + blocks) (max (staying_widest p changes segment) blocks) p
+  pub room : HaveRoom (staying_blocks p changes segment + blocks)
+      (max (staying_widest p changes segment) blocks) p
   pub spares : HaveRoom (staying_blocks p changes segment + blocks + spare) 0 p

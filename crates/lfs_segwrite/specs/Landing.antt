@@ -60,17 +60,19 @@ pub record MayLand (p : Parts) (v : Inode) (block : FileBlock) : Type 0 where
   pub can : IsFileBlock block
   pub other : code_of block ≢ 0
   pub within : IsWithin block v.size
-  pub parent : (i : ℕ) (up : List ℕ) → way_to block ≡ i ∷ up → HolderWaits p.cache v.number v.version up
+  pub parent : (i : ℕ) (up : List ℕ) → way_to block ≡ i ∷ up
+      → HolderWaits p.cache v.number v.version up
 
 -- A block of a file landed at an address: the log has it there with the bytes that it meant, and no data block of any
 -- file reads otherwise. It waits no more, and its frame stays in the cache, clean, with its bytes; no other is given up.
 pub record LandsBlock (old new : Parts) (v : Inode) (block : FileBlock) (a : ℕ) : Type 0 where
-  pub lands : (i : ℕ) (up : List ℕ) → way_to block ≡ i ∷ up → Lands (tree_of old v.number) (tree_of new v.number) i up a
+  pub lands : (i : ℕ) (up : List ℕ) → way_to block ≡ i ∷ up
+      → Lands (tree_of old v.number) (tree_of new v.number) i up a
   pub records : (number : ℕ) → number ≢ v.number → record_of new number ≡ record_of old number
   pub readings : (number : ℕ) → number < length old.log.tables.rows → number ≢ v.number
       → SameReadings (tree_of old number) (tree_of new number)
-  pub file_data : (number n : ℕ) → number < length old.log.tables.rows → data_block (tree_of new number) n
-      ≡ data_block (tree_of old number) n
+  pub file_data : (number n : ℕ) → number < length old.log.tables.rows
+      → data_block (tree_of new number) n ≡ data_block (tree_of old number) n
   pub rows : new.log.tables.rows ≡ old.log.tables.rows
   pub settled : block_in (key_of v.number v.version (code_of block)) new.cache.locked ≡ None
   pub cached : block_in (key_of v.number v.version (code_of block)) new.cache.lru

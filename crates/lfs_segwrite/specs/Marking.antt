@@ -39,7 +39,8 @@ pub record AreNamed (l : LogState) (marks named : List BlockInfo) : Type 0 where
   pub each : (info : BlockInfo) → Contains marks info → IsNamed l info → Contains named info
   pub marked : All (λ (info : BlockInfo). Contains marks info) named
   pub only : All (IsNamed l) named
-  pub once : AllPairs (λ (a b : BlockInfo). a.ino ≡ b.ino → code_named a.lbn ≡ code_named b.lbn → ⊥) named
+  pub once : AllPairs (λ (a b : BlockInfo). a.ino ≡ b.ino
+      → code_named a.lbn ≡ code_named b.lbn → ⊥) named
 
 -- an info was added to a list, if it names a block and wasn't there
 abbrev pub AddsNamed : LogState → BlockInfo → List BlockInfo → List BlockInfo → Type 0
@@ -78,7 +79,8 @@ pub record SameShown (old new : Parts) : Type 0 where
   pub log : new.log ≡ old.log
   pub records : (n : ℕ) → record_of new n ≡ record_of old n
   pub blocks : (n m : ℕ) → data_block (tree_of new n) m ≡ data_block (tree_of old n) m
-  pub addresses : (n : ℕ) (way : List ℕ) → IsBlockWay way → address (tree_of new n) way ≡ address (tree_of old n) way
+  pub addresses : (n : ℕ) (way : List ℕ) → IsBlockWay way
+      → address (tree_of new n) way ≡ address (tree_of old n) way
 
 -- The block with a code of a number waits with what it had, and what waited does still. What waits more is on the way
 -- to it.
@@ -86,9 +88,11 @@ pub record StagesAgain (number code : ℕ) (old new : Parts) : Type 0 where
   pub same : SameShown old new
   pub waits : Waits new number code
   pub frames_still : (key : Key) → IsLocked key old.cache → IsLocked key new.cache
-  pub records_still : (n : ℕ) → IsSome (waiting_in old.waiting n) → IsSome (waiting_in new.waiting n)
+  pub records_still : (n : ℕ) → IsSome (waiting_in old.waiting n)
+      → IsSome (waiting_in new.waiting n)
   pub frames : TakesOnly number (version_of old number) (codes_to_mark code) old.cache new.cache
-  pub records : (n : ℕ) → IsSome (waiting_in new.waiting n) → (n ≡ number) ⊎ IsSome (waiting_in old.waiting n)
+  pub records : (n : ℕ) → IsSome (waiting_in new.waiting n)
+      → (n ≡ number) ⊎ IsSome (waiting_in old.waiting n)
 
 -- So do the blocks of some infos, where nothing waited. What waits is on the ways to them, and no more than was
 -- reckoned.
@@ -96,8 +100,10 @@ pub record StagesNamed (named : List BlockInfo) (old new : Parts) : Type 0 where
   pub same : SameShown old new
   pub staged : IsStaged new 0
   pub waits : All (λ (info : BlockInfo). Waits new info.ino (code_named info.lbn)) named
-  pub only_frames : (key : Key) → IsLocked key new.cache → Contains (flat_map keys_to_mark named) key
-  pub only_records : (n : ℕ) → IsSome (waiting_in new.waiting n) → Contains (map number_named named) n
+  pub only_frames : (key : Key) → IsLocked key new.cache
+      → Contains (flat_map keys_to_mark named) key
+  pub only_records : (n : ℕ) → IsSome (waiting_in new.waiting n)
+      → Contains (map number_named named) n
   pub frames : length new.cache.locked ≤ frames_to_mark named
   pub records : length new.waiting ≤ records_to_mark named
 
@@ -123,7 +129,8 @@ pub record MarksSettled (marks : List BlockInfo) (count : ℕ) (old new : Parts)
   pub counted : count ≡ length named
   pub rewritten : All (IsRewritten (log_state old) (log_state new)) named
   pub log : WritesAhead old new
-  pub used : (number : ℕ) → (row_of new.log.tables number).used ≡ (row_of old.log.tables number).used
+  pub used : (number : ℕ) → (row_of new.log.tables number).used
+      ≡ (row_of old.log.tables number).used
   pub versions : (number : ℕ) → version_of new number ≡ version_of old number
   pub opened : old.log.clean ≤ new.log.clean + 1
   pub enough : blocks_to_mark named ≤ room_of old.log.memory → new.log.clean ≡ old.log.clean
@@ -132,6 +139,7 @@ pub record MarksSettled (marks : List BlockInfo) (count : ℕ) (old new : Parts)
       → (IsOnWay named old number code → ⊥)
       → (log_state new).at number code ≡ (log_state old).at number code
   pub left : ((new.log.memory.active ≡ old.log.memory.active)
-      × (room_of old.log.memory ≤ room_of new.log.memory + blocks_to_mark named) × (new.log.clean ≡ old.log.clean))
-      ⊎ ((SEGMENT_BLOCKS ≤ room_of new.log.memory + blocks_to_mark named + 1) × (new.log.clean + 1 ≡ old.log.clean)
-      × (room_of old.log.memory < blocks_to_mark named))
+      × (room_of old.log.memory ≤ room_of new.log.memory + blocks_to_mark named)
+      × (new.log.clean ≡ old.log.clean))
+      ⊎ ((SEGMENT_BLOCKS ≤ room_of new.log.memory + blocks_to_mark named + 1)
+      × (new.log.clean + 1 ≡ old.log.clean) × (room_of old.log.memory < blocks_to_mark named))

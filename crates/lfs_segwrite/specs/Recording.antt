@@ -30,16 +30,19 @@ pub record Advances (from : ℕ) (old new : Parts) : Type 0 where
   pub states : new.log.tables.states ≡ old.log.tables.states
   pub clean : new.log.clean ≡ old.log.clean
   pub numbers : length new.log.tables.rows ≡ length old.log.tables.rows
-  pub used : (number : ℕ) → (row_of new.log.tables number).used ≡ (row_of old.log.tables number).used
+  pub used : (number : ℕ) → (row_of new.log.tables number).used
+      ≡ (row_of old.log.tables number).used
   pub versions : (number : ℕ) → version_of new number ≡ version_of old number
   pub next : next_address old.log.memory ≤ next_address new.log.memory
-  pub only : (number code : ℕ) → number < length old.log.tables.rows → code < BLOCK_CODES → Waits new number code
-      → Waits old number code
-  pub still : (number code : ℕ) → number < length old.log.tables.rows → code < BLOCK_CODES → (Waits old number code → ⊥)
-      → (log_state new).at number code ≡ (log_state old).at number code
-  pub moved : (number code : ℕ) → number < length old.log.tables.rows → code < BLOCK_CODES → Waits old number code
-      → (Waits new number code → ⊥)
-      → (from ≤ (log_state new).at number code / 4) × ((log_state new).at number code / 4 < next_address new.log.memory)
+  pub only : (number code : ℕ) → number < length old.log.tables.rows → code < BLOCK_CODES
+      → Waits new number code → Waits old number code
+  pub still : (number code : ℕ) → number < length old.log.tables.rows → code < BLOCK_CODES
+      → (Waits old number code → ⊥) → (log_state new).at number code
+      ≡ (log_state old).at number code
+  pub moved : (number code : ℕ) → number < length old.log.tables.rows → code < BLOCK_CODES
+      → Waits old number code → (Waits new number code → ⊥)
+      → (from ≤ (log_state new).at number code / 4)
+      × ((log_state new).at number code / 4 < next_address new.log.memory)
   pub blocks : (a : ℕ) → (a < from) ⊎ (SEGMENT_BLOCKS * old.log.memory.active + SEGMENT_BLOCKS ≤ a)
       → block_at new.log.memory a ≡ block_at old.log.memory a
   pub held : KeepsFrames old.cache new.cache
@@ -50,8 +53,10 @@ pub record StandsAt (p : Parts) (v : Inode) (address slot : ℕ) : Type 0 where
   pub below : address < next_address p.log.memory
   pub in_block : slot < 4
   pub named : named_at p.log.memory (4 * address + slot) ≡ Some (record_owner v)
-  pub reads : fields_at p.log.memory (record { addr = address; slot = slot; version = v.version }) ≡ Some (fields_of v)
+  pub reads : fields_at p.log.memory (record { addr = address; slot = slot; version = v.version })
+      ≡ Some (fields_of v)
 
 -- what a summary says of a block of a number
 abbrev pub entry_at_version : Parts → ℕ → FileBlock → SummaryEntry
-entry_at_version p number block = record { number = number; version = version_of p number; block = logical_of block }
+entry_at_version p number block =
+    record { number = number; version = version_of p number; block = logical_of block }

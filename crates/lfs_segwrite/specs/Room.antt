@@ -32,7 +32,8 @@ pub record KeepsFiles (old new : Parts) : Type 0 where
   pub dirty : StaysDirty (log_state old) (log_state new)
   pub blocks : (a : ℕ) → state_of old.log.tables (a / SEGMENT_BLOCKS) ≢ Clean
       → block_at new.log.memory a ≡ block_at old.log.memory a
-  pub end : (new.log.memory ≡ old.log.memory) ⊎ (state_of old.log.tables new.log.memory.active ≡ Clean)
+  pub end : (new.log.memory ≡ old.log.memory)
+      ⊎ (state_of old.log.tables new.log.memory.active ≡ Clean)
 
 -- A clean segment was opened: it has room for all that one summary can name and more, and the files are what they were.
 pub record OpensSegment (old new : Parts) : Type 0 where

@@ -99,10 +99,12 @@ fn land_waiting(parts: &mut Parts, number: u32, block: FileBlock)
     requires staged { IsStaged parts.old 0 }
     requires block { IsFileBlock block }
     requires other { code_of block ≢ 0 }
-    requires waits { IsLocked (key_of number (version_of parts.old number) (code_of block)) parts.old.cache }
+    requires waits { IsLocked (key_of number (version_of parts.old number) (code_of block))
+        parts.old.cache }
     requires free { (key : Key) → IsLocked key parts.old.cache → key.ino ≡ number
         → (i : ℕ) → way_of key.lbn.0 ≡ i ∷ way_to block → ⊥ }
-    requires expected { ExpectsBlock parts.old.log.memory (entry_at_version parts.old number block) }
+    requires expected { ExpectsBlock parts.old.log.memory
+        (entry_at_version parts.old number block) }
     ensures staged { IsStaged parts.new 0 }
     ensures advances { (from : ℕ) → from ≤ next_address parts.old.log.memory
         → Advances from parts.old parts.new }
@@ -110,7 +112,8 @@ fn land_waiting(parts: &mut Parts, number: u32, block: FileBlock)
         → Expects parts.old.log.memory (entry_at_version parts.old number block ∷ rest)
         → Expects parts.new.log.memory rest }
     // It waits no more, and what else waits still does.
-    ensures gone { IsLocked (key_of number (version_of parts.old number) (code_of block)) parts.new.cache → ⊥ }
+    ensures gone { IsLocked (key_of number (version_of parts.old number) (code_of block))
+        parts.new.cache → ⊥ }
     ensures others { (key : Key)
         → same_key (key_of number (version_of parts.old number) (code_of block)) key ≡ false
         → IsLocked key parts.old.cache → IsLocked key parts.new.cache }

@@ -147,7 +147,8 @@ fn mark_eight(parts: &mut Parts, marks: &[BlockInfo])
     requires store { IsStore parts.old }
     requires settled { IsSettled parts.old }
     requires few { length marks.now ≤ MARK_LIMIT }
-    requires room { (0 < parts.old.log.clean) ⊎ (blocks_to_mark marks.now ≤ room_of parts.old.log.memory) }
+    requires room { (0 < parts.old.log.clean)
+        ⊎ (blocks_to_mark marks.now ≤ room_of parts.old.log.memory) }
     ensures store { IsStore parts.new }
     ensures settled { IsSettled parts.new }
     ensures content { content_of parts.new ≡ content_of parts.old }
@@ -164,7 +165,8 @@ fn mark_by_eights(parts: &mut Parts, infos: &[BlockInfo])
     requires store { IsStore parts.old }
     requires settled { IsSettled parts.old }
     requires few { length infos.now ≤ INFO_LIMIT }
-    requires dirty { All (λ (info : BlockInfo). DirtyIn (log_state parts.old) (info.addr / SEGMENT_BLOCKS)
+    requires dirty { All (λ (info : BlockInfo). DirtyIn (log_state parts.old)
+        (info.addr / SEGMENT_BLOCKS)
         × (info.addr / SEGMENT_BLOCKS < parts.old.log.memory.segments)) infos.now }
     requires worth { IsWorth (blocks_by_eights infos.now) (widest_eight infos.now) parts.old }
     ensures { MovesEights infos.now (eights infos.now) parts.old parts.new }

@@ -77,7 +77,8 @@ pub fn land_block(parts: &mut Parts, inode: &Inode, block: FileBlock) -> u32
     requires expected { ExpectsBlock parts.old.log.memory (entry_of inode.now block) }
     ensures address { result ≡ next_address parts.old.log.memory }
     ensures landed { LandsBlock parts.old parts.new inode.now block result }
-    ensures place { GetsPlace parts.old parts.new inode.now.number (code_of block) result (4 * result) }
+    ensures place { GetsPlace parts.old parts.new inode.now.number (code_of block) result
+        (4 * result) }
     ensures log { IsLog (log_state parts.new) 0 }
     ensures expects { (rest : List SummaryEntry)
         → Expects parts.old.log.memory (entry_of inode.now block ∷ rest)
