@@ -1,6 +1,6 @@
 //! The entries of a block, and whether it is a directory block.
 
-ghost use Rattle.std.specs.Prelude.{◌≡◌, ℕ, ◌≤◌, ◌↔◌, List, [], ◌∷◌, All, None, IsTrue, MatchOption, length};
+ghost use Rattle.std.specs.Prelude.{◌≡◌, ℕ, ◌≤◌, ◌↔◌, List, [], All, None, IsTrue, MatchOption, length};
 ghost use Rattle.lfs_types.specs.Naming.{name_fault};
 ghost use Rattle.lfs_dirs.specs.Directory.{IsDirectoryBlock, number_in};
 ghost use Rattle.lfs_dirs.specs.Reading.{StandsBehind, StandsFirst, entries_of};

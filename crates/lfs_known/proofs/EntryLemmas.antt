@@ -2,8 +2,8 @@
 -- `follow_besides`): how many blocks directories have is followed change by change (`sized_forgotten`, `sized_attrs`,
 -- `sized_put`, for `follow_size`), and where names stand is told of all changes together. A directory that wasn't known
 -- isn't known then, so each that is known had its names placed before.
-use Rattle.std.proofs.Common.{◌≡◌, ◌≢◌, ℕ, ◌+◌, ◌*◌, ◌/◌, ⊎_elim, List, length, Option, None, Some, true, is_some, refl, sym}
-use Rattle.std.proofs.Common.{ap, subst, ◌∙◌, arith}
+use Rattle.std.proofs.Common.{◌≡◌, ◌≢◌, ℕ, ◌*◌, ◌/◌, ⊎_elim, List, length, Option, None, Some, refl, sym}
+use Rattle.std.proofs.Common.{subst, ◌∙◌, arith}
 use Rattle.std.specs.Prelude.{IfSome, IsSome}
 use Rattle.std.specs.FinMap as map
 use Rattle.std.proofs.lemmas.Bool.{cases_eq}
@@ -12,12 +12,12 @@ use Rattle.lfs_types.specs.Splicing.{splice}
 use Rattle.lfs_types.specs.Stored.{bytes_of, bytes_of_file}
 use Rattle.lfs_types.specs.Tree.{Content, File, file_of}
 use Rattle.lfs_types.specs.declared.attrs.Attrs.{Attrs}
-use Rattle.lfs_known.specs.Says.{SaysTheSame, kept_of, says}
+use Rattle.lfs_known.specs.Says.{SaysTheSame, says}
 use Rattle.lfs_known.specs.Spots.{ArePlaced, AreSized, IsGrown, IsPlaced, MayStand, StandsBesides}
 use Rattle.lfs_known.specs.declared.name_table.NameTable.{NameTable}
 use Rattle.lfs_known.specs.declared.slots.Slots.{Slots}
 use Rattle.lfs_known.specs.declared.spot.Spot.{Spot}
-use Rattle.lfs_known.proofs.FollowLemmas.{changed-others, kept_only, true_put}
+use Rattle.lfs_known.proofs.FollowLemmas.{changed-others, true_put}
 use Rattle.lfs_known.proofs.FullLemmas.{changed-bytes}
 use Rattle.lfs_known.proofs.PutLemmas.{length_put}
 use Rattle.lfs_known.proofs.SpotLemmas.{Keeps}

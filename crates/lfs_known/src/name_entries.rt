@@ -1,6 +1,5 @@
 //! A table of where names stand follows changes of which it is known what they name.
 
-ghost use Rattle.std.specs.Prelude.{◌≡◌, ℕ};
 ghost use Rattle.lfs_types.specs.Changes.{applied};
 ghost use Rattle.lfs_types.specs.Tree.{Content};
 ghost use Rattle.lfs_known.specs.Spots.{ArePlaced, ArePlacedIn, StandsBesides};
