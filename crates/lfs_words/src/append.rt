@@ -1,8 +1,7 @@
 //! Words that are appended to a text, each behind a space.
 
-ghost use Rattle.std.specs.Prelude.{◌≡◌, ◌*◌, ◌^◌, ◌<◌, ◌∷◌, ◌++◌, [], decimal, length, OnOk};
+ghost use Rattle.std.specs.Prelude.{◌≡◌, ◌*◌, ◌^◌, ◌<◌, ◌∷◌, ◌++◌, decimal, length, OnOk};
 ghost use Rattle.std.specs.Char.{digit_char};
-ghost use Rattle.std.specs.List.{flat_map};
 ghost use Rattle.lfs_types.specs.FlagNumbers.{IsKnown};
 ghost use Rattle.lfs_words.specs.BytesText.{bytes_text, hex_text};
 ghost use Rattle.lfs_words.specs.NameText.{byte_text, flags_text, mode_text, name_text};
