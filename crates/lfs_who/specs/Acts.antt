@@ -37,7 +37,8 @@ request_of Chflags path = requests.Chflags path 0
 abbrev pub act_table : World → Caller → Act → List (List ℕ) → List Check
 act_table w c Search path = reaching w.rows c path (searching_tests c 0)
 act_table w c Move path =
-    removing w.rows c path ++ (leaves_test c false (attrs_at w.rows (reached w.rows root path)) (length path) ∷ [])
+    removing w.rows c path
+    ++ (leaves_test c false (attrs_at w.rows (reached w.rows root path)) (length path) ∷ [])
 act_table w c act path = rule_table w c (request_of act path)
 
 -- the denial of it, or None where the rules allow it
@@ -46,4 +47,5 @@ act_denial w c act path = first_failing (act_table w c act path)
 
 -- the tests of taking a name away to another directory, by what the path leads through
 abbrev pub leaving_by : Caller → Path → List Check
-leaving_by c path = removing_by c path ++ (leaves_test c false (last_row path).attrs path.names ∷ [])
+leaving_by c path = removing_by c path
+    ++ (leaves_test c false (last_row path).attrs path.names ∷ [])

@@ -15,12 +15,14 @@ pub record Told : Type 0 where
 
 -- whether a caller is in each of some groups and in none of others
 abbrev pub fits : Caller → List ℕ → List ℕ → Bool
-fits c inside outside = list_all (λ g. is_in_group c g) inside && not (list_any (λ g. is_in_group c g) outside)
+fits c inside outside = list_all (λ g. is_in_group c g) inside
+    && not (list_any (λ g. is_in_group c g) outside)
 
 -- the decisions of the lines that a caller fits
 abbrev pub told_to : Caller → List Told → List (Option Denial)
 told_to c [] = []
-told_to c (line ∷ lines) = if fits c line.inside line.outside then line.denial ∷ told_to c lines else told_to c lines
+told_to c (line ∷ lines) = if fits c line.inside line.outside then line.denial ∷ told_to c lines
+    else told_to c lines
 
 -- a decision of a caller who is in each of some groups and in none of others, and none of any other
 abbrev pub left : Caller → List ℕ → List ℕ → Option Denial → List (Option Denial)
@@ -28,7 +30,8 @@ left c inside outside decision = if fits c inside outside then decision ∷ [] e
 
 -- The callers who fit some groups are told apart by an outcome: whatever the decision of those for whom it is met, the
 -- lines and those who are left tell each caller what the old ones told him; or nobody is left.
-abbrev pub IsSplit : Outcome → Denial → List Told → List ℕ → List ℕ → List Told → List ℕ → List ℕ → Bool → Type 0
+abbrev pub IsSplit : Outcome → Denial → List Told → List ℕ → List ℕ → List Told → List ℕ → List ℕ
+    → Bool → Type 0
 IsSplit outcome denial lines inside outside now within without ends =
     (c : Caller) (rest : Option Denial)
     → told_to c lines ++ left c inside outside (if is_met c outcome then rest else Some denial)

@@ -17,7 +17,8 @@ use Rattle.lfs_who.specs.declared.who.Who.{Who}
 -- the lines of a user: his own where he is named, else those of everybody else
 abbrev pub lines_for : List Named → List Told → ℕ → List Told
 lines_for [] others u = others
-lines_for (named ∷ more) others u = if named.uid == u then named.lines.items else lines_for more others u
+lines_for (named ∷ more) others u = if named.uid == u then named.lines.items
+    else lines_for more others u
 
 -- Every caller there can be, whoever he is and whatever groups he is in, fits one line of his user and no other, and it
 -- has the denial of his call, or that the rules allow it.
@@ -50,5 +51,7 @@ IsToldTo questions c lines = told_to c lines ≡ first_failing (all_posed c ques
 -- these users' lines are told, and no other user is named
 pub record AreNamed (questions : List Question) (named : List Named) (others : List Told)
     (users : List ℕ) : Type 0 where
-  pub told : (c : Caller) → is_among c.uid users ≡ true → IsToldTo questions c (lines_for named others c.uid)
-  pub free : (u : ℕ) → is_among u users ≡ false → (lines : List Told) → lines_for named lines u ≡ lines
+  pub told : (c : Caller) → is_among c.uid users ≡ true
+      → IsToldTo questions c (lines_for named others c.uid)
+  pub free : (u : ℕ) → is_among u users ≡ false → (lines : List Told)
+      → lines_for named lines u ≡ lines

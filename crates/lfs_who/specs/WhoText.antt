@@ -40,7 +40,8 @@ act_text (b ∷ bs) = b ∷ bs ++ 32 ∷ []
 
 -- the lines of a user who is told by name
 abbrev pub named_text : List ℕ → Named → List ℕ
-named_text word named = lines_text (act_text word ++ (codes "user" ++ 32 ∷ decimal named.uid)) named.lines.items
+named_text word named = lines_text (act_text word ++ (codes "user" ++ 32 ∷ decimal named.uid))
+    named.lines.items
 
 -- the lines of each of these, and of everybody else
 abbrev pub who_text : List ℕ → Who → List ℕ

@@ -1,6 +1,6 @@
 //! What is asked of whoever makes a call.
 
-ghost use Rattle.std.specs.Prelude.{◌≡◌, ◌++◌, ◌∷◌, [], ◌≤◌, OnOk, false};
+ghost use Rattle.std.specs.Prelude.{◌≡◌, ◌++◌, ◌≤◌, OnOk, false};
 ghost use Rattle.lfs_types.specs.Caller.{Caller};
 ghost use Rattle.lfs_types.specs.declared.path.TheConstants.{PATH_MAX};
 ghost use Rattle.lfs_model.specs.Rules.{searching_tests};

@@ -18,7 +18,8 @@ impl Model for Line {
 
     ghost Value = { Told };
 
-    ghost view = { λ l. record { inside = l.inside.items; outside = l.outside.items; denial = l.denial } };
+    ghost view = { λ l.
+        record { inside = l.inside.items; outside = l.outside.items; denial = l.denial } };
 }
 
 impl Line {

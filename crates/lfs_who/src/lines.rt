@@ -29,7 +29,8 @@ pub(crate) fn lines_of(
     questions: &[Question],
     user: Option<u32>,
 ) -> Result<Vec<Line>, AllocError>
-    ensures { IfOk result (λ lines. (c : Caller) → All (λ (q : Asked). IsUser user c q.condition) questions.now
+    ensures { IfOk result (λ lines. (c : Caller)
+        → All (λ (q : Asked). IsUser user c q.condition) questions.now
         → told_to c lines.items ≡ first_failing (all_posed c questions.now) ∷ []) }
 {
     let mut lines = Vec::new(alloc);
@@ -117,7 +118,8 @@ impl Groups {
         gid: u32,
         denial: Denial,
     ) -> Result<bool, AllocError>
-        ensures { IfOk result (IsSplit (Outcome.Inside gid) denial lines.old.items self.old.inside.items
+        ensures { IfOk result
+            (IsSplit (Outcome.Inside gid) denial lines.old.items self.old.inside.items
             self.old.outside.items lines.new.items self.new.inside.items self.new.outside.items) }
     {
         let inside = copy(&self.inside)?;
@@ -134,7 +136,8 @@ impl Groups {
         gid: u32,
         denial: Denial,
     ) -> Result<bool, AllocError>
-        ensures { IfOk result (IsSplit (Outcome.Outside gid) denial lines.old.items self.old.inside.items
+        ensures { IfOk result
+            (IsSplit (Outcome.Outside gid) denial lines.old.items self.old.inside.items
             self.old.outside.items lines.new.items self.new.inside.items self.new.outside.items) }
     {
         let inside = and(&self.inside, gid)?;

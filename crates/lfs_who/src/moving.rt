@@ -96,7 +96,8 @@ fn push_last(questions: &mut Vec<Question>, from: &Trail, to: &Trail) -> Result<
 fn apart(number: u32, to: &Trail) -> [Question; 1]
     requires { to.now.names ≤ PATH_MAX }
     ensures { (c : Caller) → all_posed c result
-        ≡ asks (not (list_any (λ n. n == number) (numbers_to (known_path to.now)))) IsNotBeneathItself 1
+        ≡ asks (not (list_any (λ n. n == number) (numbers_to (known_path to.now))))
+        IsNotBeneathItself 1
         (position number (numbers_to (known_path to.now))) ∷ [] }
 {
     let (is_on_way, at) = place_on(directories_to(to), number);
