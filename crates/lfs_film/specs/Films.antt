@@ -24,7 +24,8 @@ pub record Reel : Type 0 where
 
 -- a film that was shown nothing
 abbrev pub empty_reel : Reel
-empty_reel = record { rows = []; owners = []; waiting = []; lines = 0; frames = []; is_full = false }
+empty_reel =
+    record { rows = []; owners = []; waiting = []; lines = 0; frames = []; is_full = false }
 
 -- the frame of a line of this number: the line, what was told of it, what waits, the rows that it changed, and whose
 -- the blocks are that it wrote
@@ -48,7 +49,8 @@ with_frame_text reel frame =
 -- the frame of one more line, with what it changed
 abbrev pub next_frame : Reel → List ℕ → List ℕ → List (List ℕ) → List (List ℕ) → List ℕ → List ℕ
 next_frame reel line told rows owners waiting =
-    frame_of reel.lines line told waiting (changed_rows reel.rows rows) (changed_owners reel.owners owners)
+    frame_of reel.lines line told waiting (changed_rows reel.rows rows)
+    (changed_owners reel.owners owners)
 
 -- one more line: what was told of it, and the rows, whose the blocks are and what waits as it left them
 abbrev pub with_line : Reel → List ℕ → List ℕ → List (List ℕ) → List (List ℕ) → List ℕ → Reel

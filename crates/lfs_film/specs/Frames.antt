@@ -35,12 +35,14 @@ told_owners sign number text = sign ∷ decimal number ++ 32 ∷ text
 abbrev pub changed_owner : ℕ → List ℕ → List ℕ → List (List ℕ)
 changed_owner number old new =
     if bytes_eq old new then []
-    else (if runs_on old new then told_owners 43 number (drop (length old) new) else told_owners 61 number new) ∷ []
+    else (if runs_on old new then told_owners 43 number (drop (length old) new)
+    else told_owners 61 number new) ∷ []
 
 -- those of the first n numbers
 unfoldable pub first_changed_owners : List (List ℕ) → List (List ℕ) → ℕ → List (List ℕ)
 first_changed_owners old new zero = []
-first_changed_owners old new (suc n) = first_changed_owners old new n ++ changed_owner n (row_at old n) (row_at new n)
+first_changed_owners old new (suc n) =
+    first_changed_owners old new n ++ changed_owner n (row_at old n) (row_at new n)
 
 -- whose the blocks are of each segment where that isn't as before, in order
 abbrev pub changed_owners : List (List ℕ) → List (List ℕ) → List (List ℕ)

@@ -14,7 +14,8 @@ is_plain b = nat_le 32 b && nat_le b 126 && not (is_mark b)
 
 -- a byte: itself, or a backslash, u00 and two digits
 abbrev pub escaped : ℕ → List ℕ
-escaped b = if is_plain b then b ∷ [] else 92 ∷ 117 ∷ 48 ∷ 48 ∷ digit_char (b / 16) ∷ digit_char (b % 16) ∷ []
+escaped b = if is_plain b then b ∷ []
+    else 92 ∷ 117 ∷ 48 ∷ 48 ∷ digit_char (b / 16) ∷ digit_char (b % 16) ∷ []
 
 -- a text between quotation marks
 abbrev pub quoted : List ℕ → List ℕ
@@ -22,4 +23,5 @@ quoted text = 34 ∷ flat_map escaped text ++ 34 ∷ []
 
 -- at most so many bytes of a text; of a longer one three less, and then a space and two full stops
 abbrev pub shortened : ℕ → List ℕ → List ℕ
-shortened most text = if nat_le (length text) most then text else take (most - 3) text ++ codes " .."
+shortened most text = if nat_le (length text) most then text
+    else take (most - 3) text ++ codes " .."

@@ -1,7 +1,7 @@
 //! Which rows are others than before.
 
-ghost use Rattle.std.specs.Prelude.{◌≡◌, ◌++◌, bytes_eq, map, IfOk, OnOk};
-ghost use Rattle.lfs_film.specs.Frames.{changed_row, changed_rows, row_at};
+ghost use Rattle.std.specs.Prelude.{◌≡◌, map, IfOk};
+ghost use Rattle.lfs_film.specs.Frames.{changed_rows, row_at};
 
 use lfs_view::rows::Row;
 use std::alloc::{AllocError, Global};

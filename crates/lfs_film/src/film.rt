@@ -85,7 +85,8 @@ impl Film {
         store: &LogStore,
     ) -> Result<(), AllocError>
         ensures shown { OnOk result
-            (self.new ≡ with_line self.old line.now told.now (rows_of store.now) (owners_of store.now)
+            (self.new ≡ with_line self.old line.now told.now (rows_of store.now)
+            (owners_of store.now)
             (waiting_text store.now)) }
         ensures kept { OnErr result (self.new ≡ self.old) }
     {
@@ -115,7 +116,8 @@ impl Film {
         rows: &[Row],
         owners: &[Row],
     ) -> Result<Vec<u8>, AllocError>
-        ensures { IfOk result (λ text. text.items ≡ frame_of self.now.lines line.now told.now waiting.now
+        ensures { IfOk result (λ text. text.items
+            ≡ frame_of self.now.lines line.now told.now waiting.now
             (changed_rows self.now.rows rows.now) (changed_owners self.now.owners owners.now)) }
     {
         let rows = changed_rows(alloc, self.rows.as_slice(), rows)?;
@@ -148,7 +150,8 @@ impl Film {
     ///
     /// The writer failed.
     pub fn write_page<W: Write>(&self, writer: &mut W) -> Result<(), WriteFault>
-        ensures written { OnOk result (Appends (W.contents writer.old) (W.contents writer.new) (page_text self.now)) }
+        ensures written { OnOk result (Appends (W.contents writer.old) (W.contents writer.new)
+            (page_text self.now)) }
         ensures bounded { length (page_text self.now) ≤ 20000000 }
     {
         write_parts(writer, self.frames.as_slice(), self.is_full)

@@ -35,7 +35,8 @@ pub(crate) fn end(out: &mut Vec<u8>) -> Result<(), AllocError>
 
 /// Appends texts, each behind a comma.
 fn push_items(out: &mut Vec<u8>, texts: &[&[u8]]) -> Result<(), AllocError>
-    ensures { OnOk result (out.new.items ≡ out.old.items ++ flat_map item (map (λ x. x.now) texts.now)) }
+    ensures { OnOk result (out.new.items
+        ≡ out.old.items ++ flat_map item (map (λ x. x.now) texts.now)) }
 {
     for text in texts {
         push_item(out, text)?;

@@ -1,6 +1,6 @@
 //! Whose the blocks are that a line wrote.
 
-ghost use Rattle.std.specs.Prelude.{◌≡◌, ◌++◌, bytes_eq, IfOk, OnOk};
+ghost use Rattle.std.specs.Prelude.{◌≡◌, ◌++◌, IfOk, OnOk};
 ghost use Rattle.std.specs.List.{flat_map};
 ghost use Rattle.lfs_film.specs.Frames.{changed_owner, changed_owners, item, told_owners};
 
@@ -23,7 +23,8 @@ pub(crate) fn push_owners(
     old: &[Row],
     new: &[Row],
 ) -> Result<(), AllocError>
-    ensures { OnOk result (out.new.items ≡ out.old.items ++ flat_map item (changed_owners old.now new.now)) }
+    ensures { OnOk result (out.new.items
+        ≡ out.old.items ++ flat_map item (changed_owners old.now new.now)) }
 {
     for number in 0..new.len() {
         push_changed(alloc, out, number, row_at(old, number), row_at(new, number))?;

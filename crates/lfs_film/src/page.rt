@@ -110,7 +110,8 @@ pub(crate) fn write_parts<W: Write>(
     frames: &[u8],
     is_full: bool,
 ) -> Result<(), WriteFault>
-    ensures { OnOk result (Appends (W.contents writer.old) (W.contents writer.new) (page_of frames.now is_full)) }
+    ensures { OnOk result (Appends (W.contents writer.old) (W.contents writer.new)
+        (page_of frames.now is_full)) }
 {
     write_head(writer, is_full)?;
     write_text(writer, frames)?;
@@ -120,7 +121,8 @@ pub(crate) fn write_parts<W: Write>(
 
 /// Writes what stands before the frames.
 fn write_head<W: Write>(writer: &mut W, is_full: bool) -> Result<(), WriteFault>
-    ensures { OnOk result (Appends (W.contents writer.old) (W.contents writer.new) (head_text is_full)) }
+    ensures { OnOk result (Appends (W.contents writer.old) (W.contents writer.new)
+        (head_text is_full)) }
 {
     write_seen(writer)?;
     write_text(writer, told_of(is_full))?;
