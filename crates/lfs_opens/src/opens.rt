@@ -1,6 +1,6 @@
 //! Files that are open. Of one that is removed its bytes and attributes are kept until it is closed.
 
-ghost use Rattle.std.specs.Prelude.{◌≡◌, ◌≢◌, ℕ, ◌-◌, ◌<◌, IfOk, IfSome, IsSome, IsTrue, None, Some, false, length, option_copied, slice_index_or, slice_set};
+ghost use Rattle.std.specs.Prelude.{◌≡◌, ◌≢◌, ℕ, ◌-◌, ◌<◌, IfOk, IfSome, IsSome, None, Some, length, option_copied, slice_index_or, slice_set};
 ghost use Rattle.lfs_fuse_wire.specs.Views.{view};
 ghost use Rattle.lfs_fuse_calls.specs.Asked.{reads, writes};
 ghost use Rattle.lfs_opens.specs.Opens.{AreLeft, AreSettled, AreUnkept, IsFree, NoneIsOpen, closed_at, file_at_slot, first_kept, first_to_write, handle_of, is_open_to, kept_of, kept_to, lack_of, node_of, opened_in, opened_on, opener_of, slot_of, unkept, with_kept, with_seen};
@@ -200,19 +200,6 @@ fn size_of(file: &Option<OpenFile>) -> usize
     }
 }
 
-/// Whether no file is open.
-fn none_is_open(files: &[Option<OpenFile>]) -> bool
-    ensures none { IsTrue result → NoneIsOpen files.now }
-    ensures some { result ≡ false → NoneIsOpen files.now → ⊥ }
-{
-    for file in files {
-        if file.is_some() {
-            return false;
-        }
-    }
-    true
-}
-
 /// For how many bytes more there is room.
 fn room_beside(files: &[Option<OpenFile>]) -> usize
     ensures { result ≡ 33554432 - bytes_kept files.now }
@@ -287,14 +274,6 @@ impl Opens {
         ensures { result ≡ length self.now.files.items }
     {
         self.files.len()
-    }
-
-    /// Whether no file is open.
-    pub fn is_empty(&self) -> bool
-        ensures none { IsTrue result → NoneIsOpen self.now.files.items }
-        ensures some { result ≡ false → NoneIsOpen self.now.files.items → ⊥ }
-    {
-        none_is_open(self.files.as_slice())
     }
 
     /// The node on which the file of a slot is open.
