@@ -7,5 +7,6 @@ pub mod FormedLemmas
 pub mod Fresh
 pub mod KeyLists
 pub mod Named
+pub mod OverwrittenLemmas
 pub mod Places
 pub mod Steps

@@ -38,7 +38,7 @@ whole_fronted l f whole low q g =
     ∙ ap (λ bs. cond (nat_lt g (length bs)) 1 0) (sym (blocks-pushed f (taken f l) q))
 
 -- each frame with a key has a whole block after a whole block came into the frame f
-sized_at : (keys keys' : List (Option Key)) (blocks : List (List ℕ)) (f : ℕ) (w : List ℕ) → f < length blocks → length w
+pub sized_at : (keys keys' : List (Option Key)) (blocks : List (List ℕ)) (f : ℕ) (w : List ℕ) → f < length blocks → length w
     ≡ BLOCK_SIZE → ((g : ℕ) → g ≢ f → key_at keys' g ≡ key_at keys g) → AreSized keys blocks
     → AreSized keys' (set blocks f w)
 sized_at keys keys' blocks f w low whole agree all = λ g k is.

@@ -1,5 +1,6 @@
 -- What a cache holds: the dirty blocks and the clean ones by key, newest first, and how many frames hold none.
-use Rattle.std.specs.Prelude.{◌≡◌, ℕ, zero, suc, false, cond, List, [], ◌∷◌, map, Option, Some, None, IsSome}
+use Rattle.std.specs.Prelude.{◌≡◌, ℕ, zero, suc, ◌+◌, false, cond, List, [], ◌∷◌, ◌++◌, drop, length, map, take, Option, Some, None}
+use Rattle.std.specs.Prelude.{IsSome}
 use Rattle.lfs_cache.specs.declared.key.Key.{Key}
 use Rattle.lfs_cache.specs.Keys.{same_key}
 
@@ -89,6 +90,10 @@ forgotten_by None k s = s
 
 abbrev pub forgotten : Key → Contents → Contents
 forgotten k s = forgotten_by (block_of k s) k s
+
+-- a block with bytes over its own, from a place on
+abbrev pub overwritten : ℕ → List ℕ → List ℕ → List ℕ
+overwritten start bytes block = take start block ++ (bytes ++ drop (start + length bytes) block)
 
 -- the key is dirty
 abbrev pub IsLocked : Key → Contents → Type 0

@@ -1,15 +1,16 @@
 //! Blocks by key, in frames.
-ghost use Rattle.std.specs.Prelude.{◌≡◌, ◌⊎◌, ℕ, ◌+◌, ◌<◌, ◌≤◌, [], ◌∷◌, ◌++◌, length, Some, None, IsSome, false, IfOk, option_copied, vec_len, vec_capacity, map};
+ghost use Rattle.std.specs.Prelude.{◌≡◌, ◌⊎◌, ℕ, ◌+◌, ◌<◌, ◌≤◌, [], ◌∷◌, ◌++◌, length, Some, None, IsSome, false, IfOk, option_copied, slice_index_or, vec_len, vec_capacity, map};
 ghost use Rattle.std.specs.Borrow.{sem};
 ghost use Rattle.std.specs.Option.{is_some};
 ghost use Rattle.lfs_recency.specs.FrameLists.{fronted, oldest_of, listed, frame_count, IsWhole};
 ghost use Rattle.lfs_recency.specs.declared.queue.Queue.TheVariants.{Locked, Lru, Age, Empty};
 ghost use Rattle.lfs_recency.specs.Lending.{with_block};
 ghost use Rattle.lfs_types.specs.Ranges.{least_frames, most_frames};
+ghost use Rattle.lfs_types.specs.declared.block.TheConstants.{BLOCK_SIZE};
 ghost use Rattle.lfs_cache.specs.declared.key.Key.{Key};
 ghost use Rattle.lfs_cache.specs.Frames.{next_of, names_after, names_without, HasRoom, HoldsNoOther};
-ghost use Rattle.lfs_cache.specs.Contents.{block_in, block_of, used, filled, written, settled, forgotten, IsLocked, keys_of, nothing_in, AreApart};
-ghost use Rattle.lfs_cache.specs.Changes.{KeepsBlocks, KeepsOthers, GainsOnly, IsContents};
+ghost use Rattle.lfs_cache.specs.Contents.{block_in, block_of, used, filled, written, settled, forgotten, overwritten, IsLocked, keys_of, nothing_in, AreApart};
+ghost use Rattle.lfs_cache.specs.Changes.{KeepsBlocks, KeepsOthers, GainsOnly, Overwrites, IsContents};
 
 use crate::index::Index;
 use crate::key::Key;
@@ -82,6 +83,17 @@ fn next_frame(frames: &Frames) -> u32
             },
         },
     }
+}
+
+/// Writes bytes over those of a frame, from a place on.
+fn overwrite(frames: &mut Frames, frame: u32, start: usize, bytes: &[u8])
+    requires in_range { frame < frame_count frames.old }
+    requires sized { length (slice_index_or frames.old.blocks frame []) ≡ BLOCK_SIZE }
+    requires inside { start + length bytes.now ≤ BLOCK_SIZE }
+    ensures { frames.new ≡ with_block frames.old frame
+        (overwritten start bytes.now (slice_index_or frames.old.blocks frame [])) }
+{
+    frames.bytes_mut(frame)[start..start + bytes.len()].copy_from_slice(bytes);
 }
 
 /// Copies a block into a frame.
@@ -195,6 +207,18 @@ impl Cache {
             key,
             Queue::Locked,
         );
+    }
+
+    /// Writes bytes over those of a dirty block, from a place on. Its frame stays where it is.
+    pub fn overwrite(&mut self, key: Key, start: usize, bytes: &[u8])
+        requires locked { IsLocked key self.old }
+        requires inside { start + length bytes.now ≤ BLOCK_SIZE }
+        ensures overwrites { Overwrites key start bytes.now self.old self.new }
+        ensures formed { IsContents self.new }
+    {
+        if let Some(frame) = self.index.find(key) {
+            overwrite(&mut self.frames, frame, start, bytes);
+        }
     }
 
     /// The LOCKED keys, the newest first, each once.
