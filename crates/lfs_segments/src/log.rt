@@ -16,6 +16,7 @@ use crate::log_summary::summary_block;
 use crate::segments::{SEGMENT_BLOCKS, Segments};
 use crate::summary::Summary;
 use lfs_types::block::Block;
+use std::slice;
 
 impl Segments {
     /// Begins a partial segment of 1 to 40 blocks: writes the summary of their entries behind the
@@ -70,6 +71,6 @@ impl Segments {
         ensures was_laid_out { IsLaidOut self.old }
         ensures laid_out { IsLaidOut self.new }
     {
-        self.append(&[*block])
+        self.append(slice::from_ref(block))
     }
 }
