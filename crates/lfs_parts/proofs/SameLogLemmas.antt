@@ -4,7 +4,7 @@
 -- the log's tables and memory alone, beside what waits, which is told apart; a call that writes the log has no use for
 -- them.
 use Rattle.std.proofs.Common.{All, List, Some, [], ap, arith, inl, inr, is_some, length, option_and_then, subst, sym}
-use Rattle.std.proofs.Common.{true, ℕ, ◌*◌, ◌+◌, ◌<◌, ◌∙◌, ◌∷◌, ◌≡◌, ◌≢◌}
+use Rattle.std.proofs.Common.{true, ℕ, ◌*◌, ◌+◌, ◌<◌, ◌∙◌, ◌∷◌, ◌≡◌}
 use Rattle.std.proofs.lemmas.Bool.{cases_eq, cases_lt, false≢true}
 use Rattle.std.proofs.lemmas.List.{get_or_past}
 use Rattle.std.proofs.lemmas.List.Elements.{All-weaker}

@@ -5,7 +5,7 @@
 -- induction on the way; `record_like` lists all that a record rests on.
 use Rattle.std.proofs.Common.{◌≡◌, ◌≢◌, ℕ, List, [], ◌∷◌, Option, None, Some, option_and_then, is_some, refl, sym, ap}
 use Rattle.std.proofs.Common.{◌∙◌}
-use Rattle.std.specs.Prelude.{slice_index}
+use Rattle.std.specs.Prelude.{slice_index, unwrap_or, if◌then◌else◌, ◌==◌}
 use Rattle.lfs_inodes.specs.Addresses.{addresses, cells}
 use Rattle.lfs_types.specs.Blocks.{zero_block}
 use Rattle.lfs_inodes.proofs.ZeroedLemmas.{slice_index-cells_zero_block}
@@ -92,6 +92,12 @@ pub held_cell : (t : Tree) (i : ℕ) (up bytes : List ℕ) (a : ℕ) → up ≢ 
 held_cell t i up bytes a some at is =
     ap (λ b. slice_index (cells b) i) (is ∙ ap (bytes_via t up) at ∙ sym (read-via t up))
     ∙ ap (λ ys. slice_index ys i) (sym (table-cells t up some)) ∙ sym (address-cell t i up)
+
+-- what doesn't wait is what the log has at its address
+pub via-free : (t : Tree) (way : List ℕ) (a : ℕ) → t.waits way ≡ None
+    → bytes_via t way a ≡ (if a == 0 then zero_block else t.block a)
+unfolding bytes_via
+via-free t way a free = ap (λ o. unwrap_or o (if a == 0 then zero_block else t.block a)) free
 
 -- ---- a file without blocks
 -- where the record has no address and nothing waits, no block has one

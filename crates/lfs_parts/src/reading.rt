@@ -1,8 +1,9 @@
 //! Reading a file's blocks through what waits to be written.
 
-ghost use Rattle.std.specs.Prelude.{◌≡◌, ◌≢◌, ◌↔◌, ◌+◌, ◌-◌, ◌/◌, ◌<◌, ◌≤◌, ◌^◌, ℕ, IsTrue, List, Some, None, length};
+ghost use Rattle.std.specs.Prelude.{◌≡◌, ◌≢◌, ◌↔◌, ◌==◌, ◌+◌, ◌-◌, ◌/◌, ◌<◌, ◌≤◌, ◌^◌, ℕ, IsTrue, List, Some, None, if◌then◌else◌, length};
 ghost use Rattle.lfs_types.specs.declared.block.TheConstants.{BLOCK_SIZE};
 ghost use Rattle.lfs_types.specs.declared.limits.TheConstants.{FILE_BLOCKS};
+ghost use Rattle.lfs_types.specs.Blocks.{zero_block};
 ghost use Rattle.lfs_types.specs.Stored.{slice_of};
 ghost use Rattle.lfs_inodes.specs.Reading.{fields_of};
 ghost use Rattle.lfs_cache.specs.Changes.{IsContents};
@@ -44,7 +45,21 @@ impl Parts {
         }
     }
 
-    /// The address of a block of a file, 0 where it has none. The record has none.
+    /// The bytes that the log has at an address; zeros at 0.
+    fn in_log(&self, address: u32) -> &Block
+        requires { address < blocks_of self.now }
+        ensures { result.now
+            ≡ (if address == 0 then zero_block else block_at self.now.log.memory address) }
+    {
+        if address == 0 {
+            &ZERO_BLOCK
+        } else {
+            self.log.block(address)
+        }
+    }
+
+    /// The address of a block of a file, 0 where it has none. The record has none. What holds it and waits is asked
+    /// without its own address.
     pub fn address_of(&self, inode: &Inode, block: FileBlock) -> u32
         requires block { IsFileBlock block }
         requires inside { LiesIn (blocks_of self.now) (tree_from self.now inode.now) }
@@ -56,8 +71,10 @@ impl Parts {
         match table {
             FileBlock::Record => root_address(inode, index as usize),
             FileBlock::Single | FileBlock::Double | FileBlock::Child(_) | FileBlock::Data(_) => {
-                let address = self.address_of(inode, table);
-                let held = self.bytes_via(inode, table, address);
+                if let Some(waiting) = self.cache.dirty(key_of(inode, table)) {
+                    return entry(waiting, index as usize);
+                }
+                let held = self.in_log(self.address_of(inode, table));
                 entry(held, index as usize)
             }
         }
