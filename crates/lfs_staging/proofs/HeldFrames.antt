@@ -1,13 +1,13 @@
--- No frame is given up where an indirect block that waits gets other bytes (`written_frames`, for `set_entry`) or a block
--- is settled (`settled_frames`, for `land_block`); and so in steps, one behind the other (`KeepsFrames-trans`). Each of
--- the two calls moves one key to the front of its queue and takes no frame, as the key has one.
-use Rattle.std.proofs.Common.{◌≡◌, ℕ, ◌<◌, List, Option, None, Some, IsSome, is_some, false, cond, refl, sym, ap, ap₂}
+-- No frame is given up where an indirect block that waits gets other bytes (`overwritten_frames`, for `set_entry`) or a
+-- block is settled (`settled_frames`, for `land_block`); and so in steps, one behind the other (`KeepsFrames-trans`).
+-- Neither of the two calls takes a frame, as the key has one.
+use Rattle.std.proofs.Common.{◌≡◌, ℕ, ◌<◌, List, Option, None, Some, IsSome, is_some, false, refl, sym, ap, ap₂}
 use Rattle.std.proofs.Common.{◌∙◌, subst, inl, inr, arith}
 use Rattle.lfs_cache.specs.declared.key.Key.{Key}
 use Rattle.lfs_cache.specs.Keys.{same_key}
-use Rattle.lfs_cache.specs.Changes.{KeepsOthers}
-use Rattle.lfs_cache.specs.Contents.{Contents, IsLocked, block_in, block_of, or_else, without_key, written, written_by}
-use Rattle.lfs_cache.proofs.CallerLemmas.{block_other, written_dirty}
+use Rattle.lfs_cache.specs.Changes.{KeepsOthers, Overwrites}
+use Rattle.lfs_cache.specs.Contents.{Contents, IsLocked, block_in, block_of, or_else}
+use Rattle.lfs_cache.proofs.Cached.{some_is}
 use Rattle.lfs_cache.proofs.Entries.{same_cases, same_is}
 use Rattle.lfs_bmap.specs.declared.blocks.TheConstants.{FIRST_DATA_CODE}
 use Rattle.lfs_staging.specs.Frames.{KeepsFrames}
@@ -35,14 +35,6 @@ settled_frames old new k kept keeps = frames_blocks old new
       | inr apart ↦ keeps.blocks key apart
     ])
 
-written_other : (o : Option (List ℕ)) (k other : Key) (block : List ℕ) (c : Contents) → IsSome o
-    → same_key k other ≡ false
-    → block_of other (written_by o k block c) ≡ block_of other c
-written_other None k other block c some apart = absurd (cc)
-written_other (Some b) k other block c some apart =
-    ap₂ or_else (ap (λ t. cond t (Some block) (block_in other (without_key k c.locked))) apart
-    ∙ block_other k other c.locked apart) (block_other k other c.lru apart)
-
 dirty_held : (o p : Option (List ℕ)) → IsSome o → IsSome (or_else o p)
 dirty_held None p some = absurd (cc)
 dirty_held (Some b) p some = refl
@@ -63,11 +55,10 @@ written_table old new k low had has others = record {
   ];
 }
 
-pub written_frames : (old new : Contents) (k : Key) (block : List ℕ) → new ≡ written k block old → IsLocked k old
-    → k.lbn.0 < FIRST_DATA_CODE → KeepsFrames old new
-written_frames old new k block is locked low =
-    let had = dirty_held (block_in k old.locked) (block_in k old.lru) locked in
-    let has = dirty_held (block_in k (written k block old).locked) (block_in k (written k block old).lru)
-    (ap is_some (written_dirty k block old)) in
-    subst (KeepsFrames old) (sym is) (written_table old (written k block old) k low had has
-    (λ other apart. written_other (block_of k old) k other block old had apart))
+pub overwritten_frames : (old new : Contents) (k : Key) (start : ℕ) (bytes : List ℕ) → Overwrites k start bytes old new
+    → IsLocked k old → k.lbn.0 < FIRST_DATA_CODE → KeepsFrames old new
+overwritten_frames old new k start bytes over locked low =
+    let own = some_is (block_in k old.locked) locked in
+    written_table old new k low (dirty_held (block_in k old.locked) (block_in k old.lru) locked)
+    (dirty_held (block_in k new.locked) (block_in k new.lru) (ap is_some (over.block own.0 own.1).1))
+    (λ other apart. ap₂ or_else (over.dirty other apart) (ap (block_in other) over.clean))

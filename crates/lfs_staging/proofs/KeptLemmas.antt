@@ -360,6 +360,23 @@ holder_of c number version t locked =
     holder_waits c number version (way_to t)
     (λ _. subst (λ code. IsLocked (key_of number version code) c) (sym (code_at-way_to t)) locked)
 
+-- where what holds a block's address waits, so do all its parents
+pub parents_wait : (p : Parts) (number : ℕ) (block : FileBlock) → AreFiles p → ParentsWait p
+    → IsLocked (key_of number (version_of p number) (code_of (table_of block))) p.cache → StagesParents number block p p
+parents_wait p number block files parents locked = record {
+  same = record { log = refl; records = λ n. refl; readings = λ n. SameReadings-refl (tree_of p n) };
+  files = files;
+  parents = parents;
+  waits = record {
+    record_waits = parents.records (key_of number (version_of p number) (code_of (table_of block))) locked;
+    holder_waits = holder_of p.cache number (version_of p number) (table_of block) locked;
+  };
+  room = refl;
+  once = λ once. once;
+  stays = λ key waits. waits;
+  takes = λ key waits. inr waits;
+}
+
 -- a block and its parents wait
 taken_block : (old between new : Parts) (number : ℕ) (block : FileBlock) (bytes : List ℕ) → IsFileBlock block
     → code_of block ≢ 0 → StagesParents number block old between

@@ -22,6 +22,7 @@ pub mod NewFileLemmas
 pub mod CutFileLemmas
 pub mod LengthLemmas
 pub mod ForgettingLemmas
+pub mod EntryLemmas
 pub mod HeldFrames
 pub mod OtherBytesLemmas
 pub mod OtherNumbers

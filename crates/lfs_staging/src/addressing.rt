@@ -14,12 +14,10 @@ ghost use Rattle.lfs_parts.specs.Store.{HolderWaits, IsPresent, IsWithin};
 
 use lfs_bmap::blocks::{Cell, FileBlock};
 use lfs_cache::{Cache, Key};
-use lfs_inodes::addresses::with_entry;
 use lfs_inodes::inode::Inode;
 use lfs_parts::parts::{Parts, key_of};
 
-/// Sets an address in an indirect block that waits.
-#[tactic(auto, using(lfs_parts::proofs::HeldLemmas::gains_none))]
+/// Sets an address in an indirect block that waits, in its frame.
 fn set_entry(cache: &mut Cache, key: Key, index: usize, address: u32)
     requires inside { index < 128 }
     requires table { key.lbn.0 < FIRST_DATA_CODE }
@@ -28,13 +26,7 @@ fn set_entry(cache: &mut Cache, key: Key, index: usize, address: u32)
         → SetsEntry cache.old cache.new key index address block }
     ensures held { KeepsFrames cache.old cache.new }
 {
-    match cache.dirty(key) {
-        Some(indirect) => {
-            let changed = with_entry(indirect, index, address);
-            cache.write(key, &changed);
-        }
-        None => unreachable!(),
-    }
+    cache.overwrite(key, 4 * index, &address.to_be_bytes());
 }
 
 /// Sets the address of a block of a file in what holds it, which waits: in the record, or in an

@@ -69,7 +69,7 @@ pub fn stage_data(parts: &mut Parts, inode: &Inode, index: u32, bytes: &Block)
 }
 
 /// Has the parents of a block wait, with what they have: the record of the file, and the blocks
-/// that lead from it to the block.
+/// that lead from it to the block. Where what holds its address waits, they all do.
 pub fn stage_parents(parts: &mut Parts, inode: &Inode, block: FileBlock)
     requires may { MayStage parts.old inode.now }
     requires block { IsFileBlock block }
@@ -80,6 +80,9 @@ pub fn stage_parents(parts: &mut Parts, inode: &Inode, block: FileBlock)
     match table {
         FileBlock::Record => stage_own_record(parts, inode),
         FileBlock::Single | FileBlock::Double | FileBlock::Child(_) | FileBlock::Data(_) => {
+            if waits(parts, inode, table) {
+                return;
+            }
             stage_parents(parts, inode, table);
             stage_table(parts, inode, table);
         }

@@ -1,6 +1,7 @@
 use Rattle.std.proofs.Common.{◌≡◌, ◌≢◌, ◌<◌, ◌⊎◌, length, sym, ap, ◌∙◌, subst, arith}
 use Rattle.lfs_cache.specs.Contents.{IsLocked}
 use Rattle.lfs_cache.specs.declared.cache.TheConstants.{LOCKED_LIMIT}
+use Rattle.lfs_inodes.specs.Reading.{fields_of}
 use Rattle.lfs_bmap.specs.declared.blocks.FileBlock.{FileBlock}
 use Rattle.lfs_bmap.specs.declared.blocks.FileBlock.TheVariants.{Record}
 use Rattle.lfs_bmap.specs.Blocks.{IsFileBlock, code_of, table_of, way_to}
@@ -12,7 +13,7 @@ use Rattle.lfs_bmap.proofs.TableLemmas.{table_of-less}
 use Rattle.lfs_staging.specs.Staging.{HasFrames, StagesBlock, StagesParents}
 use Rattle.lfs_parts.specs.View.{key_of, tree_of, version_of}
 use Rattle.lfs_parts.proofs.KeyLemmas.{code-other}
-use Rattle.lfs_staging.proofs.KeptLemmas.{parents_own, table_again, table_parents}
+use Rattle.lfs_staging.proofs.KeptLemmas.{parents_own, parents_wait, table_again, table_parents}
 use Rattle.lfs_staging.proofs.StagedLemmas.{parents_again}
 use Rattle.lfs_parts.proofs.SameLogLemmas.{version-same}
 use Rattle.lfs_staging.proofs.TakenLemmas.{block_room, frames_above}
@@ -22,6 +23,15 @@ pub returns-in-Record : goal.returns-in-Record
 returns-in-Record t c =
     parents_own c.args.parts.now c.stage_own_record.new.parts c.args.inode.now.number c.args.block
     c.stage_own_record.ensures (sym c.table-table.ensures ∙ c.in-Record.is)
+
+pub returns-then-waits : goal.returns-then-waits
+returns-then-waits t c =
+    let p = c.args.parts.now in let v = c.args.inode.now in
+    let own = (c.requires.may.files.files v.number (fields_of v) c.requires.may.here).own_version in
+    parents_wait p v.number c.args.block c.requires.may.files c.requires.may.parents
+    (subst (λ n. IsLocked (key_of v.number n (code_of (table_of c.args.block))) p.cache) own
+    (subst (λ b. IsLocked (key_of v.number v.version (code_of b)) p.cache) c.table-table.ensures
+    (c.waits.ensures.0 c.if-waits.true)))
 
 -- what holds a block's address has a lesser code, where it isn't the record
 lesser : (block table : FileBlock) → IsFileBlock block → table ≡ table_of block → code_of table ≢ 0
@@ -68,8 +78,8 @@ stage_table-requires t c =
           (version-same p q v.number parents.same.log) parents.takes parents.files.cache c.requires.room);
     }
 
-pub returns-in-Single : goal.returns-in-Single
-returns-in-Single t c =
+pub returns-else-waits : goal.returns-else-waits
+returns-else-waits t c =
     let p = c.args.parts.now in let q = c.stage_parents.new.parts in let r = c.stage_table.new.parts in let v =
     c.args.inode.now in let x = table_of c.args.block in
     let other : code_of x ≢ 0 = subst (λ b. code_of b ≢ 0) c.table-table.ensures
