@@ -37,6 +37,24 @@ pub none_once : (vs : List Inode) → vs ≡ [] → AreOnce vs
 unfolding AreOnce
 none_once vs none = subst AreOnce (sym none) tt
 
+-- the record at the first place that has the number is the one that waits
+pub waiting-at : (vs : List Inode) (i number : ℕ) (d : Inode) → i < length vs
+    → ((k : ℕ) (d : Inode) → k < i → (get_or vs k d).number ≢ number) → (get_or vs i d).number ≡ number
+    → waiting_in vs number ≡ Some (get_or vs i d)
+waiting-at [] i number d inside others here = absurd (omega arith)
+waiting-at (v ∷ vs) zero number d inside others here = cond-true _ _ _ (eq-eqb v.number number here)
+waiting-at (v ∷ vs) (suc i) number d inside others here =
+    cond-false _ _ _ (ne_eqb v.number number (others 0 v (omega arith)))
+    ∙ waiting-at vs i number d (omega arith) (λ k d low. others (suc k) d (omega arith)) here
+
+-- none waits where none has the number
+pub waiting-none : (vs : List Inode) (number : ℕ)
+    → ((k : ℕ) (d : Inode) → k < length vs → (get_or vs k d).number ≢ number) → waiting_in vs number ≡ None
+waiting-none [] number others = refl
+waiting-none (v ∷ vs) number others =
+    cond-false _ _ _ (ne_eqb v.number number (others 0 v (omega arith)))
+    ∙ waiting-none vs number (λ k d low. others (suc k) d (omega arith))
+
 -- the record that waits at the head, and past it
 pub waiting-head : (v : Inode) (vs : List Inode) (number : ℕ) → v.number ≡ number → waiting_in (v ∷ vs) number ≡ Some v
 waiting-head v vs number is = cond-true _ _ _ (eq-eqb v.number number is)

@@ -69,6 +69,9 @@ impl Parts {
         ensures waits { IsSome (waiting_in self.now.waiting ino)
             → waiting_in self.now.waiting ino ≡ Some result }
     {
+        if let Some(inode) = self.waiting.find(ino) {
+            return inode;
+        }
         match self.record(ino) {
             Some(inode) => inode,
             None => unreachable!(),

@@ -71,7 +71,12 @@ fn drop_known(records: &mut VecDeque<Inode>, number: u32, waits: bool)
 fn find_record(records: &VecDeque<Inode>, number: u32) -> Option<Inode>
     ensures { result ≡ waiting_in records.now.items number }
 {
-    records.iter().find(|inode| inode.number == number).copied()
+    for place in 0..records.len() {
+        if records[place].number == number {
+            return Some(records[place]);
+        }
+    }
+    None
 }
 
 /// Puts a record in the place of the one of its number.
