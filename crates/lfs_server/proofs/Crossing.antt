@@ -26,14 +26,14 @@ use Rattle.lfs_server.proofs.live_server.Told.TheSendSync as told
 use Rattle.lfs_server.proofs.run.Run.TheSendSync as run
 
 -- a volume of these sizes, where its store may
-kept_send : (S F : RattleType) (s : Sizes S.Denot) (g : Ghosts F.Denot) → IsSend S → IsSend F → IsSend (the_row S F s g)
+kept_send : (S F : RattleType) (s : Sizes S.Denot F.Denot) (g : Ghosts F.Denot) → IsSend S → IsSend F → IsSend (the_row S F s g)
 kept_send S F s g a b =
     let T = the_type S F s g in
     let all : AllSend (declared.fields T) = (volume_send F g b, (search (sendable, crosses), tt)) in
     view_send _ _ _ _ _ (recorded_send (the_field S F s g).row _ _ T.to_one (struct_send (declared.shape T) all))
 
 -- all threads may share it behind its lock
-pub locked_sync : (S F : RattleType) (s : Sizes S.Denot) (g : Ghosts F.Denot) → IsSend S → IsSend F
+pub locked_sync : (S F : RattleType) (s : Sizes S.Denot F.Denot) (g : Ghosts F.Denot) → IsSend S → IsSend F
     → IsSync (mutex_row (the_row S F s g))
 locked_sync S F s g a b =
     let keeps : IsSend (the_row S F s g) = kept_send S F s g a b in search (crosses, keeps)
@@ -51,7 +51,7 @@ send_at : (R : RattleType) → IsSend R → (x : R.Denot) → SendAt R x
 send_at R goes x = (goes.owned x, λ k. goes.leaving k x)
 
 -- a server of a client may go to a thread
-pub server_send : (a : NamedLft) (S R F G : RattleType) (s : Sizes S.Denot) (g : Ghosts F.Denot) → IsSend S → IsSync R
+pub server_send : (a : NamedLft) (S R F G : RattleType) (s : Sizes S.Denot F.Denot) (g : Ghosts F.Denot) → IsSend S → IsSync R
     → IsSend F → IsSync G → IsSend (server.the_row a S R F G s g)
 server_send a S R F G s g send_S sync_R send_F sync_G =
     let T = server.the_type a S R F G s g in

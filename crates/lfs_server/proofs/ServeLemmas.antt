@@ -47,6 +47,13 @@ pub on_ok : {A E P : Type 0} (result : Result A E) → P → OnOk result P
 on_ok (Ok a) p = p
 on_ok (Err e) p = tt
 
+-- what follows of each run that is left follows of this one
+pub on_left : {T : Type 0} {P Q : T → Type 0} (result : Result T (Unserved T)) → ((left : T) → P left → Q left)
+    → OnLeft result P → OnLeft result Q
+on_left (Ok left) follows p = follows left p
+on_left (Err (unserved.Fault fault)) follows p = tt
+on_left (Err (unserved.Unsettled session left)) follows p = follows left p
+
 -- a result that is Ok is no fault
 pub no_fault : {A E : Type 0} (a : A) (e : E) → Ok a ≡ Err e → ⊥
 no_fault {A} {E} a e eq = subst (λ (r : Result A E). IfOk r (λ _. ⊥)) (sym eq) tt
@@ -57,19 +64,19 @@ pub fresh_log : (segments inodes frames : ℕ) (store : Parts) → state_of stor
 fresh_log segments inodes frames store opening laid_out = record { opening = opening; laid_out = laid_out }
 
 from_opening : {F : Type 0} (state : F → StoreState) (new old : Seen F)
-    → Begins (state old.since) old.since_level opening_world → state new.since ≡ state old.since
+    → Begins (state old.since) old.since_level opening_world → new.since ≡ old.since
     → new.since_level ≡ old.since_level
     → Since (state new.since) new.since_level (λ from. IsJournal from (state new.store) new.level new.journal new.limit)
     → IsJournal opening_world (state new.store) new.level new.journal new.limit
-from_opening state new old begins since since_level legal =
+from_opening {F} state new old begins since since_level legal =
     legal opening_world
     (subst (λ l. Begins (state new.since) l opening_world) (sym since_level)
-    (subst (λ s. Begins s old.since_level opening_world) (sym since) begins))
+    (subst (λ (store : F). Begins (state store) old.since_level opening_world) (sym since) begins))
 
 -- where a run began on a volume that shows the opening tree, its journal is legal from there
 pub legal_from_opening : {F C : Type 0} (state : F → StoreState) (volume : C → Seen F) (result : Result C (Unserved C))
     (old : Seen F) → Begins (state old.since) old.since_level opening_world
-    → OnLeft result (λ c. state (volume c).since ≡ state old.since)
+    → OnLeft result (λ c. (volume c).since ≡ old.since)
     → OnLeft result (λ c. (volume c).since_level ≡ old.since_level)
     → OnLeft result (λ c. Since (state (volume c).since) (volume c).since_level
     (λ from. IsJournal from (state (volume c).store) (volume c).level (volume c).journal (volume c).limit))

@@ -13,7 +13,7 @@ use std::sync::atomic::Ordering;
 use std::sync::{Mutex, Wait};
 
 /// Makes a pass for each ring, until all buttons of the doorbell are gone and the rings left are served.
-pub fn run_cleaner<S: Sizes, R: Wait, F: CleanedStore + Drop, G: Gate>(
+pub fn run_cleaner<S: Sizes<F>, R: Wait, F: CleanedStore + Drop, G: Gate>(
     run: &Run<'_, R, G>,
     volume: &Mutex<Kept<S, F>>,
     rings: &Rings,
@@ -28,7 +28,7 @@ pub fn run_cleaner<S: Sizes, R: Wait, F: CleanedStore + Drop, G: Gate>(
 }
 
 /// Makes the calls of one pass.
-fn run_pass<S: Sizes, R: Wait, F: CleanedStore + Drop, G: Gate>(
+fn run_pass<S: Sizes<F>, R: Wait, F: CleanedStore + Drop, G: Gate>(
     run: &Run<'_, R, G>,
     volume: &Mutex<Kept<S, F>>,
     turns: &mut Turns,
@@ -42,7 +42,7 @@ fn run_pass<S: Sizes, R: Wait, F: CleanedStore + Drop, G: Gate>(
 }
 
 /// Makes a call once it has the lock. Until then no session goes on in a holding of its own.
-fn clean<S: Sizes, R: Wait, F: CleanedStore + Drop, G>(
+fn clean<S: Sizes<F>, R: Wait, F: CleanedStore + Drop, G>(
     run: &Run<'_, R, G>,
     volume: &Mutex<Kept<S, F>>,
     call: CleanerCall,

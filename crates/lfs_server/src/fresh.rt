@@ -13,7 +13,8 @@ use lfs_types::store::Params;
 use lfs_volume::volume::Volume;
 use std::alloc::Global;
 
-/// A fresh volume over the log store: the opening tree, and no entries.
+/// A fresh volume over the log store: the opening tree, and no entries. Its journal begins over the very store that was laid
+/// out.
 ///
 /// # Errors
 ///
@@ -21,6 +22,7 @@ use std::alloc::Global;
 pub fn fresh_volume(alloc: Global, params: Params) -> Result<Volume<LogStore>, FormatFault>
     ensures fresh { IfOk result (λ volume. (volume.journal ≡ []) × (volume.limit ≡ params.journal)
         × IsFreshLog params.segments params.inodes params.frames volume.store) }
+    ensures since { IfOk result (λ volume. volume.since ≡ volume.store) }
     ensures begins { IfOk result (λ volume.
         Begins (state_of volume.since) volume.since_level opening_world) }
     ensures ranges { OnOk result (IsInRange params.segments params.inodes params.frames) }

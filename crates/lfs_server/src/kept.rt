@@ -26,48 +26,43 @@ use lfs_volume::volume::Volume;
 use std::alloc::AllocError;
 use std::marker::{Brand, Model, PhantomData};
 
-/// What no call changes of a volume, as a type.
-pub trait Sizes {
+/// What no call changes of a volume over a store of type `F`, as a type.
+pub trait Sizes<F> {
     ghost use Rattle.std.specs.Prelude.{ℕ};
-    ghost use Rattle.lfs_types.specs.StoreStates.{Shape, StoreState};
+    ghost use Rattle.lfs_types.specs.StoreStates.{Shape};
     ghost use Rattle.lfs_types.specs.declared.level.Level.{Level};
 
     /// How many inode numbers and segments its store has, and whether changes of it take memory.
     ghost shape: { Shape };
     /// How many entries its journal may have.
     ghost limit: { ℕ };
-    /// What its store showed when its journal began.
-    ghost since: { StoreState };
+    /// Holds of its store as that was when its journal began.
+    ghost since: { F → Type 0 };
     /// The securelevel when its journal began.
     ghost since_level: { Level };
 }
 
-impl Sizes for Brand {
+impl<F> Sizes<F> for Brand {
     ghost use Rattle.std.specs.Prelude.{false};
-    ghost use Rattle.std.specs.FinMap.{empty};
     ghost use Rattle.lfs_types.specs.declared.level.Level.TheVariants.{Insecure};
 
     ghost shape = { record { numbers = 0; segments = 0; can_lack_memory = false; has_share = false } };
 
     ghost limit = { 0 };
 
-    ghost since = { record {
-      content = empty;
-      shape = record { numbers = 0; segments = 0; can_lack_memory = false; has_share = false };
-      clean = 0;
-    } };
+    ghost since = { λ store. Unit {0} };
 
     ghost since_level = { Insecure };
 }
 
 /// A volume of these sizes. Contracts see the volume alone.
 #[derive(Drop)]
-pub struct Kept<S: Sizes, F: FileStore + Drop> {
+pub struct Kept<S: Sizes<F>, F: FileStore + Drop> {
     volume: Volume<F>,
     sizes: PhantomData<S>,
 }
 
-impl<S: Sizes, F: FileStore + Drop> Model for Kept<S, F> {
+impl<S: Sizes<F>, F: FileStore + Drop> Model for Kept<S, F> {
     ghost use Rattle.std.specs.Prelude.{◌≡◌};
     ghost use Rattle.lfs_volume.specs.Seen.{Seen};
 
@@ -76,15 +71,15 @@ impl<S: Sizes, F: FileStore + Drop> Model for Kept<S, F> {
     ghost view = { λ k. k.volume };
 
     ghost invariant = { λ k. ((F.state k.volume.store).shape ≡ S.shape) × (k.volume.limit ≡ S.limit)
-        × (F.state k.volume.since ≡ S.since) × (k.volume.since_level ≡ S.since_level) };
+        × S.since k.volume.since × (k.volume.since_level ≡ S.since_level) };
 }
 
-impl<S: Sizes, F: FileStore + Drop> Kept<S, F> {
+impl<S: Sizes<F>, F: FileStore + Drop> Kept<S, F> {
     /// This volume.
     pub fn new(volume: Volume<F>) -> Kept<S, F>
         requires shaped { (F.state volume.store).shape ≡ S.shape }
         requires limited { volume.limit ≡ S.limit }
-        requires begun { F.state volume.since ≡ S.since }
+        requires begun { S.since volume.since }
         requires begun_level { volume.since_level ≡ S.since_level }
         ensures { result ≡ volume }
     {
@@ -97,7 +92,7 @@ impl<S: Sizes, F: FileStore + Drop> Kept<S, F> {
         ensures volume { result ≡ self }
         ensures shaped { (F.state result.store).shape ≡ S.shape }
         ensures limited { result.limit ≡ S.limit }
-        ensures begun { F.state result.since ≡ S.since }
+        ensures begun { S.since result.since }
         ensures begun_level { result.since_level ≡ S.since_level }
     {
         let Kept { volume, sizes: _ } = self;
@@ -168,7 +163,7 @@ impl<S: Sizes, F: FileStore + Drop> Kept<S, F> {
     }
 }
 
-impl<S: Sizes, F: CleanedStore + Drop> Kept<S, F> {
+impl<S: Sizes<F>, F: CleanedStore + Drop> Kept<S, F> {
     /// Makes a call of the cleaner, in its session and as user 0 with group 0 alone.
     pub fn clean(&mut self, call: CleanerCall) -> CleanerAnswer
         ensures full { (result ≡ CleanerAnswer.Refused Resource.JournalFull)

@@ -117,8 +117,7 @@ where
     ensures limit { OnLeft result (λ stopped. stopped.volume.limit ≡ volume.limit) }
     ensures shape { OnLeft result (λ stopped.
         (F.state stopped.volume.store).shape ≡ (F.state volume.store).shape) }
-    ensures since { OnLeft result (λ stopped.
-        F.state stopped.volume.since ≡ F.state volume.since) }
+    ensures since { OnLeft result (λ stopped. stopped.volume.since ≡ volume.since) }
     ensures since_level { OnLeft result (λ stopped.
         stopped.volume.since_level ≡ volume.since_level) }
     ensures legal { OnLeft result (λ stopped.

@@ -85,7 +85,7 @@ fn empty(alloc: Global, session: u8) -> Transcript
 
 /// A server over a volume of these sizes.
 #[derive(Drop)]
-pub struct Server<'s, S: Sizes, R, F: FileStore + Drop, G> {
+pub struct Server<'s, S: Sizes<F>, R, F: FileStore + Drop, G> {
     /// What its threads share beside the volume.
     pub run: &'s Run<'s, R, G>,
     /// The volume.
@@ -96,7 +96,7 @@ pub struct Server<'s, S: Sizes, R, F: FileStore + Drop, G> {
     pub button: Button,
 }
 
-impl<'s, S: Sizes, R: Wait, F: CleanedStore + Drop, G: Gate> Live for Server<'s, S, R, F, G> {
+impl<'s, S: Sizes<F>, R: Wait, F: CleanedStore + Drop, G: Gate> Live for Server<'s, S, R, F, G> {
     fn begin(&self) -> Result<Transcript, BeginFault> {
         self.told.lock(self.run.rt).begin(self.run.alloc)
     }

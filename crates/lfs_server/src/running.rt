@@ -30,14 +30,14 @@ pub fn serve_kept<S, R, F, C, G>(
     clients: Vec<C>,
 ) -> Result<Stopped<F>, Unserved<Stopped<F>>>
 where
-    S: Sizes + Send,
+    S: Sizes<F> + Send,
     R: Threads + Wait + Sync,
     F: CleanedStore + Send + Drop,
     C: Client + Send + Drop,
     G: Gate,
     requires shaped { (F.state volume.store).shape ≡ S.shape }
     requires limited { volume.limit ≡ S.limit }
-    requires begun { F.state volume.since ≡ S.since }
+    requires begun { S.since volume.since }
     requires begun_level { volume.since_level ≡ S.since_level }
     ensures settled { IfOk result (λ stopped. IsInterleavingOf
         stopped.volume.journal stopped.volume.limit stopped.transcripts.items) }
@@ -45,7 +45,7 @@ where
         stopped.volume.journal stopped.volume.limit stopped.transcripts.items session)) }
     ensures limit { OnLeft result (λ stopped. stopped.volume.limit ≡ S.limit) }
     ensures shape { OnLeft result (λ stopped. (F.state stopped.volume.store).shape ≡ S.shape) }
-    ensures since { OnLeft result (λ stopped. F.state stopped.volume.since ≡ S.since) }
+    ensures since { OnLeft result (λ stopped. S.since stopped.volume.since) }
     ensures since_level { OnLeft result (λ stopped. stopped.volume.since_level ≡ S.since_level) }
     ensures legal { OnLeft result (λ stopped.
         Since (F.state stopped.volume.since) stopped.volume.since_level (λ from. IsJournal from
@@ -73,7 +73,7 @@ fn run_clients<S, R, F, C, G>(
     clients: Vec<C>,
 ) -> Result<(), ServeFault>
 where
-    S: Sizes + Send,
+    S: Sizes<F> + Send,
     R: Threads + Wait + Sync,
     F: CleanedStore + Send + Drop,
     C: Client + Send + Drop,
@@ -103,7 +103,7 @@ fn start_clients<'s, E, S, R, F, C, G>(
     clients: Vec<C>,
 ) -> Result<(), ServeFault>
 where
-    S: Sizes + Send,
+    S: Sizes<F> + Send,
     R: Threads + Wait + Sync,
     F: CleanedStore + Send + Drop,
     C: Client + Send + Drop + 's,
@@ -130,7 +130,7 @@ fn start_client<'s, E, S, R, F, C, G>(
     client: C,
 ) -> Result<(), ServeFault>
 where
-    S: Sizes + Send,
+    S: Sizes<F> + Send,
     R: Threads + Wait + Sync,
     F: CleanedStore + Send + Drop,
     C: Client + Send + Drop + 's,
@@ -146,7 +146,7 @@ where
 /// Runs a client on its server. Behind it the server's button is gone: once those of all clients are, the cleaner ends.
 fn attend<S, R, F, C, G>(server: Server<'_, S, R, F, G>, client: C)
 where
-    S: Sizes + Send,
+    S: Sizes<F> + Send,
     R: Threads + Wait + Sync,
     F: CleanedStore + Send + Drop,
     C: Client + Send + Drop,

@@ -4,6 +4,7 @@ ghost use Rattle.std.specs.Prelude.{◌≡◌, ◌≤◌, ◌<◌, IfErr, IfOk, 
 ghost use Rattle.lfs_types.specs.Tree.{opening_world};
 ghost use Rattle.lfs_logstore.specs.States.{shape_of, state_of};
 ghost use Rattle.lfs_settle.specs.Interleaving.{IsInterleaving, IsLowestToDiffer, run_of};
+ghost use Rattle.lfs_server.specs.Fresh.{IsFreshLog};
 ghost use Rattle.lfs_server.specs.Serving.{IsInRange, IsServeFault};
 ghost use Rattle.lfs_server.specs.Unserved.{NamesUnsettled, OnLeft, fault_of};
 ghost use Rattle.lfs_volume.specs.Journals.{IsJournal};
@@ -20,7 +21,7 @@ use std::sync::Wait;
 use std::thread::Threads;
 
 /// Runs the setup and then each script as a session on a thread of its own, with the cleaner beside them, on a fresh volume
-/// over the log store. `Sessions` comes exactly for none and for more than eight, before all others; `Format` for numbers out
+/// over the log store, which has the segments, the inode numbers and the frames that are asked for. `Sessions` comes exactly for none and for more than eight, before all others; `Format` for numbers out
 /// of their ranges alone, and before anything is run.
 pub fn serve<R, G>(
     rt: &R,
@@ -43,6 +44,9 @@ where
     ensures limit { OnLeft result (λ closed. closed.volume.limit ≡ params.journal) }
     ensures shape { OnLeft result (λ closed. (state_of closed.volume.store).shape
         ≡ shape_of params.inodes params.segments) }
+    // Its journal begins over the log as it was laid out, with so many frames.
+    ensures fresh { OnLeft result (λ closed. IsFreshLog
+        params.segments params.inodes params.frames closed.volume.since) }
     ensures ranges { OnOk result (IsInRange params.segments params.inodes params.frames) }
     ensures legal { OnLeft result (λ closed. IsJournal opening_world
         (state_of closed.volume.store) closed.volume.level

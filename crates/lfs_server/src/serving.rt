@@ -121,8 +121,7 @@ where
     ensures limit { OnLeft result (λ closed. closed.volume.limit ≡ volume.limit) }
     ensures shape { OnLeft result (λ closed.
         (F.state closed.volume.store).shape ≡ (F.state volume.store).shape) }
-    ensures since { OnLeft result (λ closed.
-        F.state closed.volume.since ≡ F.state volume.since) }
+    ensures since { OnLeft result (λ closed. closed.volume.since ≡ volume.since) }
     ensures since_level { OnLeft result (λ closed.
         closed.volume.since_level ≡ volume.since_level) }
     ensures legal { OnLeft result (λ closed.
@@ -163,14 +162,14 @@ fn run_kept<S, R, F, G>(
     sessions: &[Script],
 ) -> Result<Closed<F>, Unserved<Closed<F>>>
 where
-    S: Sizes + Send,
+    S: Sizes<F> + Send,
     R: Threads + Wait + Sync,
     F: CleanedStore + Send + Drop,
     G: Gate,
     requires few { length sessions.now ≤ 8 }
     requires shape { (F.state volume.store).shape ≡ S.shape }
     requires limit { volume.limit ≡ S.limit }
-    requires since { F.state volume.since ≡ S.since }
+    requires since { S.since volume.since }
     requires since_level { volume.since_level ≡ S.since_level }
     ensures settled { IfOk result (λ closed. IsInterleaving
         (run_of closed.volume.journal closed.volume.limit
@@ -181,7 +180,7 @@ where
     ensures count { OnLeft result (λ closed. vec_len closed.transcripts ≡ length sessions.now) }
     ensures limit { OnLeft result (λ closed. closed.volume.limit ≡ S.limit) }
     ensures shape { OnLeft result (λ closed. (F.state closed.volume.store).shape ≡ S.shape) }
-    ensures since { OnLeft result (λ closed. F.state closed.volume.since ≡ S.since) }
+    ensures since { OnLeft result (λ closed. S.since closed.volume.since) }
     ensures since_level { OnLeft result (λ closed. closed.volume.since_level ≡ S.since_level) }
     ensures legal { OnLeft result (λ closed.
         Since (F.state closed.volume.since) closed.volume.since_level (λ from. IsJournal from
@@ -215,7 +214,7 @@ fn run_sessions<S, R, F, G>(
     scripts: &[Script],
 ) -> Result<(Kept<S, F>, Vec<Vec<Answer>>), ServeFault>
 where
-    S: Sizes + Send,
+    S: Sizes<F> + Send,
     R: Threads + Wait + Sync,
     F: CleanedStore + Send + Drop,
     G: Gate,
@@ -246,7 +245,7 @@ fn jobs<'a>(
 }
 
 /// Makes the calls of the setup, each of a copy of what it asks, and gives the answers.
-fn run_setup<S: Sizes, R, F: FileStore + Drop, G: Gate>(
+fn run_setup<S: Sizes<F>, R, F: FileStore + Drop, G: Gate>(
     run: &Run<'_, R, G>,
     volume: &mut Kept<S, F>,
     setup: &Script,
@@ -270,7 +269,7 @@ fn run_threads<S, R, F, G>(
     rings: &Rings,
 ) -> Result<Vec<Vec<Answer>>, ServeFault>
 where
-    S: Sizes + Send,
+    S: Sizes<F> + Send,
     R: Threads + Wait + Sync,
     F: CleanedStore + Send + Drop,
     G: Gate,
@@ -300,7 +299,7 @@ pub(crate) fn start_cleaner<'s, E, S, R, F, G>(
     rings: &'s Rings,
 ) -> Result<(), ServeFault>
 where
-    S: Sizes + Send,
+    S: Sizes<F> + Send,
     R: Threads + Wait + Sync,
     F: CleanedStore + Send + Drop,
     G: Gate,
@@ -321,7 +320,7 @@ fn start<'s, E, S, R, F, G>(
     mut threads: Vec<SessionThread>,
 ) -> Result<Vec<SessionThread>, AllocError>
 where
-    S: Sizes + Send,
+    S: Sizes<F> + Send,
     R: Threads + Wait + Sync,
     F: CleanedStore + Send + Drop,
     G: Gate,

@@ -47,7 +47,7 @@ impl<'a> Session<'a> {
 
 /// Makes the calls of a session, each of a copy of what its script asks, and gives the answers. It ends where a copy finds
 /// no memory.
-pub fn run_session<S: Sizes, R: Wait, F: FileStore + Drop, G: Gate>(
+pub fn run_session<S: Sizes<F>, R: Wait, F: FileStore + Drop, G: Gate>(
     run: &Run<'_, R, G>,
     volume: &Mutex<Kept<S, F>>,
     session: Session<'_>,
@@ -67,7 +67,7 @@ pub fn run_session<S: Sizes, R: Wait, F: FileStore + Drop, G: Gate>(
 }
 
 /// Makes the next calls of a session, and rings for the cleaner behind each that wants it.
-fn make_calls<S: Sizes, R: Wait, F: FileStore + Drop, G: Gate>(
+fn make_calls<S: Sizes<F>, R: Wait, F: FileStore + Drop, G: Gate>(
     run: &Run<'_, R, G>,
     volume: &Mutex<Kept<S, F>>,
     button: &Button,
@@ -83,7 +83,7 @@ fn make_calls<S: Sizes, R: Wait, F: FileStore + Drop, G: Gate>(
 
 /// Makes the next calls of a session in one holding of the lock, between the two halves of the gate, and says whether the
 /// cleaner is wanted.
-fn hold<S: Sizes, R: Wait, F: FileStore + Drop, G: Gate>(
+fn hold<S: Sizes<F>, R: Wait, F: FileStore + Drop, G: Gate>(
     run: &Run<'_, R, G>,
     volume: &Mutex<Kept<S, F>>,
     batch: &mut Batch,

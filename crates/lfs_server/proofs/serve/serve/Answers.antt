@@ -1,8 +1,10 @@
-use Rattle.std.proofs.Common.{◌≡◌, ℕ, ap, rules, subst}
+use Rattle.std.proofs.Common.{◌≡◌, ℕ, ap, rules, subst, sym}
 use Rattle.lfs_types.specs.StoreStates.{Shape, StoreState}
 use Rattle.lfs_logstore.specs.States.{state_of}
+use Rattle.lfs_parts.specs.declared.parts.Parts.{Parts}
+use Rattle.lfs_server.specs.Fresh.{IsFreshLog}
 use Rattle.lfs_server.specs.Unserved.{OnLeft}
-use Rattle.lfs_server.proofs.ServeLemmas.{legal_from_opening, on_ok, serve_faults, layout_fault}
+use Rattle.lfs_server.proofs.ServeLemmas.{legal_from_opening, on_left, on_ok, serve_faults, layout_fault}
 use Rattle.lfs_server.proofs.serve.serve.Goals as goal
 
 pub returns-in_err-check_sessions-clause-fault : goal.returns-in_err-check_sessions-clause-fault
@@ -26,6 +28,17 @@ returns-clause-legal g c =
     let over = c.serve_over.ensures in
     legal_from_opening state_of (λ closed. closed.volume) c.serve_over.result c.in_ok-volume.volume
     c.in_ok-volume.ensures.begins over.since over.since_level over.legal
+
+-- the journal began over the store that was laid out
+pub returns-clause-fresh : goal.returns-clause-fresh
+returns-clause-fresh g c =
+    let p = c.args.params in
+    let laid_out : IsFreshLog p.segments p.inodes p.frames c.in_ok-volume.volume.since =
+    subst (λ (store : Parts). IsFreshLog p.segments p.inodes p.frames store) (sym c.in_ok-volume.ensures.since)
+    c.in_ok-volume.ensures.fresh.2 in
+    on_left c.serve_over.result
+    (λ closed same. subst (λ (store : Parts). IsFreshLog p.segments p.inodes p.frames store) (sym same) laid_out)
+    c.serve_over.ensures.since
 
 pub returns-clause-limit : goal.returns-clause-limit
 returns-clause-limit g c =
