@@ -26,7 +26,8 @@ use Rattle.lfs_server.proofs.live_server.Told.TheSendSync as told
 use Rattle.lfs_server.proofs.run.Run.TheSendSync as run
 
 -- a volume of these sizes, where its store may
-kept_send : (S F : RattleType) (s : Sizes S.Denot F.Denot) (g : Ghosts F.Denot) → IsSend S → IsSend F → IsSend (the_row S F s g)
+kept_send : (S F : RattleType) (s : Sizes S.Denot F.Denot) (g : Ghosts F.Denot) → IsSend S → IsSend F
+    → IsSend (the_row S F s g)
 kept_send S F s g a b =
     let T = the_type S F s g in
     let all : AllSend (declared.fields T) = (volume_send F g b, (search (sendable, crosses), tt)) in
@@ -51,8 +52,8 @@ send_at : (R : RattleType) → IsSend R → (x : R.Denot) → SendAt R x
 send_at R goes x = (goes.owned x, λ k. goes.leaving k x)
 
 -- a server of a client may go to a thread
-pub server_send : (a : NamedLft) (S R F G : RattleType) (s : Sizes S.Denot F.Denot) (g : Ghosts F.Denot) → IsSend S → IsSync R
-    → IsSend F → IsSync G → IsSend (server.the_row a S R F G s g)
+pub server_send : (a : NamedLft) (S R F G : RattleType) (s : Sizes S.Denot F.Denot) (g : Ghosts F.Denot) → IsSend S
+    → IsSync R → IsSend F → IsSync G → IsSend (server.the_row a S R F G s g)
 server_send a S R F G s g send_S sync_R send_F sync_G =
     let T = server.the_type a S R F G s g in
     let runs : IsSync (run_row a R G) = search (sendable, run.the_sync, sync_R, sync_G) in

@@ -13,8 +13,8 @@ use lfs_types::store::Params;
 use lfs_volume::volume::Volume;
 use std::alloc::Global;
 
-/// A fresh volume over the log store: the opening tree, and no entries. Its journal begins over the very store that was laid
-/// out.
+/// A fresh volume over the log store: the opening tree, and no entries. Its journal begins over the very store that was
+/// laid out.
 ///
 /// # Errors
 ///

@@ -1,4 +1,4 @@
-//! What no clause says of a run on threads: that its cache has as many frames as were asked for.
+//! What no clause says of a run on threads: that its cache has at the end the frames with which it began.
 
 use super::bell::push;
 use super::{SMALL, plan_of};
