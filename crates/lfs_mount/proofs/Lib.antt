@@ -10,6 +10,7 @@ pub mod ListingLemmas
 pub mod LookedForLemmas
 pub mod LookedLemmas
 pub mod MakingLemmas
+pub mod MovingLemmas
 pub mod PartLemmas
 pub mod RoomLemmas
 pub mod SettleLemmas

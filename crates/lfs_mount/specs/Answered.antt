@@ -22,6 +22,7 @@ use Rattle.lfs_stamps.specs.Times.{dated, stamped}
 use Rattle.lfs_mount.specs.Handled.{IsTold}
 use Rattle.lfs_mount.specs.Keeping.{AreStillKept}
 use Rattle.lfs_mount.specs.Listing.{AreListed}
+use Rattle.lfs_mount.specs.Moving.{NodesBehindOf}
 use Rattle.lfs_opens.specs.Loans.{due, noted, with_handle}
 use Rattle.lfs_opens.specs.Opens.{AreLeft, IsFree, TellsKept}
 use Rattle.lfs_mount.specs.Leaving.{ArePreparedFor, IsLastLook, IsLastMiss, IsLeaving, IsLooked, NoneLeaves, OnKept}
@@ -117,7 +118,8 @@ replied true unique reply out = out ++ told_bytes unique reply
 replied false unique reply out = out
 
 -- One reply to the message of a header, with its own number, or none where none is wanted; its calls were made as the
--- header's caller, with the other groups of the process; and what is kept of removed files is kept still.
+-- header's caller, with the other groups of the process; what is kept of removed files is kept still; and nodes are what
+-- the message, told so, makes of them.
 pub record IsReplied {F : Type 0} (state : F → StoreState) (is_settled : F → Type 0) (sizes : Sizes)
     (now : Time)
     (nodes nodes_after : Parts) (others : List ℕ) (header : Header) (message : Option Said)
@@ -128,8 +130,10 @@ pub record IsReplied {F : Type 0} (state : F → StoreState) (is_settled : F →
   pub heard : IsHeard state is_settled sizes now
       (caller_of header others) nodes nodes_after header.node message reply wanted old new before
       after
-  pub keeps : IfSome message (λ m. AreStillKept now (caller_of header others) nodes header.node m reply
+  pub keeps : IfSome message (λ m.
+      AreStillKept now (caller_of header others) nodes header.node m reply
       before.opens.files.items after.opens.files.items)
+  pub behind : NodesBehindOf message header.node reply nodes nodes_after
   pub written : out_after ≡ replied wanted header.unique reply out_before
 
 -- What comes of bytes: of those without a header nothing, else one reply or none.

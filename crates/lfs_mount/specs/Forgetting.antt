@@ -15,11 +15,14 @@ use Rattle.lfs_fuse_wire.specs.declared.header.Header.{Header}
 -- So many look-ups of a node were forgotten: it has so many fewer, or is dropped where nothing holds it any more. Each
 -- other node that the kernel holds is as it was, and any other is so too, or is dropped.
 pub record IsForgotten (id count : ℕ) (before after : Parts) : Type 0 where
-  pub counted : (n : Node) → known before id ≡ Some n → is_known_held (Some (forgotten count n)) ≡ true
+  pub counted : (n : Node) → known before id ≡ Some n
+      → is_known_held (Some (forgotten count n)) ≡ true
       → known after id ≡ Some (forgotten count n)
-  pub dropped : (n : Node) → known before id ≡ Some n → is_known_held (Some (forgotten count n)) ≡ false
+  pub dropped : (n : Node) → known before id ≡ Some n
+      → is_known_held (Some (forgotten count n)) ≡ false
       → children_in (node_at before.table id) ≡ Some 0 → known after id ≡ None
-  pub held : (q : ℕ) → q ≢ id → is_known_held (known before q) ≡ true → known after q ≡ known before q
+  pub held : (q : ℕ) → q ≢ id → is_known_held (known before q) ≡ true
+      → known after q ≡ known before q
   pub others : (q : ℕ) (n : Node) → q ≢ id → known after q ≡ Some n → known before q ≡ Some n
   pub next : after.next ≡ before.next
 
@@ -32,12 +35,14 @@ IsOneForgotten (Some one) before after = IsForgotten one.node one.lookups before
 unfoldable pub AreForgotten : List ℕ → ℕ → Parts → Parts → Type 0
 AreForgotten bytes zero before after = after ≡ before
 AreForgotten bytes (suc n) before after =
-    (between : Parts) × AreForgotten bytes n before between × IsOneForgotten (node_forgotten_at n bytes) between after
+    (between : Parts) × AreForgotten bytes n before between
+    × IsOneForgotten (node_forgotten_at n bytes) between after
 
 -- what a message has the kernel forget: of the node of its header, or of each node of a batch, in order
 abbrev pub IsForgetting : Said → ℕ → Parts → Parts → Type 0
 IsForgetting (forget fields) node before after = IsForgotten node fields.lookups before after
-IsForgetting (batch_forget bytes) node before after = AreForgotten bytes (length bytes / 16) before after
+IsForgetting (batch_forget bytes) node before after =
+    AreForgotten bytes (length bytes / 16) before after
 IsForgetting message node before after = ⊤
 
 -- a message that has nothing forgotten

@@ -304,7 +304,8 @@ IsReleased state is_settled caller hangs node (Some mode) reply old new =
 
 -- Its names were asked for, as this caller, and the handle that is told keeps those that the answer shows; or the error
 -- of the answer is told.
-pub record IsListed {F : Type 0} (state : F → StoreState) (is_settled : F → Type 0) (caller : Caller)
+pub record IsListed {F : Type 0} (state : F → StoreState) (is_settled : F → Type 0)
+    (caller : Caller)
     (hangs : ℕ → Option Hang) (node : ℕ) (message : Said) (lists listed : Listings) (reply : Told)
     (old new : Seen F) : Type 0 where
   pub answers : List Answer
@@ -313,7 +314,8 @@ pub record IsListed {F : Type 0} (state : F → StoreState) (is_settled : F → 
       (KeepsShown (names_in answers) lists listed reply)
 
 -- no call was made, and no directory opened
-pub record IsUnlisted {F : Type 0} (lists listed : Listings) (reply : Told) (old new : Seen F) : Type 0 where
+pub record IsUnlisted {F : Type 0} (lists listed : Listings) (reply : Told)
+    (old new : Seen F) : Type 0 where
   pub refused : IsRefused reply old new
   pub same : listed ≡ lists
 
@@ -357,57 +359,83 @@ IsRename mode.Other Replaces Seeks reply old new = IsIdle (IsFault errno.EINVAL)
 abbrev pub IsTold : {F : Type 0} → (F → StoreState) → (F → Type 0) → Sizes → Option ℕ → Caller
     → Parts → Parts → Listings → Listings → ℕ
     → Said → Told → Seen F → Seen F → Type 0
-IsTold state is_settled sizes due caller nodes nodes_after lists listed node (lookup name) reply old new =
+IsTold state is_settled sizes due caller nodes nodes_after lists listed node
+    (lookup name) reply old new =
     IsHandled state is_settled caller nodes nodes_after node (lookup name) reply old new
-IsTold state is_settled sizes due caller nodes nodes_after lists listed node (getattr fields) reply old new =
+IsTold state is_settled sizes due caller nodes nodes_after lists listed node
+    (getattr fields) reply old new =
     IsHandled state is_settled caller nodes nodes_after node (getattr fields) reply old new
-IsTold state is_settled sizes due caller nodes nodes_after lists listed node (access wanted) reply old new =
+IsTold state is_settled sizes due caller nodes nodes_after lists listed node
+    (access wanted) reply old new =
     IsHandled state is_settled caller nodes nodes_after node (access wanted) reply old new
-IsTold state is_settled sizes due caller nodes nodes_after lists listed node (mknod fields name) reply old new =
+IsTold state is_settled sizes due caller nodes nodes_after lists listed node
+    (mknod fields name) reply old new =
     IsMade fields.kind (IsHandled state is_settled caller nodes nodes_after node
     (mknod fields name) reply old new) reply old new
-IsTold state is_settled sizes due caller nodes nodes_after lists listed node (mkdir fields name) reply old new =
+IsTold state is_settled sizes due caller nodes nodes_after lists listed node
+    (mkdir fields name) reply old new =
     IsHandled state is_settled caller nodes nodes_after node (mkdir fields name) reply old new
-IsTold state is_settled sizes due caller nodes nodes_after lists listed node (create fields name) reply old new =
+IsTold state is_settled sizes due caller nodes nodes_after lists listed node
+    (create fields name) reply old new =
     IsHandled state is_settled caller nodes nodes_after node (create fields name) reply old new
-IsTold state is_settled sizes due caller nodes nodes_after lists listed node (unlink name) reply old new =
+IsTold state is_settled sizes due caller nodes nodes_after lists listed node
+    (unlink name) reply old new =
     IsHandled state is_settled caller nodes nodes_after node (unlink name) reply old new
-IsTold state is_settled sizes due caller nodes nodes_after lists listed node (rmdir name) reply old new =
+IsTold state is_settled sizes due caller nodes nodes_after lists listed node
+    (rmdir name) reply old new =
     IsHandled state is_settled caller nodes nodes_after node (rmdir name) reply old new
-IsTold state is_settled sizes due caller nodes nodes_after lists listed node (opening fields) reply old new =
+IsTold state is_settled sizes due caller nodes nodes_after lists listed node
+    (opening fields) reply old new =
     IsHandled state is_settled caller nodes nodes_after node (opening fields) reply old new
-IsTold state is_settled sizes due caller nodes nodes_after lists listed node (read fields) reply old new =
+IsTold state is_settled sizes due caller nodes nodes_after lists listed node
+    (read fields) reply old new =
     IsHandled state is_settled caller nodes nodes_after node (read fields) reply old new
-IsTold state is_settled sizes due caller nodes nodes_after lists listed node (write fields bytes) reply old new =
+IsTold state is_settled sizes due caller nodes nodes_after lists listed node
+    (write fields bytes) reply old new =
     IsHandled state is_settled caller nodes nodes_after node (write fields bytes) reply old new
-IsTold state is_settled sizes due caller nodes nodes_after lists listed node (opendir fields) reply old new =
-    IsDirectoryOpened state is_settled caller (hangs_in nodes) node fields lists listed reply old new
-IsTold state is_settled sizes due caller nodes nodes_after lists listed node (setattr fields) reply old new =
+IsTold state is_settled sizes due caller nodes nodes_after lists listed node
+    (opendir fields) reply old new =
+    IsDirectoryOpened state is_settled caller
+    (hangs_in nodes) node fields lists listed reply old new
+IsTold state is_settled sizes due caller nodes nodes_after lists listed node
+    (setattr fields) reply old new =
     IsSetAttr state is_settled caller (hangs_in nodes) node fields reply old new
-IsTold state is_settled sizes due caller nodes nodes_after lists listed node (ioctl fields) reply old new =
+IsTold state is_settled sizes due caller nodes nodes_after lists listed node
+    (ioctl fields) reply old new =
     IsFlagged state is_settled caller (hangs_in nodes) node fields reply old new
-IsTold state is_settled sizes due caller nodes nodes_after lists listed node (rename fields name new_name) reply old new =
-    IsRename fields.mode (IsRenamed state is_settled caller (hangs_in nodes) node name fields.directory
-    new_name reply old new)
-    (IsRenamedToFree state is_settled caller (hangs_in nodes) node name fields.directory new_name reply old
-    new) reply old new
-IsTold state is_settled sizes due caller nodes nodes_after lists listed node (fsync fields) reply old new =
+IsTold state is_settled sizes due caller nodes nodes_after lists listed node
+    (rename fields name new_name) reply old new =
+    IsRename fields.mode
+    (IsRenamed state is_settled caller (hangs_in nodes) node name fields.directory new_name reply
+    old new)
+    (IsRenamedToFree state is_settled caller (hangs_in nodes) node name fields.directory new_name
+    reply old new)
+    reply old new
+IsTold state is_settled sizes due caller nodes nodes_after lists listed node
+    (fsync fields) reply old new =
     IsSynced state is_settled caller reply old new
-IsTold state is_settled sizes due caller nodes nodes_after lists listed node (fsyncdir fields) reply old new =
+IsTold state is_settled sizes due caller nodes nodes_after lists listed node
+    (fsyncdir fields) reply old new =
     IsSynced state is_settled caller reply old new
-IsTold state is_settled sizes due caller nodes nodes_after lists listed node (init fields) reply old new =
+IsTold state is_settled sizes due caller nodes nodes_after lists listed node
+    (init fields) reply old new =
     IsIdle (λ it. it ≡ told.Init (init_told fields)) reply old new
 IsTold state is_settled sizes due caller nodes nodes_after lists listed node statfs reply old new =
     IsIdle (IsRoom sizes (state old.store)) reply old new
-IsTold state is_settled sizes due caller nodes nodes_after lists listed node (readdir fields) reply old new =
+IsTold state is_settled sizes due caller nodes nodes_after lists listed node
+    (readdir fields) reply old new =
     IsIdle (TellsEntries (names_at lists fields.handle) fields) reply old new
-IsTold state is_settled sizes due caller nodes nodes_after lists listed node (readdirplus fields) reply old new =
+IsTold state is_settled sizes due caller nodes nodes_after lists listed node
+    (readdirplus fields) reply old new =
     IsIdle (IsFault errno.ENOSYS) reply old new
-IsTold state is_settled sizes due caller nodes nodes_after lists listed node (unserved kind) reply old new =
+IsTold state is_settled sizes due caller nodes nodes_after lists listed node
+    (unserved kind) reply old new =
     IsIdle (IsFault (error_of_unserved kind)) reply old new
-IsTold state is_settled sizes due caller nodes nodes_after lists listed node (unknown number) reply old new =
+IsTold state is_settled sizes due caller nodes nodes_after lists listed node
+    (unknown number) reply old new =
     IsIdle (IsFault errno.ENOSYS) reply old new
-IsTold state is_settled sizes due caller nodes nodes_after lists listed node (release fields) reply old new =
+IsTold state is_settled sizes due caller nodes nodes_after lists listed node
+    (release fields) reply old new =
     IsReleased state is_settled caller (hangs_in nodes) node due reply old new
 IsTold state is_settled sizes due caller nodes nodes_after lists listed node message reply old new =
     IsIdle (λ it. it ≡ told.Done) reply old new

@@ -30,11 +30,13 @@ StaysUnless false file after = after ≡ Some file
 
 -- a file is as it was, but for what is kept of it where it is open on a node, if that changes
 abbrev pub ChangesIf : Bool → (Shown → Shown) → ℕ → OpenFile → Option OpenFile → Type 0
-ChangesIf true change node file after = shown_slot after ≡ file_behind change node (Some (shown_file file))
+ChangesIf true change node file after =
+    shown_slot after ≡ file_behind change node (Some (shown_file file))
 ChangesIf false change node file after = shown_slot after ≡ Some (shown_file file)
 
 -- a message that is answered by what is kept of its node's file may change that; any other changes nothing that is kept
-abbrev pub IsStillKept : Time → Caller → ℕ → Said → Told → Option Kept → ℕ → OpenFile → Option OpenFile
+abbrev pub IsStillKept : Time → Caller → ℕ → Said → Told → Option Kept → ℕ → OpenFile
+    → Option OpenFile
     → Type 0
 IsStillKept now caller node message reply (Some own) slot file after =
     ChangesIf (is_rewrite message reply) (kept_behind now caller message) node file after
@@ -48,5 +50,6 @@ abbrev pub AreStillKept : Time → Caller → Parts → ℕ → Said → Told �
 AreStillKept now caller nodes node message reply before after =
     (slot : ℕ) (file : OpenFile) → slice_index_or before slot None ≡ Some file
     → hang_in (known nodes file.node) ≡ Some Gone
-    → IsStillKept now caller node message reply (kept_for nodes message before node caller) slot file
+    → IsStillKept now caller node message reply
+    (kept_for nodes message before node caller) slot file
     (slice_index_or after slot None)

@@ -67,7 +67,8 @@ where_replacing how is_same place = None
 abbrev pub taken_at : ℕ → Said → Option Place
 taken_at node (unlink name) = Some (place_at node name)
 taken_at node (rename fields name new_name) =
-    where_replacing fields.mode (same_place (place_at node name) (place_at fields.directory new_name))
+    where_replacing fields.mode
+    (same_place (place_at node name) (place_at fields.directory new_name))
     (place_at fields.directory new_name)
 taken_at node message = None
 
@@ -82,14 +83,16 @@ IsLeaving nodes node message id = is_taken (taken_at node message) (hang_in (kno
 -- no file is open on a node that a message is about to take from its place
 abbrev pub NoneLeaves : Parts → ℕ → Said → List (Option OpenFile) → Type 0
 NoneLeaves nodes node message files =
-    (slot : ℕ) → IfSome (node_of (slice_index_or files slot None)) (λ id. IsLeaving nodes node message id → ⊥)
+    (slot : ℕ) → IfSome (node_of (slice_index_or files slot None))
+    (λ id. IsLeaving nodes node message id → ⊥)
 
 -- the bytes of the file of a path
 abbrev pub bytes_at : World → List (List ℕ) → List ℕ
 bytes_at w path = (file_at (map.get w.rows (reached w.rows root path))).bytes
 
 -- the rules allow a caller to read the file of a path, and these are its bytes
-pub record IsReadBy (w : World) (caller : Caller) (path : List (List ℕ)) (shown : List ℕ) : Type 0 where
+pub record IsReadBy (w : World) (caller : Caller) (path : List (List ℕ))
+    (shown : List ℕ) : Type 0 where
   pub allowed : decide w caller (Read path 0 0) ≡ None
   pub all : shown ≡ bytes_at w path
 
@@ -121,10 +124,12 @@ IsAnswerOf why answer = ⊥
 
 -- Why somebody sees nothing of the file of a path: the rules don't let him read it now, it has more bytes than there is
 -- room for, or memory is wanting.
-abbrev pub IsUnseen : {F : Type 0} → (F → StoreState) → Seen F → List (List ℕ) → ℕ → Caller → Lack → Type 0
+abbrev pub IsUnseen : {F : Type 0} → (F → StoreState) → Seen F → List (List ℕ) → ℕ → Caller → Lack
+    → Type 0
 IsUnseen state old path room caller lack.Denied =
     AtPresent state old (λ w. decide w caller (Read path 0 0) ≢ None)
-IsUnseen state old path room caller lack.Room = AtPresent state old (λ w. room < length (bytes_at w path))
+IsUnseen state old path room caller lack.Room =
+    AtPresent state old (λ w. room < length (bytes_at w path))
 IsUnseen state old path room caller lack.Absent = ⊥
 IsUnseen state old path room caller lack.Memory = ⊤
 
@@ -140,7 +145,8 @@ pub record IsSight {F : Type 0} (state : F → StoreState) (times : List Stamps)
 -- the store shows no file of a node's inode number
 abbrev pub IsAbsent : {F : Type 0} → (F → StoreState) → Parts → Seen F → ℕ → Type 0
 IsAbsent state nodes old node =
-    IfSome (number_in (known nodes node)) (λ number. shown_attrs (state old.store).content number ≡ None)
+    IfSome (number_in (known nodes node))
+    (λ number. shown_attrs (state old.store).content number ≡ None)
 
 -- where a node's file is to be looked at, or why it can't be: the store shows none, or memory for its path is wanting
 abbrev pub IsSightOr : {F : Type 0} → (F → StoreState) → List Stamps → Parts → Seen F → ℕ
@@ -151,11 +157,13 @@ IsSightOr state times nodes old node (Err lack.Memory) = ⊤
 IsSightOr state times nodes old node (Err why) = ⊥
 
 -- what somebody sees of a file there, or why he sees nothing of it
-abbrev pub IsSeenIn : {F : Type 0} → (F → StoreState) → Seen F → Result Sight Lack → Caller → Kept → Type 0
+abbrev pub IsSeenIn : {F : Type 0} → (F → StoreState) → Seen F → Result Sight Lack → Caller → Kept
+    → Type 0
 IsSeenIn state old (Ok sight) caller kept = IsSeenSo state old sight caller kept
 IsSeenIn state old (Err lacking) caller kept = ⊥
 
-abbrev pub IsUnseenIn : {F : Type 0} → (F → StoreState) → Seen F → Result Sight Lack → ℕ → Caller → Lack
+abbrev pub IsUnseenIn : {F : Type 0} → (F → StoreState) → Seen F → Result Sight Lack → ℕ → Caller
+    → Lack
     → Type 0
 IsUnseenIn state old (Ok sight) room caller why = IsUnseen state old sight.path room caller why
 IsUnseenIn state old (Err lacking) room caller why = why ≡ lacking
@@ -169,7 +177,8 @@ pub record IsLastLook {F : Type 0} (state : F → StoreState) (times : List Stam
   pub looks : IsSeenSo state old sight caller kept
 
 -- a path leads to a node, and somebody sees nothing of its file
-pub record IsMiss {F : Type 0} (state : F → StoreState) (nodes : Parts) (old : Seen F) (node room : ℕ)
+pub record IsMiss {F : Type 0} (state : F → StoreState) (nodes : Parts) (old : Seen F)
+    (node room : ℕ)
     (caller : Caller) (why : Lack) : Type 0 where
   pub path : List (List ℕ)
   pub leads : IsPathOf (hangs_in nodes) node None path
@@ -177,10 +186,12 @@ pub record IsMiss {F : Type 0} (state : F → StoreState) (nodes : Parts) (old :
 
 -- Why nothing is kept of a node's file for somebody: the rules don't let him read it now, it has more bytes than there is
 -- room for, or the store shows no file of its number; or memory is wanting, which no clause sees.
-abbrev pub IsLastMiss : {F : Type 0} → (F → StoreState) → Parts → Seen F → ℕ → ℕ → Caller → Lack → Type 0
+abbrev pub IsLastMiss : {F : Type 0} → (F → StoreState) → Parts → Seen F → ℕ → ℕ → Caller → Lack
+    → Type 0
 IsLastMiss state nodes old node room caller lack.Denied =
     IsMiss state nodes old node room caller lack.Denied
-IsLastMiss state nodes old node room caller lack.Room = IsMiss state nodes old node room caller lack.Room
+IsLastMiss state nodes old node room caller lack.Room =
+    IsMiss state nodes old node room caller lack.Room
 IsLastMiss state nodes old node room caller lack.Absent = IsAbsent state nodes old node
 IsLastMiss state nodes old node room caller lack.Memory = ⊤
 

@@ -7,6 +7,7 @@ pub mod Keeping
 pub mod Leaving
 pub mod Listing
 pub mod Making
+pub mod Moving
 pub mod Room
 pub mod Runs
 pub mod Tending

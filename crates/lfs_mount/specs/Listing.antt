@@ -103,7 +103,8 @@ listing_of names place most = listed_on most place (drop place (all_names names)
 
 -- what a listing of an open directory tells, or that memory for it is wanting; and that a directory isn't open
 abbrev pub TellsEntries : Option (List (List ℕ)) → Read → Told → Type 0
-TellsEntries (Some names) wanted (told.Bytes bytes) = bytes.items ≡ listing_of names wanted.offset wanted.size
+TellsEntries (Some names) wanted (told.Bytes bytes) = bytes.items
+    ≡ listing_of names wanted.offset wanted.size
 TellsEntries (Some names) wanted (told.Error errno.ENOMEM) = ⊤
 TellsEntries (Some names) wanted reply = ⊥
 TellsEntries None wanted reply = reply ≡ told.Error errno.EBADF

@@ -1,6 +1,6 @@
 //! One message, and its reply.
 
-ghost use Rattle.std.specs.Prelude.{◌≡◌, IsSome, IsSomeAnd, None, OnOk, min};
+ghost use Rattle.std.specs.Prelude.{◌≡◌, IfSome, IsSome, IsSomeAnd, None, OnOk, min};
 ghost use Rattle.lfs_types.specs.Stored.{slice_of};
 ghost use Rattle.lfs_fuse_calls.specs.Telling.{TellsBytes};
 ghost use Rattle.lfs_fuse_wire.specs.Header.{header_in};
@@ -23,6 +23,7 @@ ghost use Rattle.lfs_mount.specs.Forgetting.{
   IsForgettingOf,
 };
 ghost use Rattle.lfs_mount.specs.Leaving.{OnKept, kept_for};
+ghost use Rattle.lfs_mount.specs.Moving.{NodesBehind, NodesBehindIn, NodesBehindOf};
 ghost use Rattle.lfs_mount.specs.Runs.{GoesOn};
 ghost use Rattle.lfs_mount.specs.Trees.{StayTrue};
 
@@ -83,6 +84,8 @@ impl<F: FileStore + Drop> Mount<F> {
             (result ≡ None) }
         ensures none { result ≡ None → self.new ≡ self.old }
         ensures plain { IsSome result → ForgetsNothing (view message.now) }
+        ensures behind { IfSome result (λ told. NodesBehind (view message.now) node told
+            self.old.tree.nodes self.new.tree.nodes) }
         ensures tree { self.new.tree ≡ self.old.tree }
         ensures sizes { self.new.sizes ≡ self.old.sizes }
     {
@@ -135,6 +138,8 @@ impl<F: FileStore + Drop> Mount<F> {
             self.old.beside self.new.beside }
         ensures forgets { IsForgetting (view message.now) node
             self.old.tree.nodes self.new.tree.nodes }
+        ensures behind { NodesBehind (view message.now) node result
+            self.old.tree.nodes self.new.tree.nodes }
         ensures stay { StayTrue F.state self.old.tree.volume self.old.tree.nodes
             self.new.tree.volume self.new.tree.nodes }
         ensures ids { IdsStay self.old.tree.nodes self.new.tree.nodes }
@@ -162,6 +167,8 @@ impl<F: FileStore + Drop> Mount<F> {
             (view message.now) result self.old.tree.volume self.new.tree.volume
             self.old.beside self.new.beside }
         ensures forgets { IsForgetting (view message.now) node
+            self.old.tree.nodes self.new.tree.nodes }
+        ensures behind { NodesBehind (view message.now) node result
             self.old.tree.nodes self.new.tree.nodes }
         ensures stay { StayTrue F.state self.old.tree.volume self.old.tree.nodes
             self.new.tree.volume self.new.tree.nodes }
@@ -216,6 +223,8 @@ impl<F: FileStore + Drop> Mount<F> {
             self.old.beside self.new.beside }
         ensures forgets { IsForgettingOf (said bytes.now) header.now.node
             self.old.tree.nodes self.new.tree.nodes }
+        ensures behind { NodesBehindOf (said bytes.now) header.now.node result.0
+            self.old.tree.nodes self.new.tree.nodes }
         ensures stay { StayTrue F.state self.old.tree.volume self.old.tree.nodes
             self.new.tree.volume self.new.tree.nodes }
         ensures ids { IdsStay self.old.tree.nodes self.new.tree.nodes }
@@ -255,6 +264,8 @@ impl<F: FileStore + Drop> Mount<F> {
             self.old.beside self.new.beside) }
         ensures journal { GoesOn F.state self.old.tree.volume self.new.tree.volume }
         ensures forgets { IsForgettingIn (header_in bytes.now) (said bytes.now)
+            self.old.tree.nodes self.new.tree.nodes }
+        ensures behind { NodesBehindIn (header_in bytes.now) (said bytes.now)
             self.old.tree.nodes self.new.tree.nodes }
         ensures stay { StayTrue F.state self.old.tree.volume self.old.tree.nodes
             self.new.tree.volume self.new.tree.nodes }

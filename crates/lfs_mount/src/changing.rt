@@ -1,11 +1,11 @@
 //! Messages whose calls depend on what a first call shows, and those that speak of two names or of
 //! none.
 
-ghost use Rattle.std.specs.Prelude.{◌≡◌, ◌∷◌, [], ◌<◌, Some, IfOk, IfErr};
+ghost use Rattle.std.specs.Prelude.{◌≡◌, ◌∷◌, [], ◌<◌, Some, IfOk, IfErr, IsSome};
 ghost use Rattle.lfs_fuse_calls.specs.Paths.{IsPathError, LeadsToRow};
 ghost use Rattle.lfs_fuse_calls.specs.Telling.{SaysOr, attr_told, refusal_in, seen_in};
-ghost use Rattle.lfs_nodes.specs.Maps.{room_in};
-ghost use Rattle.lfs_nodes.specs.Nodes.{known};
+ghost use Rattle.lfs_nodes.specs.Maps.{node_at, room_in};
+ghost use Rattle.lfs_nodes.specs.Nodes.{known, place_at};
 ghost use Rattle.lfs_nodes.specs.Staying.{IdsStay};
 ghost use Rattle.lfs_mount.specs.Handled.{
   IsDone,
@@ -22,6 +22,7 @@ ghost use Rattle.lfs_mount.specs.Handled.{
   hangs_in,
 };
 ghost use Rattle.lfs_mount.specs.Making.{AreMade};
+ghost use Rattle.lfs_mount.specs.Moving.{MovesIfDone};
 ghost use Rattle.lfs_mount.specs.Trees.{MovesRow, StayTrue, UnlessRefused};
 
 use crate::making::make;
@@ -255,6 +256,9 @@ impl<F: FileStore + Drop> Tree<F> {
         ensures nodes { UnlessRefused (refusal_in answers.now)
             (MovesRow from names.name to names.new_name self.old.nodes self.new.nodes)
             self.old.nodes self.new.nodes }
+        ensures moves { IsSome (node_at self.old.nodes.table to) → MovesIfDone result
+            (place_at from names.name) (place_at to names.new_name)
+            self.old.nodes self.new.nodes }
         ensures ids { IdsStay self.old.nodes self.new.nodes }
         ensures volume { self.new.volume ≡ self.old.volume }
     {
@@ -285,6 +289,9 @@ impl<F: FileStore + Drop> Tree<F> {
         ensures stay { LeadsToRow (known self.old.nodes) spots.0 (Some names.name) paths.0
             → LeadsToRow (known self.old.nodes) spots.1 (Some names.new_name) paths.1
             → StayTrue F.state self.old.volume self.old.nodes self.new.volume self.new.nodes }
+        ensures moves { IsSome (node_at self.old.nodes.table spots.1) → MovesIfDone result
+            (place_at spots.0 names.name) (place_at spots.1 names.new_name)
+            self.old.nodes self.new.nodes }
         ensures ids { IdsStay self.old.nodes self.new.nodes }
     {
         if self.nodes.make_room().is_err() {
@@ -310,6 +317,9 @@ impl<F: FileStore + Drop> Tree<F> {
             to.now.node to.now.name.now result self.old.volume self.new.volume }
         ensures stay { StayTrue F.state self.old.volume self.old.nodes self.new.volume
             self.new.nodes }
+        ensures moves { MovesIfDone result
+            (place_at from.now.node from.now.name.now) (place_at to.now.node to.now.name.now)
+            self.old.nodes self.new.nodes }
         ensures ids { IdsStay self.old.nodes self.new.nodes }
     {
         let names = match names_of(alloc, from, to) {
@@ -340,6 +350,9 @@ impl<F: FileStore + Drop> Tree<F> {
             to.now.node to.now.name.now result self.old.volume self.new.volume }
         ensures stay { StayTrue F.state self.old.volume self.old.nodes self.new.volume
             self.new.nodes }
+        ensures moves { MovesIfDone result
+            (place_at from.now.node from.now.name.now) (place_at to.now.node to.now.name.now)
+            self.old.nodes self.new.nodes }
         ensures ids { IdsStay self.old.nodes self.new.nodes }
     {
         let path = match path_of(alloc, &self.nodes, to.node, Some(to.name)) {

@@ -3,7 +3,7 @@
 ghost use Rattle.std.specs.Prelude.{◌≡◌, ◌/◌, length};
 ghost use Rattle.lfs_fuse_wire.specs.Views.{view};
 ghost use Rattle.lfs_model.specs.World.{Rows};
-ghost use Rattle.lfs_nodes.specs.Nodes.{AreNodes, known};
+ghost use Rattle.lfs_nodes.specs.Nodes.{AreNodes, known, place_at};
 ghost use Rattle.lfs_nodes.specs.Staying.{IdsStay};
 ghost use Rattle.lfs_mount.specs.Forgetting.{AreForgotten, IsForgetting, IsOneForgotten};
 ghost use Rattle.lfs_mount.specs.Handled.{
@@ -18,6 +18,7 @@ ghost use Rattle.lfs_mount.specs.Handled.{
   hangs_in,
 };
 ghost use Rattle.lfs_mount.specs.Listing.{AreListed};
+ghost use Rattle.lfs_mount.specs.Moving.{MovesIfDone, NodesBehind, UnlessRegular};
 ghost use Rattle.lfs_mount.specs.Trees.{StayTrue};
 
 use crate::changing::Spot;
@@ -99,6 +100,9 @@ impl<F: FileStore + Drop> Tree<F> {
             result self.old.volume self.new.volume }
         ensures stay { StayTrue F.state self.old.volume self.old.nodes self.new.volume
             self.new.nodes }
+        ensures moves { MovesIfDone result
+            (place_at from.now.node from.now.name.now) (place_at to.now.node to.now.name.now)
+            self.old.nodes self.new.nodes }
         ensures ids { IdsStay self.old.nodes self.new.nodes }
     {
         match mode {
@@ -122,6 +126,7 @@ impl<F: FileStore + Drop> Tree<F> {
             result self.old.volume self.new.volume) result self.old.volume self.new.volume }
         ensures stay { StayTrue F.state self.old.volume self.old.nodes self.new.volume
             self.new.nodes }
+        ensures left { UnlessRegular kind self.old.nodes self.new.nodes }
         ensures ids { IdsStay self.old.nodes self.new.nodes }
     {
         match kind {
@@ -170,6 +175,7 @@ impl<F: FileStore + Drop> Tree<F> {
             result self.old.volume self.new.volume }
         ensures listed { AreListed (view message.now) listings.old listings.new }
         ensures forgets { IsForgetting (view message.now) node self.old.nodes self.new.nodes }
+        ensures behind { NodesBehind (view message.now) node result self.old.nodes self.new.nodes }
         ensures stay { StayTrue F.state self.old.volume self.old.nodes self.new.volume
             self.new.nodes }
         ensures ids { IdsStay self.old.nodes self.new.nodes }

@@ -4,6 +4,7 @@ use Rattle.lfs_fuse_wire.specs.Header.{header_in}
 use Rattle.lfs_fuse_wire.specs.Said.{said}
 use Rattle.lfs_mount.specs.Answered.{IsAnsweredOf, IsHeard}
 use Rattle.lfs_mount.specs.Keeping.{AreStillKept}
+use Rattle.lfs_mount.specs.Moving.{NodesBehindIn}
 use Rattle.lfs_mount.proofs.KeepingLemmas.{heard_keeps}
 use Rattle.lfs_mount.proofs.mount.Mount.answer.Goals as goal
 
@@ -35,5 +36,13 @@ returns-clause-answered g c =
           before.opens.files.items after.opens.files.items)) c.caller-cred.ensures
           (heard_keeps state settled sizes now who nodes nodes_after header.node heard.0 old new before after (said bytes) heard.1
           c.heard-told.ensures.heard);
+      behind = c.heard-told.ensures.behind;
       written = c.in_ok-append_if.ensures;
     })
+
+pub returns-clause-behind : goal.returns-clause-behind
+returns-clause-behind g c =
+    let header = c.in-Some.header in
+    let found : header_in c.args.bytes.now ≡ Some header = sym c.decode.ensures ∙ c.in-Some.is in
+    subst (λ h. NodesBehindIn h (said c.args.bytes.now) c.args.self.now.tree.nodes c.heard-told.new.self.tree.nodes)
+    (sym found) (c.heard-told.result.0, c.heard-told.ensures.behind)

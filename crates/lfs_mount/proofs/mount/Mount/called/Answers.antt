@@ -1,4 +1,4 @@
-use Rattle.std.proofs.Common.{◌≡◌, ℕ, Option, ◌∙◌, ap, subst}
+use Rattle.std.proofs.Common.{◌≡◌, ℕ, Option, ◌∙◌, ap, subst, sym}
 use Rattle.lfs_fuse_wire.specs.Views.{view}
 use Rattle.lfs_stamps.specs.Change.{change_of, other_node}
 use Rattle.lfs_stamps.specs.Times.{dated, stamped}
@@ -11,11 +11,13 @@ use Rattle.lfs_mount.specs.Forgetting.{IsForgetting}
 use Rattle.lfs_mount.specs.Handled.{IsTold}
 use Rattle.lfs_mount.specs.Listing.{AreListed}
 use Rattle.lfs_mount.specs.declared.listing.Listings.{Listings}
+use Rattle.lfs_mount.specs.Moving.{NodesBehind}
 use Rattle.lfs_opens.specs.Loans.{due, noted}
 use Rattle.lfs_mount.specs.Trees.{StayTrue}
 use Rattle.lfs_opens.specs.declared.loans.Loans.{Loans}
 use Rattle.lfs_mount.specs.declared.mount.Sizes.{Sizes}
 use Rattle.lfs_mount.proofs.LookedLemmas.{look_then_stays}
+use Rattle.lfs_mount.proofs.MovingLemmas.{shown_behind}
 use Rattle.lfs_mount.proofs.mount.Mount.called.Goals as goal
 
 pub returns-clause-told : goal.returns-clause-told
@@ -91,3 +93,17 @@ pub returns-clause-forgets : goal.returns-clause-forgets
 returns-clause-forgets g c =
     subst (λ (n : Parts). IsForgetting (view c.args.message.now) c.args.node n c.told-told.new.self.nodes)
     c.prepare-left.ensures.nodes c.told-told.ensures.forgets
+
+pub returns-clause-behind : goal.returns-clause-behind
+returns-clause-behind g c =
+    let said = view c.args.message.now in
+    let node = c.args.node in
+    let told = c.told-told.result in
+    let before = c.args.self.now.tree.nodes in
+    let after = c.told-told.new.self.nodes in
+    let times = c.stamp.new.self.stamps.items in
+    let slot = c.note-slot.result in
+    subst (λ (t : Told). NodesBehind said node t before after)
+    (sym (c.dated.ensures ∙ ap (λ (t : Told). dated times t) c.with_handle.ensures))
+    (shown_behind times slot node told before after said
+    (subst (λ (n : Parts). NodesBehind said node told n after) c.prepare-left.ensures.nodes c.told-told.ensures.behind))

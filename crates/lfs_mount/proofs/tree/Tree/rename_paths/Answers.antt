@@ -1,8 +1,12 @@
 use Rattle.std.proofs.Common.{◌≡◌, ℕ, sym, ap, subst, ◌∙◌}
+use Rattle.std.specs.Prelude.{IsSome}
 use Rattle.lfs_nodes.specs.declared.parts.Parts.{Parts}
-use Rattle.lfs_nodes.specs.Nodes.{known}
+use Rattle.lfs_nodes.specs.Maps.{node_at}
+use Rattle.lfs_nodes.specs.Nodes.{known, place_at}
 use Rattle.lfs_fuse_calls.specs.Telling.{refusal_in}
+use Rattle.lfs_mount.specs.Moving.{MovesIfDone, StandStill}
 use Rattle.lfs_mount.specs.Trees.{MovesRow, StayTrue, UnlessRefused}
+use Rattle.lfs_mount.proofs.MovingLemmas.{moves_from, there_still}
 use Rattle.lfs_mount.proofs.StayLemmas.{known_stay, renamed_stay}
 use Rattle.lfs_mount.proofs.tree.Tree.rename_paths.Goals as goal
 
@@ -40,3 +44,27 @@ returns-in-Err-clause-stay g c leads leads_to =
     λ q. ap (λ (n : Parts). known n q) c.one.ensures.nodes ∙ c.make_room.ensures.same q in
     subst (λ v. StayTrue state volume before v between) (sym c.in-Err.ensures.none)
     (known_stay state g.F.FileStore.is_settled volume before between same)
+
+pub returns-then-is_err-clause-moves : goal.returns-then-is_err-clause-moves
+returns-then-is_err-clause-moves g c there =
+    record { nodes = c.make_room.ensures.same; next = c.make_room.ensures.next }
+
+pub returns-in-Ok-clause-moves : goal.returns-in-Ok-clause-moves
+returns-in-Ok-clause-moves g c there =
+    let before = c.args.self.now.nodes in
+    let room = c.make_room.new.self in
+    let names = c.args.names in
+    let spots = c.args.spots in
+    let from = place_at spots.0 names.name in
+    let to = place_at spots.1 names.new_name in
+    let after = c.moved.new.self.nodes in
+    moves_from before room c.make_room.ensures.same c.make_room.ensures.index c.make_room.ensures.next
+    c.moved.result from to after
+    (subst (λ (n : Parts). IsSome (node_at n.table spots.1) → MovesIfDone c.moved.result from to n after)
+    c.one.ensures.nodes c.moved.ensures.moves
+    (there_still before room spots.1 (c.make_room.ensures.same spots.1) there))
+
+pub returns-in-Err-clause-moves : goal.returns-in-Err-clause-moves
+returns-in-Err-clause-moves g c there =
+    subst (λ (n : Parts). StandStill c.args.self.now.nodes n) (sym c.one.ensures.nodes)
+    (record { nodes = c.make_room.ensures.same; next = c.make_room.ensures.next })

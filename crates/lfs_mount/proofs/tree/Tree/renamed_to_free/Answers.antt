@@ -1,10 +1,14 @@
 use Rattle.std.proofs.Common.{◌≡◌, inl, IfOk, List, ℕ, true, false, None, Some, refl, sym, ap, subst, ◌∙◌}
+use Rattle.lfs_nodes.specs.declared.parts.Parts.{Parts}
+use Rattle.lfs_nodes.specs.Nodes.{place_at}
 use Rattle.lfs_fuse_reply.specs.declared.errno.Errno.TheVariants.{EEXIST}
 use Rattle.lfs_fuse_calls.specs.Paths.{IsPathOf}
 use Rattle.lfs_fuse_calls.specs.Telling.{refusal_in}
 use Rattle.lfs_fuse_calls.specs.declared.told.Told.TheVariants.{Error}
 use Rattle.lfs_mount.specs.Handled.{IsRenamed, hangs_in, is_missing}
+use Rattle.lfs_mount.specs.Moving.{MovesIfDone}
 use Rattle.lfs_mount.proofs.HandledLemmas.{sought_free, sought_refused, sought_there}
+use Rattle.lfs_mount.proofs.MovingLemmas.{stands_same}
 use Rattle.lfs_mount.proofs.StayLemmas.{stat_stay}
 use Rattle.lfs_mount.proofs.tree.Tree.renamed_to_free.Goals as goal
 
@@ -81,3 +85,16 @@ returns-clause-stay g c =
     stat_stay g.F.FileStore.state g.F.FileStore.is_settled c.args.cred.now c.in-Ok.path c.in-Ok-one.answers.items
     c.args.self.now.volume c.one.new.self.volume c.args.self.now.nodes c.one.new.self.nodes c.in-Ok-one.ensures.made
     c.one.ensures.nodes
+
+pub returns-then-is_missing-clause-moves : goal.returns-then-is_missing-clause-moves
+returns-then-is_missing-clause-moves g c =
+    let from = c.args.from.now in
+    let to = c.args.to.now in
+    subst (λ (n : Parts). MovesIfDone c.renamed.result (place_at from.node from.name.now)
+    (place_at to.node to.name.now) n c.renamed.new.self.nodes) c.one.ensures.nodes c.renamed.ensures.moves
+
+pub returns-in-None-clause-moves : goal.returns-in-None-clause-moves
+returns-in-None-clause-moves g c = stands_same c.args.self.now.nodes c.one.new.self.nodes c.one.ensures.nodes
+
+pub returns-clause-moves : goal.returns-clause-moves
+returns-clause-moves g c = stands_same c.args.self.now.nodes c.one.new.self.nodes c.one.ensures.nodes

@@ -1,7 +1,13 @@
-use Rattle.std.proofs.Common.{sym, subst}
+use Rattle.std.proofs.Common.{◌≡◌, Option, sym, ap, subst, ⊎_elim}
 use Rattle.lfs_nodes.specs.declared.parts.Parts.{Parts}
-use Rattle.lfs_mount.specs.Handled.{hangs_in}
+use Rattle.lfs_fuse_wire.specs.Said.{Said}
+use Rattle.lfs_fuse_wire.specs.Views.{view}
+use Rattle.lfs_fuse_calls.specs.declared.telling.Seen.{Seen as Stat}
+use Rattle.lfs_mount.specs.Entries.{NodesFollow}
+use Rattle.lfs_mount.specs.Handled.{IsHandled, hangs_in}
+use Rattle.lfs_mount.specs.Moving.{NodesBehind}
 use Rattle.lfs_mount.specs.Trees.{StayTrue}
+use Rattle.lfs_mount.proofs.MovingLemmas.{handled_left}
 use Rattle.lfs_mount.proofs.StayLemmas.{flagged_stay, listed_stay, released_stay, set_attr_stay, synced_stay}
 use Rattle.lfs_mount.proofs.tree.Tree.told.Goals as goal
 
@@ -54,3 +60,35 @@ returns-in-Opendir-clause-stay g c =
     (listed_stay state g.F.FileStore.is_settled nodes c.args.cred.now (hangs_in nodes) c.args.node c.in-Opendir.fields
     c.args.listings.now c.directory_opened.new.listings c.directory_opened.result volume new
     c.directory_opened.ensures.told)
+
+-- of the messages whose calls are known when they come: those that tell an entry or remove one say themselves what
+-- becomes of nodes, the others leave all
+pub returns-in-Lookup-clause-behind : goal.returns-in-Lookup-clause-behind
+returns-in-Lookup-clause-behind g c =
+    let state = g.F.FileStore.state in
+    let settled = g.F.FileStore.is_settled in
+    let who = c.args.cred.now in
+    let node = c.args.node in
+    let reply = c.once.result in
+    let volume = c.args.self.now.volume in
+    let new = c.once.new.self.volume in
+    let before = c.args.self.now.nodes in
+    let after = c.once.new.self.nodes in
+    let said = view c.args.message.now in
+    let Behind : Said → Type 0 = λ m. NodesBehind m node reply before after in
+    let left : (m : Said) → said ≡ m → ((seen : Option Stat) → NodesFollow m node seen reply before after
+    → after ≡ before) → after ≡ before =
+    λ m is plain. handled_left state settled who before after node m reply volume new plain
+    (subst (λ (it : Said). IsHandled state settled who before after node it reply volume new) is c.once.ensures.told) in
+    let over = λ (m : Said) (is : said ≡ m) (holds : Behind m). subst Behind (sym is) holds in
+    ⊎_elim (λ h. over _ (ap view h.1) tt)
+    (⊎_elim (λ h. over _ (ap view h.1) (left _ (ap view h.1) (λ seen same. same)))
+    (⊎_elim (λ h. over _ (ap view h.1) (left _ (ap view h.1) (λ seen same. same)))
+    (⊎_elim (λ h. over _ (ap view h.2) tt)
+    (⊎_elim (λ h. over _ (ap view h.2) tt)
+    (⊎_elim (λ h. over _ (ap view h.1) tt)
+    (⊎_elim (λ h. over _ (ap view h.1) tt)
+    (⊎_elim (λ h. over _ (ap view h.1) (left _ (ap view h.1) (λ seen same. same)))
+    (⊎_elim (λ h. over _ (ap view h.1) (left _ (ap view h.1) (λ seen same. same)))
+    (λ h. over _ (ap view h.2) (left _ (ap view h.2) (λ seen same. same)))))))))))
+    c.in-Lookup.is
