@@ -13,7 +13,6 @@ pub mod MakingLemmas
 pub mod MovingLemmas
 pub mod PartLemmas
 pub mod RoomLemmas
-pub mod SettleLemmas
 pub mod ShownLemmas
 pub mod StayLemmas
 pub mod TendingLemmas

@@ -5,3 +5,4 @@ pub mod Crossing
 pub mod JournalLemmas
 pub mod OpeningLemmas
 pub mod StepLemmas
+pub mod SyncLemmas

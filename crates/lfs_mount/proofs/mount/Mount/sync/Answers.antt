@@ -1,4 +1,4 @@
-use Rattle.lfs_mount.proofs.SettleLemmas.{sync_shown}
+use Rattle.lfs_volume.proofs.SyncLemmas.{sync_shown}
 use Rattle.lfs_mount.proofs.mount.Mount.sync.Goals as goal
 
 pub returns-in-Served-Done-clause-shown : goal.returns-in-Served-Done-clause-shown

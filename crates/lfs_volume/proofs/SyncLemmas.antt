@@ -1,4 +1,4 @@
--- A Sync leaves the tree, and what is shown of it.
+-- A Sync leaves the tree, and what is shown of it: `sync_shown`, for whoever makes one (lfs_live, lfs_mount).
 use Rattle.std.proofs.Common.{◌≡◌, ℕ, List, ◌++◌, refl, sym, ap, subst, ◌∙◌}
 use Rattle.lfs_types.specs.Caller.{Caller}
 use Rattle.lfs_types.specs.StoreStates.{Follows, Shape, StoreState}
