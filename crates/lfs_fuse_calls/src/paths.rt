@@ -40,6 +40,11 @@ fn error_of_name(fault: BadName) -> Errno
 }
 
 /// The name that these bytes are.
+///
+/// # Errors
+///
+/// `ENOENT` of no bytes, `ENAMETOOLONG` of more than 255, `EINVAL` of bytes that are no name, and
+/// `ENOMEM`.
 pub fn name_of(alloc: Global, bytes: &[u8]) -> Result<Name, Errno>
     ensures name { IfOk result (λ name. name ≡ bytes.now) }
     ensures error { IfErr result IsPathError }
@@ -79,6 +84,11 @@ fn names_of(
 }
 
 /// The path of a node, or of a name in it.
+///
+/// # Errors
+///
+/// `ESTALE` where the node, or one above it, isn't known or is gone; `ENAMETOOLONG` where the path
+/// has more than 1,024 bytes; those of `name_of`; and `ENOMEM`.
 pub fn path_of(alloc: Global, nodes: &Nodes, node: u64, name: Option<&[u8]>) -> Result<Path, Errno>
     ensures path { IfOk result (λ path. IsPathOf (λ q. hang_in (node_at nodes.now.table q)) node
         (option_copied name.entry) path) }
