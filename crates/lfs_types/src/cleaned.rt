@@ -1,16 +1,17 @@
 //! The trait of a file store that a cleaner cleans.
 
 ghost use Rattle.std.specs.Prelude.{◌≡◌, ◌≤◌, length, IfErr, IfOk, OnErr, OnOk};
-ghost use Rattle.lfs_types.specs.Cleaned.{CleanerCalls, IsListingFault, IsMarkingFault, IsReclaimFault, ifile_size, with_clean_segment};
+ghost use Rattle.lfs_types.specs.Cleaned.{CleanerCalls, IsGainFault, IsListingFault, IsMarkingFault, IsReclaimFault, ifile_size, with_clean_segment};
 ghost use Rattle.lfs_types.specs.StoreStates.{Follows};
 
 use crate::cleaner::{BlockInfo, CleanFault, InfoList, MarkList};
 use crate::store::FileStore;
 use std::alloc::AllocError;
 
-/// A file store over a log that a cleaner cleans (4.4BSD's lfs_bmapv(2), lfs_markv(2) and lfs_segclean(2), and two calls
-/// that read what its cleaner reads of the ifile and of a segment's summaries). What a call answers exactly, each store
-/// says by relations of its own; none of these calls changes the content.
+/// A file store over a log that a cleaner cleans (4.4BSD's lfs_bmapv(2), lfs_markv(2) and lfs_segclean(2), two calls
+/// that read what its cleaner reads of the ifile and of a segment's summaries, and, in this project's profile, one for
+/// room where a pass finds none). What a call answers exactly, each store says by relations of its own; none of these
+/// calls changes the content.
 pub trait CleanedStore: FileStore {
     /// What each of the calls may answer, and how it leaves the store.
     ghost cleaner: { CleanerCalls Self };
@@ -47,4 +48,14 @@ pub trait CleanedStore: FileStore {
         ensures refused { OnErr result (self.new ≡ self.old) }
         ensures cleaned { OnOk result (Self.state self.new
             ≡ with_clean_segment (Self.state self.old)) };
+
+    /// Writes what waits, and cleans a segment where that gains room. At most one more is clean then; behind a fault none
+    /// is.
+    fn gain_room(&mut self) -> Result<(), CleanFault>
+        ensures given { cleaner.gains self.old result self.new }
+        ensures fault { IfErr result IsGainFault }
+        ensures content { (Self.state self.new).content ≡ (Self.state self.old).content }
+        ensures gained { OnOk result
+            (Follows (with_clean_segment (Self.state self.old)) (Self.state self.new)) }
+        ensures failed { OnErr result (Follows (Self.state self.old) (Self.state self.new)) };
 }

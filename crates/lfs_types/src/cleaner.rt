@@ -128,10 +128,13 @@ pub enum CleanFault {
     /// There is no room to write blocks again.
     #[error("no space")]
     NoSpace,
+    /// Cleaning any segment takes as much room as it gives back.
+    #[error("no segment is gainful")]
+    NotGainful,
 }
 
-/// A call of the cleaner (4.4BSD's lfs_bmapv(2), lfs_markv(2) and lfs_segclean(2), and two that read what
-/// its cleaner reads of the ifile and of a segment's summaries).
+/// A call of the cleaner (4.4BSD's lfs_bmapv(2), lfs_markv(2) and lfs_segclean(2), two that read what its cleaner reads
+/// of the ifile and of a segment's summaries, and, in this project's profile, one for room where a pass finds none).
 #[derive(Drop, Debug)]
 pub enum CleanerCall {
     /// The bytes of the ifile.
@@ -144,4 +147,6 @@ pub enum CleanerCall {
     Markv(MarkList),
     /// A dirty segment without live bytes becomes clean.
     Segclean(u32),
+    /// A segment is cleaned where that gains room.
+    Gain,
 }
