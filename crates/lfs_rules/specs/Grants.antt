@@ -7,7 +7,7 @@ use Rattle.lfs_types.specs.declared.attrs.Bit.TheVariants.{Read, Write, Search}
 use Rattle.lfs_rules.specs.Bits.{has_bit}
 use Rattle.lfs_rules.specs.Owners.{is_the_superuser, is_the_owner, is_in_group}
 
--- the owner's, the group's and the others' bit
+-- chmod(2): the owner's, the group's and the others' bit
 abbrev pub owner_mask : Bit → ℕ
 owner_mask Read = 0o400
 owner_mask Write = 0o200
@@ -23,8 +23,8 @@ other_mask Read = 0o4
 other_mask Write = 0o2
 other_mask Search = 0o1
 
--- User 0: yes. The owner: the owner's bit alone. Else a member of the group: the group's bit alone. Else the others'
--- bit.
+-- chmod(2), intro(2): one class of bits is asked alone. User 0: yes. The owner: the owner's bit. Else a member of the
+-- group: the group's bit. Else the others' bit.
 abbrev pub grants_of : Caller → Attrs → Bit → Bool
 grants_of caller attrs bit =
     if is_the_superuser caller then true else

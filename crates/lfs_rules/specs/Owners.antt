@@ -21,7 +21,7 @@ is_in_group caller gid = list_any (λ g. g == gid) caller.groups
 abbrev pub is_owner_or_superuser : Caller → Attrs → Bool
 is_owner_or_superuser caller attrs = is_the_superuser caller || is_the_owner caller attrs
 
--- an owner who keeps the owner and sets the present group or one of his groups
+-- chown(2): an owner who keeps the owner and sets the present group or one of his groups
 abbrev pub is_giving_group : Caller → Attrs → ℕ → ℕ → Bool
 is_giving_group caller attrs uid gid =
     is_the_owner caller attrs && (uid == attrs.uid) && ((gid == attrs.gid) || is_in_group caller gid)

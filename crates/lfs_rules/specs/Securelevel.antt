@@ -20,7 +20,7 @@ is_above_zero level = int_lt (pos 0) (level_number level)
 abbrev pub is_lower : Level → Level → Bool
 is_lower new old = int_lt (level_number new) (level_number old)
 
--- whether a caller may lower, set anew or raise the level so: only init lowers it
+-- init(8): whether a caller may lower, set anew or raise the level so: only init lowers it
 abbrev pub may_set_level : Caller → Level → Level → Bool
 may_set_level caller old new = not (is_lower new old && not caller.init)
 
