@@ -2,12 +2,12 @@
 use Rattle.std.specs.Prelude.{◌≡◌, ◌≢◌, ℕ, ◌+◌, ◌*◌, ◌≤◌}
 use Rattle.lfs_types.specs.Caller.{Caller}
 use Rattle.lfs_types.specs.declared.cleaner.CleanFault.{CleanFault}
-use Rattle.lfs_types.specs.declared.cleaner.CleanFault.TheVariants.{NoSuchSegment, Active, NotDirty, Live, NoSpace}
+use Rattle.lfs_types.specs.declared.cleaner.CleanFault.TheVariants.{NoSuchSegment, Active, NotDirty, Live, NoSpace, NotGainful}
 use Rattle.lfs_types.specs.declared.cleaner.TheConstants.{INFO_LIMIT, MARK_LIMIT}
 use Rattle.lfs_model.specs.declared.asking.CleanerAct.{CleanerAct}
 use Rattle.lfs_model.specs.declared.asking.CleanerAct.TheVariants as acts
 use Rattle.lfs_model.specs.declared.journal.CleanerKind.{CleanerKind}
-use Rattle.lfs_model.specs.declared.journal.CleanerKind.TheVariants.{Ifile, Infos, Bmapv, Markv, Segclean}
+use Rattle.lfs_model.specs.declared.journal.CleanerKind.TheVariants.{Ifile, Infos, Bmapv, Markv, Segclean, Gain}
 use Rattle.lfs_model.specs.declared.journal.CleanerOutcome.{CleanerOutcome}
 use Rattle.lfs_model.specs.declared.journal.CleanerOutcome.TheVariants.{Denied, Fault, Done}
 
@@ -18,6 +18,7 @@ kind_of (acts.Infos segment) = Infos
 kind_of (acts.Bmapv infos) = Bmapv
 kind_of (acts.Markv marks) = Markv
 kind_of (acts.Segclean segment) = Segclean
+kind_of acts.Gain = Gain
 
 -- how many bytes an ifile has: a header, and an entry for each segment and for each inode number
 abbrev pub ifile_size : ℕ → ℕ → ℕ
@@ -33,6 +34,7 @@ MayFault Segclean NoSuchSegment = Unit {0}
 MayFault Segclean Active = Unit {0}
 MayFault Segclean NotDirty = Unit {0}
 MayFault Segclean (Live bytes) = Unit {0}
+MayFault Gain NotGainful = Unit {0}
 MayFault kind fault = ⊥
 
 -- how much each call may have done: bytes of the ifile, infos, blocks written again
@@ -42,6 +44,7 @@ MayDo numbers segments Infos n = n ≤ INFO_LIMIT
 MayDo numbers segments Bmapv n = n ≤ INFO_LIMIT
 MayDo numbers segments Markv n = n ≤ MARK_LIMIT
 MayDo numbers segments Segclean n = n ≡ 0
+MayDo numbers segments Gain n = n ≡ 0
 
 -- a cleaner's call of this caller may come to this: it is denied exactly where the caller isn't the superuser
 abbrev pub IsCleaning : ℕ → ℕ → Caller → CleanerKind → CleanerOutcome → Type 0

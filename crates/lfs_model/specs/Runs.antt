@@ -9,7 +9,7 @@ use Rattle.lfs_types.specs.declared.cleaner.CleanerCall.TheVariants as calls
 use Rattle.lfs_types.specs.declared.request.Request.{Request}
 use Rattle.lfs_types.specs.declared.request.Request.TheVariants.{Sync}
 use Rattle.lfs_model.specs.declared.asking.CleanerAct.{CleanerAct}
-use Rattle.lfs_model.specs.declared.asking.CleanerAct.TheVariants.{Ifile, Infos, Bmapv, Markv, Segclean}
+use Rattle.lfs_model.specs.declared.asking.CleanerAct.TheVariants.{Ifile, Infos, Bmapv, Markv, Segclean, Gain}
 use Rattle.lfs_model.specs.declared.journal.Call.{Call}
 use Rattle.lfs_model.specs.declared.journal.Entry.{Entry}
 use Rattle.lfs_model.specs.declared.journal.CleanerAnswer.{CleanerAnswer}
@@ -37,6 +37,7 @@ act_of (calls.Infos segment) = Infos segment
 act_of (calls.Bmapv infos) = Bmapv infos
 act_of (calls.Markv marks) = Markv marks
 act_of (calls.Segclean segment) = Segclean segment
+act_of calls.Gain = Gain
 
 -- what the journal tells of a cleaner's answer: nothing where memory or the journal's room ran out
 abbrev pub outcome_of : CleanerAnswer → Option CleanerOutcome
@@ -48,6 +49,7 @@ outcome_of (cleaner.Infos infos) = Some (outcomes.Done (length infos))
 outcome_of (cleaner.Bmapv infos) = Some (outcomes.Done (length infos))
 outcome_of (cleaner.Marked count) = Some (outcomes.Done count)
 outcome_of cleaner.Cleaned = Some (outcomes.Done 0)
+outcome_of cleaner.Gained = Some (outcomes.Done 0)
 
 -- the event of a cleaner's call that was answered so
 abbrev pub cleaner_event : CleanerCall → CleanerAnswer → Option Event
@@ -111,12 +113,13 @@ users_alone (entry ∷ entries) = journaled entry.session entry.cred (users_even
 
 -- ---- clean segments
 
--- how many segments an event makes clean
+-- how many segments an event makes clean at most
 abbrev pub cleans : Event → ℕ
 cleans (Cleaner (Segclean segment) (outcomes.Done n)) = 1
+cleans (Cleaner Gain (outcomes.Done n)) = 1
 cleans event = 0
 
--- how many segments became clean by the entries
+-- how many segments became clean by the entries at most
 abbrev pub cleaned : List Entry → ℕ
 cleaned [] = 0
 cleaned (entry ∷ entries) = cleans entry.event + cleaned entries

@@ -79,6 +79,8 @@ pub enum CleanerAct {
     Markv(KeptInfos<MARK_LIMIT>),
     /// A dirty segment without live bytes to become clean: its number, from 0.
     Segclean(u32),
+    /// A segment to be cleaned where that gains room.
+    Gain,
 }
 
 impl CleanerAct {
@@ -93,6 +95,7 @@ impl CleanerAct {
             CleanerCall::Bmapv(infos) => CleanerAct::Bmapv(KeptInfos::of(alloc, infos)?),
             CleanerCall::Markv(marks) => CleanerAct::Markv(KeptInfos::of(alloc, marks)?),
             CleanerCall::Segclean(segment) => CleanerAct::Segclean(*segment),
+            CleanerCall::Gain => CleanerAct::Gain,
         })
     }
 
@@ -106,6 +109,7 @@ impl CleanerAct {
             CleanerAct::Bmapv(_) => CleanerKind::Bmapv,
             CleanerAct::Markv(_) => CleanerKind::Markv,
             CleanerAct::Segclean(_) => CleanerKind::Segclean,
+            CleanerAct::Gain => CleanerKind::Gain,
         }
     }
 }

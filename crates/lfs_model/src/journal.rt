@@ -23,6 +23,8 @@ pub enum CleanerKind {
     Markv,
     /// A dirty segment without live bytes to become clean.
     Segclean,
+    /// A segment to be cleaned where that gains room.
+    Gain,
 }
 
 /// What came of a cleaner's call, as the journal tells it.
@@ -33,7 +35,7 @@ pub enum CleanerOutcome {
     /// The call did nothing, for this reason.
     Fault(CleanFault),
     /// The call is done: how many bytes of the ifile, infos, addresses or blocks written again it gave;
-    /// 0 for a segment that became clean.
+    /// 0 for a segment that became clean, and for room that was gained.
     Done(u32),
 }
 
@@ -57,6 +59,8 @@ pub enum CleanerAnswer {
     Marked(u32),
     /// The segment is clean.
     Cleaned,
+    /// A segment was cleaned, and there is more room.
+    Gained,
 }
 
 /// What happened in one step.

@@ -50,6 +50,7 @@ impl CleanerKind {
             CleanerCall::Bmapv(_) => CleanerKind::Bmapv,
             CleanerCall::Markv(_) => CleanerKind::Markv,
             CleanerCall::Segclean(_) => CleanerKind::Segclean,
+            CleanerCall::Gain => CleanerKind::Gain,
         }
     }
 }
