@@ -2,6 +2,7 @@
 use Rattle.lfs_types.specs.Cleaned.{CleanerCalls}
 use Rattle.lfs_parts.specs.declared.parts.Parts.{Parts}
 use Rattle.lfs_logstore.specs.Cleaning.{GivesAddresses, GivesIfile, GivesInfos, Reclaims}
+use Rattle.lfs_logstore.specs.Gaining.{GainsRoom}
 use Rattle.lfs_logstore.specs.Marking.{WritesAgain}
 
 -- the relation of each call
@@ -12,4 +13,5 @@ log_calls = record {
   gives_addresses = GivesAddresses;
   writes_again = WritesAgain;
   reclaims = Reclaims;
+  gains = GainsRoom;
 }

@@ -3,7 +3,7 @@ use Rattle.std.specs.Prelude.{◌≡◌, ◌≢◌, ℕ, ◌+◌, ◌/◌, ◌<�
 use Rattle.lfs_types.specs.declared.limits.TheConstants.{SEGMENT_BLOCKS}
 use Rattle.lfs_types.specs.declared.cleaner.BlockInfo.{BlockInfo}
 use Rattle.lfs_types.specs.declared.cleaner.CleanFault.{CleanFault}
-use Rattle.lfs_types.specs.declared.cleaner.CleanFault.TheVariants.{NoSuchSegment, Active, NotDirty, Live, NoSpace}
+use Rattle.lfs_types.specs.declared.cleaner.CleanFault.TheVariants.{NoSuchSegment, Active, NotDirty, Live}
 use Rattle.lfs_ifile.specs.declared.segment.SegState.TheVariants as used
 use Rattle.lfs_ifile.specs.Layout.{ifile_bytes}
 use Rattle.lfs_ifile.specs.Tables.{with_state}
@@ -82,7 +82,7 @@ IsReclaimFaultOf p segment NotDirty = (segment < p.log.memory.segments) × (stat
 IsReclaimFaultOf p segment (Live bytes) =
     (segment < p.log.memory.segments) × (state_of p.log.tables segment ≡ used.Dirty) × (bytes ≡ counted_live p segment)
     × (0 < bytes)
-IsReclaimFaultOf p segment NoSpace = ⊥
+IsReclaimFaultOf p segment fault = ⊥
 
 -- A dirty segment in which no key has a place was made clean, and all else stays.
 pub record IsReclaimed (old : Parts) (segment : ℕ) (new : Parts) : Type 0 where

@@ -5,6 +5,7 @@ ghost use Rattle.lfs_types.specs.Cleaned.{ifile_size};
 ghost use Rattle.lfs_logstore.specs.Cleaning.{GivesIfile, HasLive, IsAccounted, IsListingFaultOf, IsReclaimed};
 ghost use Rattle.lfs_logstore.specs.States.{state_of};
 
+use crate::gaining::NotGainful;
 use crate::store::LogStore;
 use lfs_ifile::SegState;
 use lfs_segwrite::marking::mark;
@@ -75,5 +76,12 @@ impl CleanedStore for LogStore {
         }
         self.reclaim(segment);
         Ok(())
+    }
+
+    fn gain_room(&mut self) -> Result<(), CleanFault> {
+        match self.gain() {
+            Ok(()) => Ok(()),
+            Err(NotGainful) => Err(CleanFault::NotGainful),
+        }
     }
 }

@@ -69,6 +69,7 @@ fn entry_of(key: &Key) -> SummaryEntry
             version: key.version,
             block: block.logical(),
         },
+        // Never: the code is a block's, as is required.
         None => unreachable!(),
     }
 }

@@ -156,6 +156,7 @@ fn mark_eight(parts: &mut Parts, marks: &[BlockInfo])
 {
     match mark_settled(parts, marks, false) {
         Ok(_) => {}
+        // Never: there is room, as is required.
         Err(_) => unreachable!(),
     }
 }

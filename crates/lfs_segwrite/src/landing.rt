@@ -45,6 +45,7 @@ fn append_waiting(parts: &mut Parts, key: Key) -> u32
 {
     match parts.cache.dirty(key) {
         Some(bytes) => parts.log.put(bytes),
+        // Never: by `waits`.
         None => unreachable!(),
     }
 }

@@ -199,6 +199,7 @@ fn stage_info(parts: &mut Parts, info: &BlockInfo)
     let inode = parts.record_in_use(info.ino);
     match FileBlock::from_code(code_named(info.lbn)) {
         Some(block) => stage_again(parts, &inode, block, info.addr),
+        // Never: by `named`.
         None => unreachable!(),
     }
 }

@@ -60,6 +60,7 @@ fn open_segment(parts: &mut Parts)
 {
     match parts.log.open() {
         Some(_) => {}
+        // Never: by `some`.
         None => unreachable!(),
     }
 }

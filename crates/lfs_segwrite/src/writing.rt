@@ -17,6 +17,7 @@ pub fn write_waiting(parts: &mut Parts)
     let blocks = blocks_to_write(parts);
     match make_room(parts, blocks) {
         Ok(()) => flush(parts),
+        // Never: by `HasRoom`.
         Err(_) => unreachable!(),
     }
 }

@@ -1,10 +1,10 @@
 -- Where a segment is clean, a dirty one with few live bytes is gainful (`worth`); where three are not clean, there is
 -- one, or more bytes are live than the share (`past`), for `restoring::restore`. All that are dirty having more, they
 -- have more than the share together: at most two are clean, and one is active.
-use Rattle.std.proofs.Common.{◌≡◌, ℕ, zero, suc, ◌+◌, ◌-◌, ◌*◌, ◌<◌, ◌≤◌, List, length, refl, ap, ◌∙◌}
+use Rattle.std.proofs.Common.{◌≡◌, ℕ, zero, suc, ◌+◌, ◌-◌, ◌*◌, ◌<◌, ◌≤◌, List, length, Result, Ok, Err, refl, ap, ◌∙◌}
 use Rattle.std.proofs.Common.{inl, inr, arith}
 use Rattle.std.proofs.lemmas.Bool.{cases_eq, cases_lt}
-use Rattle.std.specs.Prelude.{if◌then◌else◌, ◌==◌}
+use Rattle.std.specs.Prelude.{if◌then◌else◌, ◌==◌, OnErr, OnOk}
 use Rattle.lfs_inodes.specs.declared.inode.Inode.{Inode}
 use Rattle.lfs_ifile.specs.declared.segment.SegState.{SegState}
 use Rattle.lfs_ifile.specs.declared.segment.SegState.TheVariants.{Clean, Dirty, Active}
@@ -18,14 +18,16 @@ use Rattle.lfs_segwrite.specs.Applying.{WritesWaiting, waiting_blocks}
 use Rattle.lfs_segwrite.specs.Collecting.{entries_of}
 use Rattle.lfs_segwrite.proofs.CollectingLemmas.{entries_of-length}
 use Rattle.lfs_segwrite.specs.Gaining.{IsGainful, NoneIsGainful, live_infos, space}
-use Rattle.lfs_logstore.specs.Gaining.{GainsSpace}
+use Rattle.lfs_logstore.specs.Gaining.{GainsRoom, GainsSpace}
 use Rattle.lfs_share.specs.Share.{IsWithinShare, KeepsOne, LacksShare, taken}
 use Rattle.lfs_share.proofs.LiveLemmas.{live_weighs}
 use Rattle.lfs_share.proofs.TakenLemmas.{live_few}
 use Rattle.lfs_logstore.specs.States as state
 use Rattle.lfs_logstore.proofs.RoomLemmas.{same_waiting}
 use Rattle.lfs_parts.specs.Filling.{SameButClean}
-use Rattle.lfs_types.specs.StoreStates.{Shape}
+use Rattle.lfs_types.specs.Cleaned.{with_clean_segment}
+use Rattle.lfs_types.specs.StoreStates.{Follows, Shape, StoreState}
+use Rattle.lfs_types.specs.declared.cleaner.CleanFault.{CleanFault}
 use Rattle.lfs_parts.specs.Files.{content_of}
 use Rattle.lfs_share.proofs.PassLemmas.{blocks_bound, widest_bound}
 
@@ -158,11 +160,25 @@ kept_written old new w kept = elim w.left [
 pub kept_settled : (p : Parts) → IsSettled p → 0 < p.log.clean → KeepsOne p
 kept_settled p settled some = let none = settled_blocks p settled in inr (some, omega arith)
 
-pub kept_gained : (old new : Parts) → IsSettled old → GainsSpace old new → 0 < old.log.clean → 0 < new.log.clean
-kept_gained old new settled g some =
-    let between = kept_written old g.between g.written (kept_settled old settled some) in
+pub kept_behind_gain : (old new : Parts) → GainsSpace old new → KeepsOne old → 0 < new.log.clean
+kept_behind_gain old new g kept =
+    let between = kept_written old g.between g.written kept in
     let clean = g.reclaimed.clean in
     omega arith
+
+pub kept_gained : (old new : Parts) → IsSettled old → GainsSpace old new → 0 < old.log.clean → 0 < new.log.clean
+kept_gained old new settled g some = kept_behind_gain old new g (kept_settled old settled some)
+
+pub kept_room : (old new : Parts) (result : Result (Unit {0}) CleanFault) → GainsRoom old result new → KeepsOne old
+    → KeepsOne new
+kept_room old new (Ok done) g kept = kept_settled new g.settled (kept_behind_gain old new g.gained kept)
+kept_room old new (Err fault) g kept = kept_settled new g.settled (kept_written old new g.written kept)
+
+-- nor does it change how many numbers and segments there are
+pub room_shape : (old new : StoreState) (result : Result (Unit {0}) CleanFault)
+    → OnOk result (Follows (with_clean_segment old) new) → OnErr result (Follows old new) → new.shape ≡ old.shape
+room_shape old new (Ok done) gained failed = gained.shape
+room_shape old new (Err fault) gained failed = failed.shape
 
 -- ---- within the share nothing is lacking
 pub never : (old new : Parts) → IsStore new → (state.state_of new).content ≡ (state.state_of old).content

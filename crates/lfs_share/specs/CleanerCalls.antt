@@ -7,6 +7,7 @@ use Rattle.lfs_segwrite.specs.Finishing.{MarksAgain}
 use Rattle.lfs_parts.specs.declared.parts.Parts.{Parts}
 use Rattle.lfs_parts.specs.Store.{IsSettled}
 use Rattle.lfs_logstore.specs.Cleaning.{GivesAddresses, GivesIfile, GivesInfos, Reclaims}
+use Rattle.lfs_logstore.specs.Gaining.{GainsRoom}
 use Rattle.lfs_share.specs.Answering.{MakesRoom, shared_state}
 use Rattle.lfs_share.specs.Share.{IsWithinShare}
 
@@ -29,4 +30,5 @@ shared_calls = record {
   gives_addresses = GivesAddresses;
   writes_again = WritesAgain;
   reclaims = Reclaims;
+  gains = GainsRoom;
 }

@@ -44,4 +44,8 @@ impl CleanedStore for SharedStore {
     fn segclean(&mut self, segment: u32) -> Result<(), CleanFault> {
         self.store.segclean(segment)
     }
+
+    fn gain_room(&mut self) -> Result<(), CleanFault> {
+        self.store.gain_room()
+    }
 }

@@ -22,6 +22,7 @@ pub(crate) fn settle(store: &mut LogStore)
 {
     match store.sync() {
         Ok(()) => {}
+        // Never: a log store's `sync` is never refused (`never`).
         Err(_) => unreachable!(),
     }
 }

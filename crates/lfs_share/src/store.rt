@@ -76,6 +76,7 @@ pub(crate) fn make_way(store: &mut LogStore)
     }
     match restore(store) {
         Ok(()) => {}
+        // Never: by `share` and `kept`.
         Err(_) => unreachable!(),
     }
 }
@@ -93,6 +94,7 @@ pub(crate) fn apply_behind(store: &mut LogStore, changes: &[Change<'_>], by: Res
 {
     match store.apply(changes, by) {
         Ok(()) => {}
+        // Never: three segments are clean (`clean`).
         Err(_) => unreachable!(),
     }
 }
@@ -115,6 +117,7 @@ impl SharedStore {
         let store = LogStore::format(alloc, params)?;
         match SharedStore::over(store) {
             Some(shared) => Ok(shared),
+            // Never: by `opening_within` a fresh store is within its share.
             None => unreachable!(),
         }
     }
@@ -146,6 +149,7 @@ impl SharedStore {
     {
         match restore(&mut self.store) {
             Ok(()) => {}
+            // Never: it is within its share by its type.
             Err(_) => unreachable!(),
         }
     }
