@@ -79,6 +79,7 @@ pub(crate) fn judge_there<F: FileStore>(
         return Ok(None);
     };
     let Some(attrs) = store.learn_attrs(number) else {
+        // Never: by `hangs`.
         unreachable!()
     };
     may_remove(&arrival.dir.attrs, &attrs, cred, site)?;

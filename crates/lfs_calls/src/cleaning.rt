@@ -1,7 +1,7 @@
 //! The calls of a store's cleaner, over a store with caches of names and attributes. None of them changes the content.
 
 ghost use Rattle.std.specs.Prelude.{◌≡◌, ◌≤◌, length, IfErr, IfOk, OnErr, OnOk};
-ghost use Rattle.lfs_types.specs.Cleaned.{IsListingFault, IsMarkingFault, IsReclaimFault, ifile_size, with_clean_segment};
+ghost use Rattle.lfs_types.specs.Cleaned.{IsGainFault, IsListingFault, IsMarkingFault, IsReclaimFault, ifile_size, with_clean_segment};
 ghost use Rattle.lfs_types.specs.StoreStates.{Follows};
 
 use crate::tree::Tree;
@@ -55,5 +55,17 @@ impl<F: CleanedStore> Tree<F> {
         ensures cleaned { OnOk result (F.state self.new ≡ with_clean_segment (F.state self.old)) }
     {
         self.store.segclean(segment)
+    }
+
+    /// Writes what waits, and cleans a segment where that gains room.
+    pub fn gain_room(&mut self) -> Result<(), CleanFault>
+        ensures given { F.cleaner.gains self.old result self.new }
+        ensures fault { IfErr result IsGainFault }
+        ensures content { (F.state self.new).content ≡ (F.state self.old).content }
+        ensures gained { OnOk result
+            (Follows (with_clean_segment (F.state self.old)) (F.state self.new)) }
+        ensures failed { OnErr result (Follows (F.state self.old) (F.state self.new)) }
+    {
+        self.store.gain_room()
     }
 }

@@ -148,6 +148,7 @@ fn name_of(alloc: Global, bytes: &[u8]) -> Result<Name, AllocError>
     match Name::parse(alloc, bytes) {
         Ok(name) => Ok(name),
         Err(BadName::Memory) => Err(AllocError),
+        // Never: the bytes are a name, as is required.
         Err(_) => unreachable!(),
     }
 }
@@ -309,6 +310,7 @@ fn lone_entry(name: &Name, number: u32) -> Block
     let empty = [0; BLOCK_SIZE];
     match added(&empty, name, number) {
         Some(block) => block,
+        // Never: a name fits an empty block.
         None => unreachable!(),
     }
 }
@@ -329,6 +331,7 @@ pub(crate) fn take_name<F: FileStore>(store: &mut Tree<F>, dir: u32, size: u64, 
         }
         k = store.next_block(dir, name, k + 1);
     }
+    // Never: it is listed (`ListsName`), as is required.
     unreachable!()
 }
 

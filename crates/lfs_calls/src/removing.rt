@@ -57,6 +57,7 @@ pub(crate) fn judge_remove<F: FileStore>(
     let site = Site { path: 0, at };
     let number = step(store, cred, site, dir.number, name)?;
     let Some(attrs) = store.learn_attrs(number) else {
+        // Never: by `step`: it is a row of the world.
         unreachable!()
     };
     may_remove(&dir.attrs, &attrs, cred, site)?;

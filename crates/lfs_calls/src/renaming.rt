@@ -344,6 +344,7 @@ fn swap_number<F: FileStore>(
         }
         k = store.next_block(dir, name, k + 1);
     }
+    // Never: by `CanSwap`.
     unreachable!()
 }
 

@@ -38,6 +38,7 @@ pub(crate) fn step<F: FileStore>(
     ensures state { F.state store.new ≡ F.state store.old }
 {
     let Some(attrs) = store.learn_attrs(dir) else {
+        // Never: by `used`.
         unreachable!()
     };
     may_search(&attrs, cred, site)?;
@@ -97,6 +98,7 @@ pub(crate) fn reach<F: FileStore>(
     let number = walk(store, cred, path, names)?;
     match store.learn_attrs(number) {
         Some(attrs) => Ok(Reached { number, attrs }),
+        // Never: by `walk`: it is a row of the world.
         None => unreachable!(),
     }
 }

@@ -12,7 +12,7 @@ use Rattle.lfs_types.specs.declared.level.Level.{Level}
 use Rattle.lfs_types.specs.declared.rule.Denial.{Denial}
 use Rattle.lfs_model.specs.declared.journal.CleanerAnswer.{CleanerAnswer}
 use Rattle.lfs_model.specs.declared.journal.CleanerAnswer.TheVariants.{Refused, Denied, Fault, Ifile, Infos, Bmapv}
-use Rattle.lfs_model.specs.declared.journal.CleanerAnswer.TheVariants.{Marked, Cleaned}
+use Rattle.lfs_model.specs.declared.journal.CleanerAnswer.TheVariants.{Marked, Cleaned, Gained}
 use Rattle.lfs_model.specs.declared.journal.CleanerOutcome.{CleanerOutcome}
 use Rattle.lfs_model.specs.declared.journal.Entry.{Entry}
 use Rattle.lfs_model.specs.declared.journal.Event.TheVariants.{Cleaner}
@@ -34,6 +34,7 @@ shape_stays (Infos infos) old new h = h.shape
 shape_stays (Bmapv infos) old new h = h.shape
 shape_stays (Marked count) old new h = h.shape
 shape_stays Cleaned old new h = cc
+shape_stays Gained old new h = h.shape
 
 -- no call that is made is denied
 not_denied : {F : Type 0} (r : Store F) (old new : F) (call : CleanerCall) (denial : Denial)
@@ -43,6 +44,7 @@ not_denied r old new (calls.Infos segment) denial h = h
 not_denied r old new (calls.Bmapv infos) denial h = h
 not_denied r old new (calls.Markv marks) denial h = h
 not_denied r old new (calls.Segclean segment) denial h = h
+not_denied r old new calls.Gain denial h = h
 
 -- of the calls that the store answers only the one for the ifile's bytes lacks memory
 lacked : {F : Type 0} (r : Store F) (old new : F) (caller : Caller) (call : CleanerCall) → caller.uid ≡ 0
@@ -52,6 +54,7 @@ lacked r old new caller (calls.Infos segment) is h = absurd h
 lacked r old new caller (calls.Bmapv infos) is h = absurd h
 lacked r old new caller (calls.Markv marks) is h = absurd h
 lacked r old new caller (calls.Segclean segment) is h = absurd h
+lacked r old new caller calls.Gain is h = absurd h
 
 -- what the store's call gave is the superuser's answer
 pub answered_done : {F : Type 0} (r : Store F) (old : F) (caller : Caller) (call : CleanerCall) (answer : CleanerAnswer)
@@ -69,6 +72,7 @@ answered_done r old caller call (Infos infos) new is h = (is, h)
 answered_done r old caller call (Bmapv infos) new is h = (is, h)
 answered_done r old caller call (Marked count) new is h = (is, h)
 answered_done r old caller call Cleaned new is h = (is, h)
+answered_done r old caller call Gained new is h = (is, h)
 
 pub IsStep-cleaned : (from : World) (old new : StoreState) (level : Level) (es : List Entry) (limit : ℕ)
     (caller : Caller) (call : CleanerCall) (answer : CleanerAnswer)

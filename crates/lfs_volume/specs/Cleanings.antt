@@ -16,7 +16,7 @@ use Rattle.lfs_types.specs.declared.store.Reserve.{Reserve}
 use Rattle.lfs_types.specs.declared.store.StoreRefusal.{StoreRefusal}
 use Rattle.lfs_model.specs.declared.journal.CleanerAnswer.{CleanerAnswer}
 use Rattle.lfs_model.specs.declared.journal.CleanerAnswer.TheVariants.{Refused, Denied, Fault, Ifile, Infos, Bmapv}
-use Rattle.lfs_model.specs.declared.journal.CleanerAnswer.TheVariants.{Marked, Cleaned}
+use Rattle.lfs_model.specs.declared.journal.CleanerAnswer.TheVariants.{Marked, Cleaned, Gained}
 use Rattle.lfs_model.specs.declared.journal.CleanerOutcome.{CleanerOutcome}
 use Rattle.lfs_model.specs.declared.journal.CleanerOutcome.TheVariants as outcomes
 use Rattle.lfs_model.specs.declared.journal.Event.TheVariants.{Cleaner as Cleaning}
@@ -59,6 +59,8 @@ IsDone r old (call.Markv marks) (Marked count) new = r.calls.writes_again old ma
 IsDone r old (call.Markv marks) (Fault fault) new = r.calls.writes_again old marks (Err fault) new
 IsDone r old (call.Segclean segment) Cleaned new = r.calls.reclaims old segment (Ok tt) new
 IsDone r old (call.Segclean segment) (Fault fault) new = r.calls.reclaims old segment (Err fault) new
+IsDone r old call.Gain Gained new = r.calls.gains old (Ok tt) new
+IsDone r old call.Gain (Fault fault) new = r.calls.gains old (Err fault) new
 IsDone r old asked answer new = ⊥
 
 -- a cleaner's call of this caller may want memory: anybody's for a copy of the infos that it hands in, the superuser's
@@ -80,9 +82,11 @@ reclaim_answer (Some outcomes.Denied) = Denied not_superuser
 reclaim_answer (Some (outcomes.Fault fault)) = Fault fault
 reclaim_answer (Some (outcomes.Done count)) = Cleaned
 
--- how a cleaner's answer leaves a store: with one more clean segment where it made a segment clean, else as a later state
+-- how a cleaner's answer leaves a store: with one more clean segment where it made a segment clean, with at most one more
+-- where room was gained, else as a later state
 abbrev pub CleansOnly : CleanerAnswer → StoreState → StoreState → Type 0
 CleansOnly Cleaned old new = new ≡ with_clean_segment old
+CleansOnly Gained old new = Follows (with_clean_segment old) new
 CleansOnly answer old new = Follows old new
 
 -- a u32 counts the bytes of an ifile

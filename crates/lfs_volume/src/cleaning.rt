@@ -63,6 +63,10 @@ fn done<F: CleanedStore>(store: &mut Tree<F>, call: CleanerCall) -> CleanerAnswe
             Ok(()) => CleanerAnswer::Cleaned,
             Err(fault) => CleanerAnswer::Fault(fault),
         },
+        CleanerCall::Gain => match store.gain_room() {
+            Ok(()) => CleanerAnswer::Gained,
+            Err(fault) => CleanerAnswer::Fault(fault),
+        },
     }
 }
 
@@ -99,7 +103,7 @@ pub fn outcome(answer: &CleanerAnswer) -> Option<CleanerOutcome>
             CleanerOutcome::Done(infos.items().len() as u32)
         }
         CleanerAnswer::Marked(count) => CleanerOutcome::Done(*count),
-        CleanerAnswer::Cleaned => CleanerOutcome::Done(0),
+        CleanerAnswer::Cleaned | CleanerAnswer::Gained => CleanerOutcome::Done(0),
     })
 }
 

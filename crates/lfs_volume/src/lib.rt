@@ -5,5 +5,5 @@ mod cleaning;
 pub mod volume;
 
 pub use lfs_flatfiles::flat_files;
-pub use lfs_model::{asking, counts, journal, steps};
+pub use lfs_model::{counts, journal, steps};
 pub use lfs_types::cleaner::CleanerCall;

@@ -512,6 +512,7 @@ fn push_within<T: Drop>(items: &mut Vec<T>, item: T)
 {
     match items.push(item) {
         Ok(()) => (),
+        // Never: the journal has room, as is required.
         Err(_) => unreachable!(),
     }
 }
