@@ -195,3 +195,4 @@ tells_outcome (outcome.Fault fault.NotDirty) is = record { words = refl; back = 
 tells_outcome (outcome.Fault (fault.Live bytes)) is =
     record { words = rw (short_word bytes is) refl; back = rw (short_read bytes is) refl }
 tells_outcome (outcome.Fault fault.NoSpace) is = record { words = refl; back = refl }
+tells_outcome (outcome.Fault fault.NotGainful) is = record { words = refl; back = refl }

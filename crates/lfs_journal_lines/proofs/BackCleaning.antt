@@ -6,7 +6,7 @@ use Rattle.std.specs.Str.Parse.{AllDigits}
 use Rattle.std.proofs.lemmas.Fmt.{decimal_is_IsNumeral}
 use Rattle.lfs_types.specs.declared.cleaner.BlockInfo.{BlockInfo}
 use Rattle.lfs_model.specs.declared.asking.CleanerAct.{CleanerAct}
-use Rattle.lfs_model.specs.declared.asking.CleanerAct.TheVariants.{Ifile, Infos, Bmapv, Markv, Segclean}
+use Rattle.lfs_model.specs.declared.asking.CleanerAct.TheVariants.{Ifile, Infos, Bmapv, Markv, Segclean, Gain}
 use Rattle.lfs_model.specs.declared.journal.CleanerKind.{CleanerKind}
 use Rattle.lfs_model.specs.declared.journal.CleanerKind.TheVariants as kind
 use Rattle.lfs_model.specs.Cleaning.{kind_of}
@@ -59,6 +59,7 @@ act_operands (Infos segment) is = (short_operand segment is, tt)
 act_operands (Bmapv infos) is = infos_operands infos is.0
 act_operands (Markv marks) is = infos_operands marks is.0
 act_operands (Segclean segment) is = (short_operand segment is, tt)
+act_operands Gain is = tt
 
 -- ---- the call
 
@@ -72,6 +73,7 @@ said (Infos segment) is = segment_listed segment (segment_read segment is)
 said (Bmapv infos) is = infos_located infos is.1 (infos_back infos is.0)
 said (Markv marks) is = infos_marked marks is.1 (infos_back marks is.0)
 said (Segclean segment) is = segment_cleaned segment (segment_read segment is)
+said Gain is = record { words = refl; said = refl }
 
 same_act : (act : CleanerAct) → act_of (call_of act) ≡ act
 same_act Ifile = refl
@@ -79,6 +81,7 @@ same_act (Infos segment) = refl
 same_act (Bmapv infos) = refl
 same_act (Markv marks) = refl
 same_act (Segclean segment) = refl
+same_act Gain = refl
 
 cleaner_bar : (asked : CleanerKind) → is_bar (cleaner_word asked) ≡ false
 cleaner_bar kind.Ifile = refl
@@ -86,6 +89,7 @@ cleaner_bar kind.Infos = refl
 cleaner_bar kind.Bmapv = refl
 cleaner_bar kind.Markv = refl
 cleaner_bar kind.Segclean = refl
+cleaner_bar kind.Gain = refl
 
 -- the words of a call are those of a field, and are read as the call
 pub record TellsAct (act : CleanerAct) : Type 0 where

@@ -2,7 +2,7 @@
 use Rattle.std.specs.Prelude.{ℕ, List, [], ◌∷◌, codes, Option, None, Some, Result, Ok, Err, if◌then◌else◌}
 use Rattle.std.specs.Str.{bytes_eq}
 use Rattle.lfs_types.specs.declared.cleaner.CleanFault.{CleanFault}
-use Rattle.lfs_types.specs.declared.cleaner.CleanFault.TheVariants.{NoSuchSegment, Active, NotDirty, Live, NoSpace}
+use Rattle.lfs_types.specs.declared.cleaner.CleanFault.TheVariants.{NoSuchSegment, Active, NotDirty, Live, NoSpace, NotGainful}
 use Rattle.lfs_model.specs.declared.journal.CleanerOutcome.{CleanerOutcome}
 use Rattle.lfs_model.specs.declared.journal.CleanerOutcome.TheVariants.{Denied, Fault, Done}
 use Rattle.lfs_words.specs.Faults.{◌>>=◌}
@@ -18,7 +18,8 @@ fault_named word =
     if bytes_eq word (codes "NoSuchSegment") then Some NoSuchSegment else
     if bytes_eq word (codes "Active") then Some Active else
     if bytes_eq word (codes "NotDirty") then Some NotDirty else
-    if bytes_eq word (codes "NoSpace") then Some NoSpace else None
+    if bytes_eq word (codes "NoSpace") then Some NoSpace else
+    if bytes_eq word (codes "NotGainful") then Some NotGainful else None
 
 -- why a call of the cleaner did nothing
 abbrev pub fault_told : List (List ℕ) → Result CleanFault FaultKind

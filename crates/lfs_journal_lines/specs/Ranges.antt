@@ -97,6 +97,7 @@ IsAct (acts.Infos segment) = segment < 2 ^ 32
 IsAct (acts.Bmapv infos) = All IsShortInfo infos × (length infos ≤ 248)
 IsAct (acts.Markv marks) = All IsShortInfo marks × (length marks ≤ 8)
 IsAct (acts.Segclean segment) = segment < 2 ^ 32
+IsAct acts.Gain = Unit {0}
 
 abbrev pub IsOutcome : CleanerOutcome → Type 0
 IsOutcome (outcome.Done number) = number < 2 ^ 32

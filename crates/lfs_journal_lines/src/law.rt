@@ -216,7 +216,7 @@ fn walk_act(act: &CleanerAct)
     ensures { IsAct act.now }
 {
     match act {
-        CleanerAct::Ifile => (),
+        CleanerAct::Ifile | CleanerAct::Gain => (),
         CleanerAct::Infos(segment) | CleanerAct::Segclean(segment) => {
             let _segment = *segment;
         }

@@ -49,5 +49,6 @@ pub fn finds_line(entry: &Entry)
         ≡ Some (entry_text entry.now) }
     ensures plain { (number : ℕ) → unnumbered number (entry_text entry.now) ≡ Some (entry_text entry.now) }
 {
+    // By its type it is below 256.
     let _session = entry.session;
 }

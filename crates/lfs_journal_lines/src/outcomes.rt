@@ -58,6 +58,8 @@ fn fault_named(word: &str) -> Option<CleanFault>
         Some(CleanFault::NotDirty)
     } else if word == "NoSpace" {
         Some(CleanFault::NoSpace)
+    } else if word == "NotGainful" {
+        Some(CleanFault::NotGainful)
     } else {
         None
     }

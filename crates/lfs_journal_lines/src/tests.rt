@@ -52,6 +52,8 @@ const LINES: &[u8] = b"\
 255 as 0 0 | infos 3 | fault Active
 255 as 0 0 | segclean 12 | fault NotDirty
 255 as 0 0 | segclean 0 | fault Live 512
+255 as 0 0 | gain | ok 0
+255 as 0 0 | gain | fault NotGainful
 ";
 
 /// Asserts that what was found is what is wanted.

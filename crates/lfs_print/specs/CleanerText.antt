@@ -2,13 +2,13 @@
 use Rattle.std.specs.Prelude.{ℕ, List, [], ◌∷◌, codes, decimal, length}
 use Rattle.lfs_model.specs.declared.journal.CleanerAnswer.{CleanerAnswer}
 use Rattle.lfs_model.specs.declared.journal.CleanerAnswer.TheVariants.{Refused, Denied, Fault, Ifile, Infos, Bmapv}
-use Rattle.lfs_model.specs.declared.journal.CleanerAnswer.TheVariants.{Marked, Cleaned}
+use Rattle.lfs_model.specs.declared.journal.CleanerAnswer.TheVariants.{Marked, Cleaned, Gained}
 use Rattle.lfs_model.specs.declared.journal.CleanerKind.{CleanerKind}
 use Rattle.lfs_model.specs.declared.journal.CleanerOutcome.{CleanerOutcome}
 use Rattle.lfs_model.specs.declared.journal.CleanerOutcome.TheVariants as outcome
 use Rattle.lfs_types.specs.RuleCodes.{rule_code}
 use Rattle.lfs_types.specs.declared.cleaner.CleanFault.{CleanFault}
-use Rattle.lfs_types.specs.declared.cleaner.CleanFault.TheVariants.{NoSuchSegment, Active, NotDirty, Live, NoSpace}
+use Rattle.lfs_types.specs.declared.cleaner.CleanFault.TheVariants.{NoSuchSegment, Active, NotDirty, Live, NoSpace, NotGainful}
 use Rattle.lfs_print.specs.AnswerText.{line_text, resource_word}
 use Rattle.lfs_print.specs.CleanerWords.{cleaner_word}
 
@@ -23,6 +23,7 @@ fault_words Active = codes "fault" ∷ codes "Active" ∷ []
 fault_words NotDirty = codes "fault" ∷ codes "NotDirty" ∷ []
 fault_words (Live bytes) = codes "fault" ∷ codes "Live" ∷ decimal bytes ∷ []
 fault_words NoSpace = codes "fault" ∷ codes "NoSpace" ∷ []
+fault_words NotGainful = codes "fault" ∷ codes "NotGainful" ∷ []
 
 -- the words of an answer: a call that is done gives the bytes of the ifile, the infos, the addresses or the blocks
 -- written again, or 0
@@ -35,6 +36,7 @@ cleaner_words (Infos infos) = done_words (length infos)
 cleaner_words (Bmapv infos) = done_words (length infos)
 cleaner_words (Marked count) = done_words count
 cleaner_words Cleaned = done_words 0
+cleaner_words Gained = done_words 0
 
 -- the words of what came of a call, as the journal tells it
 abbrev pub outcome_words : CleanerOutcome → List (List ℕ)

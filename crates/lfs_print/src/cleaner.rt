@@ -15,5 +15,6 @@ pub fn cleaner_word(kind: CleanerKind) -> &'static str
         CleanerKind::Bmapv => "bmapv",
         CleanerKind::Markv => "markv",
         CleanerKind::Segclean => "segclean",
+        CleanerKind::Gain => "gain",
     }
 }

@@ -187,7 +187,7 @@ fn push_cleaner(out: &mut Vec<u8>, answer: &CleanerAnswer) -> Result<(), AllocEr
         CleanerAnswer::Infos(infos) => push_done(out, infos.items().len() as u64),
         CleanerAnswer::Bmapv(infos) => push_done(out, infos.items().len() as u64),
         CleanerAnswer::Marked(count) => push_done(out, u64::from(*count)),
-        CleanerAnswer::Cleaned => push_done(out, 0),
+        CleanerAnswer::Cleaned | CleanerAnswer::Gained => push_done(out, 0),
     }
 }
 
@@ -224,5 +224,6 @@ fn push_fault(out: &mut Vec<u8>, fault: CleanFault) -> Result<(), AllocError>
             push_number(out, u64::from(bytes))
         }
         CleanFault::NoSpace => push_word(out, "NoSpace"),
+        CleanFault::NotGainful => push_word(out, "NotGainful"),
     }
 }

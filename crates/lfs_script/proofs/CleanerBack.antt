@@ -8,7 +8,7 @@ use Rattle.lfs_types.specs.declared.cleaner.CleanerCall.{CleanerCall}
 use Rattle.lfs_model.specs.declared.asking.CleanerAct.{CleanerAct}
 use Rattle.lfs_model.specs.declared.asking.CleanerAct.TheVariants as acts
 use Rattle.lfs_model.specs.declared.journal.CleanerKind.{CleanerKind}
-use Rattle.lfs_model.specs.declared.journal.CleanerKind.TheVariants.{Ifile, Infos, Bmapv, Markv, Segclean}
+use Rattle.lfs_model.specs.declared.journal.CleanerKind.TheVariants.{Ifile, Infos, Bmapv, Markv, Segclean, Gain}
 use Rattle.lfs_model.specs.Cleaning.{kind_of}
 use Rattle.lfs_print.specs.CleanerWords.{cleaner_word}
 use Rattle.lfs_script.proofs.SpellingLemmas.{line_of_words}
@@ -62,6 +62,7 @@ is_cleaner_verb Infos = record { word = refl; found = refl; says = λ more. refl
 is_cleaner_verb Bmapv = record { word = refl; found = refl; says = λ more. refl }
 is_cleaner_verb Markv = record { word = refl; found = refl; says = λ more. refl }
 is_cleaner_verb Segclean = record { word = refl; found = refl; says = λ more. refl }
+is_cleaner_verb Gain = record { word = refl; found = refl; says = λ more. refl }
 
 words_asked : (asked : CleanerKind) (words : List (List ℕ)) (call : CleanerCall) → cleaner_said asked words ≡ Ok call
     → words_said (cleaner_word asked ∷ words) ≡ Ok (Act (Cleaner call))

@@ -3,7 +3,7 @@ use Rattle.std.specs.Prelude.{ℕ, List, Result, Ok}
 use Rattle.lfs_model.specs.declared.journal.CleanerKind.{CleanerKind}
 use Rattle.lfs_model.specs.declared.journal.CleanerKind.TheVariants as kind
 use Rattle.lfs_types.specs.declared.cleaner.CleanerCall.{CleanerCall}
-use Rattle.lfs_types.specs.declared.cleaner.CleanerCall.TheVariants.{Ifile, Infos, Bmapv, Markv, Segclean}
+use Rattle.lfs_types.specs.declared.cleaner.CleanerCall.TheVariants.{Ifile, Infos, Bmapv, Markv, Segclean, Gain}
 use Rattle.lfs_words.specs.Faults.{◌>>=◌}
 use Rattle.lfs_words.specs.Infos.{infos_within}
 use Rattle.lfs_words.specs.Numbers.{short_of}
@@ -33,3 +33,6 @@ cleaner_said kind.Markv words = do
 cleaner_said kind.Segclean words = do
   segment ← segment_of words
   Ok (Segclean segment)
+cleaner_said kind.Gain words = do
+  none ← no_word words
+  Ok Gain

@@ -4,7 +4,7 @@ use Rattle.std.specs.List.{list_all}
 use Rattle.lfs_types.specs.declared.cleaner.CleanerCall.{CleanerCall}
 use Rattle.lfs_types.specs.declared.cleaner.CleanerCall.TheVariants as calls
 use Rattle.lfs_model.specs.declared.asking.CleanerAct.{CleanerAct}
-use Rattle.lfs_model.specs.declared.asking.CleanerAct.TheVariants.{Ifile, Infos, Bmapv, Markv, Segclean}
+use Rattle.lfs_model.specs.declared.asking.CleanerAct.TheVariants.{Ifile, Infos, Bmapv, Markv, Segclean, Gain}
 use Rattle.lfs_model.specs.Cleaning.{kind_of}
 use Rattle.lfs_print.specs.CleanerWords.{cleaner_word}
 use Rattle.lfs_words.specs.Infos.{info_text}
@@ -18,6 +18,7 @@ handed_in (Infos segment) = decimal segment ∷ []
 handed_in (Bmapv infos) = map info_text infos
 handed_in (Markv marks) = map info_text marks
 handed_in (Segclean segment) = decimal segment ∷ []
+handed_in Gain = []
 
 -- the line of a call, without a line feed
 abbrev pub act_line : CleanerAct → List ℕ
@@ -30,6 +31,7 @@ call_of (Infos segment) = calls.Infos segment
 call_of (Bmapv infos) = calls.Bmapv infos
 call_of (Markv marks) = calls.Markv marks
 call_of (Segclean segment) = calls.Segclean segment
+call_of Gain = calls.Gain
 
 -- the words behind the name of a call may stand in a line, and ask it
 pub record IsActSaid (act : CleanerAct) : Type 0 where

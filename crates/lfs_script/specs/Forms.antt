@@ -53,6 +53,7 @@ is_cleaning clean.Infos count = count == 1
 is_cleaning clean.Bmapv count = nat_le count 248
 is_cleaning clean.Markv count = nat_le count 8
 is_cleaning clean.Segclean count = count == 1
+is_cleaning clean.Gain count = count == 0
 
 -- the same of a credential
 abbrev pub is_caller : List (List ℕ) → Bool
@@ -95,6 +96,7 @@ form_of_cleaning clean.Infos = codes "its form is infos SEGMENT"
 form_of_cleaning clean.Bmapv = codes "its form is bmapv and up to 248 infos"
 form_of_cleaning clean.Markv = codes "its form is markv and up to 8 infos"
 form_of_cleaning clean.Segclean = codes "its form is segclean SEGMENT"
+form_of_cleaning clean.Gain = codes "its form is gain"
 
 -- the same of any verb
 abbrev pub form_text : Verb → List ℕ

@@ -52,6 +52,7 @@ operands_of_cleaning clean.Infos = in_order Short Fixed Fixed Fixed
 operands_of_cleaning clean.Bmapv = in_order Info Info Info Info
 operands_of_cleaning clean.Markv = in_order Info Info Info Info
 operands_of_cleaning clean.Segclean = in_order Short Fixed Fixed Fixed
+operands_of_cleaning clean.Gain = in_order Fixed Fixed Fixed Fixed
 
 -- the same of any verb
 abbrev pub operands_of : Verb → ℕ → Operands

@@ -2,7 +2,7 @@
 use Rattle.std.specs.Prelude.{ℕ, List, [], ◌∷◌, codes, find, Option}
 use Rattle.std.specs.Str.{bytes_eq}
 use Rattle.lfs_print.specs.CleanerWords.{cleaner_word}
-use Rattle.lfs_model.specs.declared.journal.CleanerKind.TheVariants.{Ifile, Infos, Bmapv, Markv, Segclean}
+use Rattle.lfs_model.specs.declared.journal.CleanerKind.TheVariants.{Ifile, Infos, Bmapv, Markv, Segclean, Gain}
 use Rattle.lfs_script.specs.declared.verb.RequestKind.{RequestKind}
 use Rattle.lfs_script.specs.declared.verb.RequestKind.TheVariants.{Stat, Read, Write, List as Names, SetLength, Create}
 use Rattle.lfs_script.specs.declared.verb.RequestKind.TheVariants.{Mkdir, Unlink, Rmdir, Rename, Chmod, Chown, Chflags}
@@ -41,7 +41,8 @@ abbrev pub verbs : List Verb
 verbs =
     Session ∷ As ∷ User Stat ∷ User Read ∷ User Write ∷ User Names ∷ User SetLength ∷ User Create ∷ User Mkdir
     ∷ User Unlink ∷ User Rmdir ∷ User Rename ∷ User Chmod ∷ User Chown ∷ User Chflags ∷ User SetLevel ∷ User Sync
-    ∷ Cleaner Ifile ∷ Cleaner Infos ∷ Cleaner Bmapv ∷ Cleaner Markv ∷ Cleaner Segclean ∷ Pass ∷ []
+    ∷ Cleaner Ifile ∷ Cleaner Infos ∷ Cleaner Bmapv ∷ Cleaner Markv ∷ Cleaner Segclean ∷ Cleaner Gain
+    ∷ Pass ∷ []
 
 -- the verb that a word names
 abbrev pub verb_of : List ℕ → Option Verb

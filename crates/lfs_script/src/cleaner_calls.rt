@@ -34,6 +34,10 @@ fn cleaner_call(alloc: Global, kind: CleanerKind, words: &[&str]) -> Result<Clea
         CleanerKind::Bmapv => Ok(CleanerCall::Bmapv(infos(alloc, words)?)),
         CleanerKind::Markv => Ok(CleanerCall::Markv(infos(alloc, words)?)),
         CleanerKind::Segclean => Ok(CleanerCall::Segclean(segment(words)?)),
+        CleanerKind::Gain => {
+            no_word(words)?;
+            Ok(CleanerCall::Gain)
+        }
     }
 }
 

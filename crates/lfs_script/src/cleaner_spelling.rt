@@ -29,7 +29,7 @@ fn push_handed_in(out: &mut Vec<u8>, act: &CleanerAct) -> Result<(), AllocError>
     ensures back { OnOk result (IsActSaid act.now) }
 {
     match act {
-        CleanerAct::Ifile => Ok(()),
+        CleanerAct::Ifile | CleanerAct::Gain => Ok(()),
         CleanerAct::Infos(segment) => spell_short(out, *segment),
         CleanerAct::Bmapv(infos) => spell_infos(out, infos.items()),
         CleanerAct::Markv(marks) => spell_infos(out, marks.items()),

@@ -74,6 +74,7 @@ fn is_cleaning(kind: CleanerKind, count: usize) -> bool
         CleanerKind::Bmapv => count <= 248,
         CleanerKind::Markv => count <= 8,
         CleanerKind::Segclean => count == 1,
+        CleanerKind::Gain => count == 0,
     }
 }
 
@@ -123,5 +124,6 @@ fn form_of_cleaning(kind: CleanerKind) -> &'static str
         CleanerKind::Bmapv => "its form is bmapv and up to 248 infos",
         CleanerKind::Markv => "its form is markv and up to 8 infos",
         CleanerKind::Segclean => "its form is segclean SEGMENT",
+        CleanerKind::Gain => "its form is gain",
     }
 }

@@ -210,7 +210,7 @@ fn operands_of_cleaning(kind: CleanerKind) -> Operands
     ensures { result ≡ operands_of_cleaning kind }
 {
     match kind {
-        CleanerKind::Ifile => in_order(
+        CleanerKind::Ifile | CleanerKind::Gain => in_order(
             Operand::Fixed,
             Operand::Fixed,
             Operand::Fixed,

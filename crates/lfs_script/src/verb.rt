@@ -57,7 +57,7 @@ pub enum Verb {
 }
 
 /// Every verb.
-const VERBS: [Verb; 23] = [
+const VERBS: [Verb; 24] = [
     Verb::Session,
     Verb::As,
     Verb::User(RequestKind::Stat),
@@ -80,6 +80,7 @@ const VERBS: [Verb; 23] = [
     Verb::Cleaner(CleanerKind::Bmapv),
     Verb::Cleaner(CleanerKind::Markv),
     Verb::Cleaner(CleanerKind::Segclean),
+    Verb::Cleaner(CleanerKind::Gain),
     Verb::Pass,
 ];
 

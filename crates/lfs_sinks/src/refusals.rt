@@ -52,7 +52,8 @@ impl Refusals {
             | CleanerAnswer::Infos(_)
             | CleanerAnswer::Bmapv(_)
             | CleanerAnswer::Marked(_)
-            | CleanerAnswer::Cleaned => {}
+            | CleanerAnswer::Cleaned
+            | CleanerAnswer::Gained => {}
         }
     }
 

@@ -245,6 +245,7 @@ impl Checker {
         ensures same { IsSameStanding self.old self.new }
     {
         let Ok(superuser) = Cred::new(0, &[0], false) else {
+            // Never: one group is no more than 16.
             unreachable!()
         };
         row_of(&stat(&mut self.tree, &superuser, path))
@@ -406,5 +407,6 @@ fn is_number_left(tree: &Tree<FlatFiles>) -> bool
 fn is_plain(tree: &Tree<FlatFiles>)
     ensures { IsPlain (plain_state tree.now) }
 {
+    // Its type keeps what is said of it.
     let _tree = tree;
 }

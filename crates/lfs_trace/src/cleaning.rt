@@ -37,7 +37,8 @@ fn may_fault(kind: CleanerKind, fault: CleanFault) -> bool
             CleanFault::NoSuchSegment | CleanFault::Active | CleanFault::NotDirty
         ),
         CleanerKind::Markv => matches!(fault, CleanFault::NoSpace),
-        CleanerKind::Segclean => !matches!(fault, CleanFault::NoSpace),
+        CleanerKind::Segclean => !matches!(fault, CleanFault::NoSpace | CleanFault::NotGainful),
+        CleanerKind::Gain => matches!(fault, CleanFault::NotGainful),
     }
 }
 
@@ -51,6 +52,6 @@ fn may_do(numbers: u32, segments: u32, kind: CleanerKind, count: u32) -> bool
         }
         CleanerKind::Infos | CleanerKind::Bmapv => count as usize <= INFO_LIMIT,
         CleanerKind::Markv => count as usize <= MARK_LIMIT,
-        CleanerKind::Segclean => count == 0,
+        CleanerKind::Segclean | CleanerKind::Gain => count == 0,
     }
 }
