@@ -56,6 +56,7 @@ const CALLS = {
   bmapv: "The cleaner asks where these blocks are now.",
   markv: "The cleaner asks to write again those of these blocks that are where it says.",
   segclean: "The cleaner asks to make a segment clean.",
+  gain: "The cleaner asks to clean any segment where that gains room.",
   as: "Another caller asks from here on.",
   session: "Another session asks from here on.",
   ".why": "It asks which rules the call would meet, and does not make it."

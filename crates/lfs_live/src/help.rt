@@ -8,7 +8,7 @@ ghost use Rattle.lfs_live.specs.Pieces.{ended_line};
 use std::alloc::AllocError;
 
 /// Its lines: each call and each word of the server's own, with an example.
-const HELP: [&str; 39] = [
+const HELP: [&str; 40] = [
     "A line is a call, `as`, `session`, `#` and a comment, or a word with a dot. Behind each its example:",
     "as USER GROUPS [init]  who makes the calls from here on: as 7 20,30",
     "session N  the session of the calls from here on, 0 to 8: session 1",
@@ -29,11 +29,12 @@ const HELP: [&str; 39] = [
     "level LEVEL  sets the securelevel, -1 to 2: level 1",
     "sync  writes what waits: sync",
     "pass  has the cleaner make a pass: pass",
-    "ifile  a call of the cleaner, as are the next four: ifile",
+    "ifile  a call of the cleaner, as are the next five: ifile",
     "infos SEGMENT  the blocks of a segment: infos 0",
     "bmapv [INFO]..  where these blocks are now: bmapv 4:1:0:17",
     "markv [INFO]..  writes these blocks anew: markv 4:1:0:17",
     "segclean SEGMENT  makes a segment clean: segclean 0",
+    "gain  cleans a segment where that gains room: gain",
     ".why CALL  the checks by which a call would be allowed or denied now, without making it: .why unlink /a",
     ".who CALL  who could make a call now, over all callers, without making it: .who write /a end 21",
     ".ls PATH  the names in a directory, each with kind, owner, group, mode, flags and length: .ls /",

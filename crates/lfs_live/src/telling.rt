@@ -248,6 +248,7 @@ fn tell_who<F: FileStore + Drop>(
     ensures looks { LooksOn (F.state volume.old.store) (F.state volume.new.store)
         volume.old volume.new }
 {
+    // By its clause the counts are those of the journal.
     let _counts = volume.counts();
     let explanation = volume.explain(&first_caller(), request)?;
     tell_who_along(alloc, volume.level(), request, &explanation)

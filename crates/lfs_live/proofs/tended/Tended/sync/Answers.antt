@@ -1,6 +1,7 @@
 use Rattle.std.proofs.Common.{ap, refl, subst, sym, ◌∙◌}
 use Rattle.lfs_volume.specs.Journals.{AtPresent, Begins}
-use Rattle.lfs_live.proofs.SettleLemmas.{done_is, sync_refused, sync_shown}
+use Rattle.lfs_volume.proofs.SyncLemmas.{sync_shown}
+use Rattle.lfs_live.proofs.SettleLemmas.{done_is, sync_refused}
 use Rattle.lfs_live.proofs.tended.Tended.sync.Goals as goal
 
 pub returns-clause-settled : goal.returns-clause-settled
