@@ -7,7 +7,7 @@ use Rattle.lfs_types.specs.StoreStates.{StoreState}
 use Rattle.lfs_types.specs.declared.cleaner.CleanerCall.{CleanerCall}
 use Rattle.lfs_model.specs.declared.journal.CleanerAnswer.{CleanerAnswer}
 use Rattle.lfs_model.specs.declared.journal.CleanerAnswer.TheVariants.{Refused, Denied, Fault, Ifile, Infos, Bmapv}
-use Rattle.lfs_model.specs.declared.journal.CleanerAnswer.TheVariants.{Marked, Cleaned}
+use Rattle.lfs_model.specs.declared.journal.CleanerAnswer.TheVariants.{Marked, Cleaned, Gained}
 use Rattle.lfs_model.specs.declared.journal.Entry.{Entry}
 use Rattle.lfs_model.specs.Runs.{kept_cleaning}
 use Rattle.lfs_volume.specs.Cleanings.{CleansOnly}
@@ -23,6 +23,7 @@ cleans_shape (Ifile bytes) old new follows = follows.shape
 cleans_shape (Infos infos) old new follows = follows.shape
 cleans_shape (Bmapv infos) old new follows = follows.shape
 cleans_shape (Marked count) old new follows = follows.shape
+cleans_shape Gained old new follows = follows.shape
 
 module _ {F : Type 0} (state : F → StoreState) where
   pub goes_on_none : (old new : Seen F) → new ≡ old → GoesOn state old new

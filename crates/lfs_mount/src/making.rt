@@ -51,6 +51,7 @@ fn push_within<T: Drop>(items: &mut Vec<T>, item: T)
 {
     match items.push(item) {
         Ok(()) => (),
+        // Never: there is room, as is required.
         Err(_) => unreachable!(),
     }
 }

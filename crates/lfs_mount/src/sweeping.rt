@@ -21,7 +21,7 @@ const MORE: u32 = 5;
 const SHARE: u32 = 64;
 
 /// The most segments that become clean without a pass.
-const SWEPT: u32 = 64;
+const SWEPT: u32 = 128;
 
 /// How few clean segments call for the cleaner, of so many.
 pub(crate) fn few_of(segments: u32) -> u32 {
@@ -57,7 +57,7 @@ impl<F: CleanedStore + Drop> Mount<F> {
     }
 
     #[tactic(auto, using(crate::proofs::TendingLemmas::cleaned_goes, crate::proofs::TendingLemmas::goes_on_again))]
-    /// Makes dirty segments clean that have no live bytes, at most 64. No file changes.
+    /// Makes dirty segments clean that have no live bytes, at most 128. No file changes.
     fn sweep(&mut self)
         ensures content { (F.state self.new.tree.volume.store).content
             ≡ (F.state self.old.tree.volume.store).content }
@@ -86,9 +86,24 @@ impl<F: CleanedStore + Drop> Mount<F> {
         }
     }
 
-    #[tactic(auto, using(crate::proofs::TendingLemmas::goes_on_none))]
-    /// Makes a pass of the cleaner where few segments are clean. Whether more are clean then. No
-    /// file changes.
+    #[tactic(auto, using(crate::proofs::TendingLemmas::cleaned_goes))]
+    /// Has a segment cleaned where that gains room. No file changes.
+    fn gain_room(&mut self)
+        ensures content { (F.state self.new.tree.volume.store).content
+            ≡ (F.state self.old.tree.volume.store).content }
+        ensures level { self.new.tree.volume.level ≡ self.old.tree.volume.level }
+        ensures journal { GoesOn F.state self.old.tree.volume self.new.tree.volume }
+        ensures nodes { self.new.tree.nodes ≡ self.old.tree.nodes }
+        ensures beside { self.new.beside ≡ self.old.beside }
+        ensures sizes { self.new.sizes ≡ self.old.sizes }
+    {
+        let cleaner = superuser();
+        let _ = self.tree.volume.clean(CLEANER, &cleaner, CleanerCall::Gain);
+    }
+
+    #[tactic(auto, using(crate::proofs::TendingLemmas::goes_on_again, crate::proofs::TendingLemmas::goes_on_none))]
+    /// Makes a pass of the cleaner where few segments are clean; where no more are clean behind it,
+    /// room is looked for by one more call. Whether more are clean then. No file changes.
     fn gain(&mut self) -> bool
         ensures content { (F.state self.new.tree.volume.store).content
             ≡ (F.state self.old.tree.volume.store).content }
@@ -103,6 +118,10 @@ impl<F: CleanedStore + Drop> Mount<F> {
             return false;
         }
         self.pass();
+        if self.tree.volume.clean_segments() > before {
+            return true;
+        }
+        self.gain_room();
         self.tree.volume.clean_segments() > before
     }
 

@@ -27,7 +27,7 @@ pub fn run_cleaner<S: Sizes<F>, R: Wait, F: CleanedStore + Drop, G: Gate>(
     }
 }
 
-/// Makes the calls of one pass.
+/// Makes the calls of one pass; where it ended in a fault, room is looked for by one more.
 fn run_pass<S: Sizes<F>, R: Wait, F: CleanedStore + Drop, G: Gate>(
     run: &Run<'_, R, G>,
     volume: &Mutex<Kept<S, F>>,
@@ -38,6 +38,9 @@ fn run_pass<S: Sizes<F>, R: Wait, F: CleanedStore + Drop, G: Gate>(
     while let Some(call) = pass.next(last.as_ref()) {
         let answer = turns.pass(run.gate, || clean(run, volume, call));
         last = Some(answer);
+    }
+    if let Some(CleanerAnswer::Fault(_)) = last {
+        turns.pass(run.gate, || clean(run, volume, CleanerCall::Gain));
     }
 }
 

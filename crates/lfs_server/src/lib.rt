@@ -20,5 +20,4 @@ mod telling;
 pub mod unserved;
 
 pub use lfs_cleaner::pass;
-pub use lfs_settle::transcripts;
 pub use lfs_types::script;
