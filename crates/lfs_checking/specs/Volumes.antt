@@ -1,6 +1,5 @@
 -- Images of volumes, and what is wrong with bytes that are the image of none.
-use Rattle.std.specs.Prelude.{◌≡◌, ◌≢◌, ℕ, zero, suc, List, ◌++◌, Option, IfSome, codes}
-use Rattle.std.specs.Io.KnownBytes.{Appends}
+use Rattle.std.specs.Prelude.{◌≡◌, ◌≢◌, ℕ, zero, suc, List, ◌++◌, codes}
 use Rattle.lfs_types.specs.declared.level.Level.{Level}
 use Rattle.lfs_log.specs.Parts.{LogParts}
 use Rattle.lfs_parts.specs.Files.{content_of}
@@ -59,8 +58,3 @@ pub record IsFaulty (bytes : List ℕ) : Type 0 where
 abbrev pub IsVerdict : List ℕ → ℕ → List ℕ → Type 0
 IsVerdict bytes zero text = IsTold bytes text
 IsVerdict bytes (suc n) text = (n ≡ 0) × IsFaulty bytes
-
--- what a reader had, where that is known, has a verdict of this status, whose text was written
-abbrev pub IsChecked : Option (List ℕ) → Option (List ℕ) → Option (List ℕ) → ℕ → Type 0
-IsChecked known before after status = IfSome known (λ bytes. (text : List ℕ) × IsVerdict bytes status text
-    × Appends before after text)

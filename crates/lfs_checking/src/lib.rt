@@ -5,7 +5,6 @@
 pub mod fault;
 pub mod fresh;
 pub mod keeping;
-pub mod program;
 pub mod reading;
 pub mod saving;
 pub mod standing;
