@@ -9,7 +9,6 @@ pub mod run;
 pub mod threads;
 pub mod undone;
 
-pub use lfs_io::tell;
 pub use lfs_print::{print, report};
 pub use lfs_script::fault::ScriptFault;
 pub use lfs_script::{plan, script, split};

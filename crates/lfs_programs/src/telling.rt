@@ -2,7 +2,7 @@
 
 use crate::server::NAME;
 use lfs_audit::fault::{RunFault, ThreadsFault};
-use lfs_audit::tell::tell;
+use lfs_io::tell::tell;
 use lfs_script::fault::{FaultKind, ScriptFault};
 use lfs_script::place::push_place;
 use std::alloc::{AllocError, Global};

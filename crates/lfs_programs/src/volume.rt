@@ -75,6 +75,7 @@ fn laid_out<S: OverLog + Drop>(
 {
     let store = fresh_store(alloc, options.params, options.serials)?;
     let Some(store) = S::over_log(store) else {
+        // Never: by `opens` of `OverLog`.
         unreachable!()
     };
     let volume = Volume::new(alloc, store, options.params.journal)?;
