@@ -19,7 +19,7 @@ use lfs_server::gate::Gate;
 use lfs_server::live::{Client, Live, Stopped, serve_clients};
 use lfs_server::live_session::Session;
 use lfs_server::serving::ServeFault;
-use lfs_server::transcripts::Transcript;
+use lfs_settle::transcripts::Transcript;
 use lfs_types::answer::Answer;
 use lfs_types::cred::Cred;
 use lfs_types::store::Params;

@@ -16,7 +16,7 @@ mod volume;
 use crate::tests::expect_eq;
 use lfs_audit::fault::ThreadsFault;
 use lfs_audit::run::run_script;
-use lfs_audit::tell::tell;
+use lfs_io::tell::tell;
 use lfs_types::store::Params;
 use std::alloc::Global;
 use std::process::Abort;

@@ -66,6 +66,7 @@ impl CleanedStore for Unswept {
       gives_addresses = λ _ _ _. ⊤;
       writes_again = λ _ _ _ _. ⊤;
       reclaims = λ _ _ _ _. ⊤;
+      gains = λ _ _ _. ⊤;
     } };
 
     fn ifile_bytes(&self) -> Result<Vec<u8>, AllocError> {
@@ -84,5 +85,9 @@ impl CleanedStore for Unswept {
 
     fn segclean(&mut self, _segment: u32) -> Result<(), CleanFault> {
         Err(CleanFault::NotDirty)
+    }
+
+    fn gain_room(&mut self) -> Result<(), CleanFault> {
+        Err(CleanFault::NotGainful)
     }
 }

@@ -2,7 +2,7 @@
 
 use crate::tests::expect_eq;
 use lfs_audit::fault::{RunFault, ThreadsFault};
-use lfs_audit::tell::end;
+use lfs_io::tell::end;
 
 /// How runs end, and the status and the text of each.
 const ENDS: [(Result<(), ThreadsFault>, u8, &[u8]); 2] = [

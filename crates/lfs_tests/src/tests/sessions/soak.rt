@@ -5,11 +5,11 @@ use super::watch::Watch;
 use super::{CLEANER, expect_run_settled, serve_log};
 use crate::tests::{SMALL, calls, expect_answers, expect_eq, push, push_all};
 use lfs_logstore::LogStore;
+use lfs_model::asking::CleanerAct;
 use lfs_server::gate::Gate;
 use lfs_server::serving::Closed;
 use lfs_types::answer::Answer;
 use lfs_types::store::Params;
-use lfs_volume::asking::CleanerAct;
 use lfs_volume::journal::{CleanerOutcome, Entry, Event};
 use std::alloc::Global;
 use std::process::Abort;
@@ -176,7 +176,7 @@ pub fn is_cleaned_between(journal: &[Entry]) -> bool {
         match &entry.event {
             Event::User(_, _) if is_cleaned => return true,
             Event::User(_, _) => is_begun = is_begun || entry.session > 0,
-            Event::Cleaner(CleanerAct::Segclean(_), CleanerOutcome::Done(_)) => {
+            Event::Cleaner(CleanerAct::Segclean(_) | CleanerAct::Gain, CleanerOutcome::Done(_)) => {
                 is_cleaned = is_begun
             }
             Event::Cleaner(_, _) => {}

@@ -3,10 +3,10 @@
 use super::run;
 use crate::tests::{expect_eq, fresh, push, push_all, repeated};
 use lfs_logstore::LogStore;
+use lfs_model::asking::CleanerAct;
 use lfs_types::cleaner::{BlockInfo, CleanFault, CleanerCall, InfoList, MarkList};
 use lfs_types::cred::Cred;
 use lfs_types::store::Params;
-use lfs_volume::asking::CleanerAct;
 use lfs_volume::journal::{CleanerAnswer, CleanerOutcome, Entry, Event};
 use lfs_volume::volume::Volume;
 use std::alloc::Global;
