@@ -17,7 +17,7 @@ import sys
 WHO = re.compile(r"([0-8]) as (\d+) [\d,]+( init)?")
 CHANGES = {"create", "mkdir", "write", "length", "chmod", "chown", "chflags", "rename"}
 # The cleaner's calls, of which a denial tells no rule.
-CLEANING = {"ifile", "infos", "bmapv", "markv", "segclean"}
+CLEANING = {"ifile", "infos", "bmapv", "markv", "segclean", "gain"}
 # Rules that say that a name is not there, or no directory: no permission.
 MISSING = {"N1", "N2"}
 

@@ -14,7 +14,7 @@ from pathlib import Path
 
 DATA = Path(__file__).resolve().parent.parent / "crates" / "lfs_script_tests" / "data"
 ENTRY = re.compile(r"\d+ as \d+ .* \| .* \| .*")
-CLEANING = re.compile(r" \| (ifile|infos|bmapv|markv|segclean)\b")
+CLEANING = re.compile(r" \| (ifile|infos|bmapv|markv|segclean|gain)\b")
 SECONDS = 120
 
 

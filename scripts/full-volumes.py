@@ -8,7 +8,7 @@ few, also past the twelfth, are made and written, cut by a byte or a block, give
 of the cleaner between. In a shape `locked_..` all this is a user's, and then files and directories are locked, by him or by
 the superuser. Behind it stand
 
-- up to twelve rounds, each of an Unlink of each file, an Rmdir of each directory and a pass: they must leave an empty root;
+- up to twelve rounds, each of an Unlink of each file, an Rmdir of each directory, a pass and a gain: they must leave an empty root;
   where files are locked, up to three rounds of the superuser's, in which all flags are taken away first;
 - a fill: blocks are written until they are refused. As many must be served as in a volume in which the same names were
   made and removed, but for those of one segment, since the log may end anywhere in one.
@@ -43,6 +43,8 @@ DIRECT = 12
 ROUND_BYTES = 40_000
 # The blocks of a segment behind its first summary.
 SEGMENT = 63
+# The lines of the cleaner's in a round.
+CLEANING = {"pass", "gain"}
 # What PROGRAM is told besides the sizes of a run.
 OPTIONS = []
 
@@ -528,14 +530,14 @@ SHAPES += [with_locks(shape) for shape in SHAPES] + [big_files_locked, cut_by_bl
 
 
 def emptying(run):
-    """A round: each file and each directory is removed, and a pass is made."""
+    """A round: each file and each directory is removed, a pass is made, and room is gained where a segment is worth it."""
     lines = []
     if run.locked:
         lines += ["as 0 0", "unlink /own"]
         lines += [f"chflags {path} 0" for path in ["/", "/own"] + run.directories + list(dict.fromkeys(run.files))]
     lines += [f"unlink {path}" for path in dict.fromkeys(run.files)] + ["unlink /own"] * run.locked
     lines += [f"rmdir {path}" for path in run.directories]
-    return lines + ["pass", "list /"]
+    return lines + ["pass", "gain", "list /"]
 
 
 def filling(run):
@@ -568,7 +570,7 @@ def told(program, run, lines):
 
 def calls(lines):
     """The lines that are users' calls."""
-    return [line for line in lines if line != "pass" and not line.startswith("as ")]
+    return [line for line in lines if line not in CLEANING and not line.startswith("as ")]
 
 
 def served(answers):
@@ -662,7 +664,7 @@ def space_told(printed):
 def hindered(program, run):
     """How many calls of an administrator are refused who empties a volume behind three passes, and syncs each call, and how
     few blocks the passes gain: the more and the fewer, the nearer to a wedge."""
-    probe = [line for call in emptying(run) if call != "pass" for line in (call, "sync")]
+    probe = [line for call in emptying(run) if call not in CLEANING for line in (call, "sync")]
     printed = printed_by(program, run, run.lines + ["as 0 0", ".map", "pass", "pass", "pass", ".map"] + probe)
     answers = users_of(printed)
     before, behind = space_told(printed)

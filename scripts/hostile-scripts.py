@@ -47,7 +47,7 @@ SEED_LINES = [
     "create /a 0644", "mkdir /d 0755", "write /a at 0 616263", "write /a end 64", "read /a 0 10", "list /", "list /d",
     "stat /a", "stat /", "length /a 4096", "length /a 71680", "unlink /a", "rmdir /d", "rename /a /b", "rename /d /d/e",
     "chmod /a 0600", "chown /a 5 5", "chflags /a 2", "chflags /a 00020000", "level 1", "level -1", "sync", "ifile",
-    "infos 0", "infos 1", "bmapv", "bmapv 4:1:0:0", "markv", "markv 4:1:0:9", "segclean 0", "segclean 1", "pass",
+    "infos 0", "infos 1", "bmapv", "bmapv 4:1:0:0", "markv", "markv 4:1:0:9", "segclean 0", "segclean 1", "gain", "pass",
     "markv 4:1:0:1 4:1:0:2 4:1:0:3 4:1:0:4 4:1:0:5 4:1:0:6 4:1:0:7 4:1:0:8",
     "bmapv 2:1:4294967295:2 4:1:2147483648:0 4294967295:4294967295:4294967295:4294967295",
 ]

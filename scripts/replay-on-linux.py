@@ -33,7 +33,7 @@ STORED = Path(__file__).resolve().parent.parent / "crates" / "lfs_script_tests" 
 MOST_BYTES = 8_460_288
 GET_FLAGS, SET_FLAGS = 0x80086601, 0x40086602
 IMMUTABLE, APPEND = 0x10, 0x20
-CLEANER = {"ifile", "infos", "bmapv", "markv", "segclean", "pass"}
+CLEANER = {"ifile", "infos", "bmapv", "markv", "segclean", "gain", "pass"}
 # a rule with each error, for a journal's lines
 RULE = {"EACCES": "S1", "ENOENT": "N2", "EEXIST": "N3", "ENOTDIR": "N1", "EISDIR": "K1", "ENOTEMPTY": "K2", "EBUSY": "K3",
         "EINVAL": "K4", "EPERM": "F1", "EFBIG": "Z1"}
