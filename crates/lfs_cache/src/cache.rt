@@ -79,6 +79,7 @@ fn next_frame(frames: &Frames) -> u32
             Some(frame) => frame,
             None => match frames.oldest(Queue::Lru) {
                 Some(frame) => frame,
+                // Never: a frame can be taken, as is required.
                 None => unreachable!(),
             },
         },

@@ -56,6 +56,7 @@ fn free_place(places: &[Option<u32>], start: usize) -> usize
             return place;
         }
     }
+    // Never: a free place is left, as is required.
     unreachable!()
 }
 

@@ -25,6 +25,7 @@ pub(crate) fn name_first(names: &mut Vec<Key>, key: Key)
 {
     match names.insert(0, key) {
         Ok(()) => {}
+        // Never: there is room, as is required.
         Err(_) => unreachable!(),
     }
 }

@@ -30,6 +30,7 @@ pub fn superuser() -> Cred
 {
     match Cred::new(0, &[0], false) {
         Ok(cred) => cred,
+        // Never: one group is no more than 16.
         Err(_) => unreachable!(),
     }
 }

@@ -87,6 +87,7 @@ fn look<F: FileStore>(tree: &Tree<F>, number: u32) -> ShownRow
     ensures { InWorld (F.state tree.now) (λ w. result ≡ shown_row w.rows number) }
 {
     let Some(attrs) = tree.attrs(number) else {
+        // Never: the number is in use, as is required.
         unreachable!()
     };
     let size = shown_size(&attrs);
@@ -102,6 +103,7 @@ fn child_of<F: FileStore>(tree: &mut Tree<F>, dir: u32, name: &Name) -> Option<u
     ensures state { F.state tree.new ≡ F.state tree.old }
 {
     let Some(attrs) = tree.attrs(dir) else {
+        // Never: the number is in use, as is required.
         unreachable!()
     };
     if !attrs.kind.is_directory() {
@@ -119,6 +121,7 @@ fn is_childless<F: FileStore>(tree: &mut Tree<F>, number: u32) -> bool
     ensures state { F.state tree.new ≡ F.state tree.old }
 {
     let Some(attrs) = tree.attrs(number) else {
+        // Never: the number is in use, as is required.
         unreachable!()
     };
     if !attrs.kind.is_directory() {

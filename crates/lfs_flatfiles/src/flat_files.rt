@@ -260,6 +260,7 @@ fn root_attrs() -> Attrs
     ensures { result ≡ attrs_of fresh_root }
 {
     let Some(mode) = Mode::new(0o755) else {
+        // Never: the number is a mode.
         unreachable!()
     };
     Attrs {

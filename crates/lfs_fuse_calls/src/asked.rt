@@ -21,6 +21,7 @@ fn mode_of(permissions: u16) -> Mode
 {
     match Mode::new(permissions % 0o10000) {
         Some(mode) => mode,
+        // Never: it is below 010000.
         None => unreachable!(),
     }
 }
@@ -44,6 +45,7 @@ fn lent_mode(permissions: u16) -> Mode
     let bits = permissions % 0o10000;
     match Mode::new(bits + lacking(bits)) {
         Some(mode) => mode,
+        // Never: by `room` of `lacking` it is below 010000.
         None => unreachable!(),
     }
 }

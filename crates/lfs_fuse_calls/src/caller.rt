@@ -27,6 +27,7 @@ pub fn caller(header: &Header, others: &[u32]) -> Cred
     groups[1..count].copy_from_slice(others);
     match Cred::new(header.uid, &groups[..count], false) {
         Ok(cred) => cred,
+        // Never: there are at most 16 groups.
         Err(_) => unreachable!(),
     }
 }

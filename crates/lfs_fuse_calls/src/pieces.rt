@@ -92,6 +92,7 @@ pub(crate) fn payload(alloc: Global, bytes: &[u8]) -> Result<Payload, AllocError
     let content = Vec::from_slice(alloc, bytes)?;
     match Payload::new(content) {
         Ok(payload) => Ok(payload),
+        // Never: the piece is there, as is required.
         Err(_) => unreachable!(),
     }
 }

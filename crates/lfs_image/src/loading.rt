@@ -121,6 +121,7 @@ fn read_log(alloc: Global, head: &Head, bytes: &[u8]) -> Result<Log, ImageFault>
     let count = head.segments * SEGMENT_BLOCKS;
     let blocks = read_blocks(alloc, &bytes[BLOCK_SIZE..], count)?;
     let Some(segments) = Segments::over_as(blocks, head.active, head.used, head.serial) else {
+        // Never: by `range` of the head.
         unreachable!()
     };
     let ifile = read_ifile(alloc, BLOCK_SIZE + BLOCK_SIZE * count as usize, bytes)?;

@@ -99,6 +99,7 @@ fn fill_up(bytes: &mut Vec<u8>, len: usize)
 {
     if bytes.len() < len {
         let Ok(()) = bytes.resize(len, 0) else {
+            // Never: the room is there, as is required.
             unreachable!()
         };
     }

@@ -74,6 +74,7 @@ impl Parts {
         }
         match self.record(ino) {
             Some(inode) => inode,
+            // Never: the number is in use, as is required.
             None => unreachable!(),
         }
     }

@@ -91,6 +91,7 @@ fn replace_record(records: &mut VecDeque<Inode>, changed: Inode)
         .position(|inode| inode.number == changed.number);
     match place {
         Some(place) => records[place] = changed,
+        // Never: one of its number waits, as is required.
         None => unreachable!(),
     }
 }
@@ -188,6 +189,7 @@ impl Records {
                 self.waits[inode.number as usize] = false;
                 inode
             }
+            // Never: there is one, as is required.
             None => unreachable!(),
         }
     }

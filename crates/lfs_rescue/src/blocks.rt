@@ -52,6 +52,7 @@ fn memory_of(alloc: Global, bytes: &[u8]) -> Result<Segments, RecoverFault>
     let segments = segments_in(bytes)?;
     let blocks = read_blocks(alloc, bytes, segments * SEGMENT_BLOCKS)?;
     let Some(memory) = Segments::over(blocks, 0, 1) else {
+        // Never: by `segments_in`.
         unreachable!()
     };
     Ok(memory)

@@ -94,6 +94,7 @@ fn reach(blocks: &mut Vec<Block>, end: usize)
 {
     if blocks.len() < end {
         let Ok(()) = blocks.resize(end, ZERO_BLOCK) else {
+            // Never: the room is there, as is required.
             unreachable!()
         };
     }

@@ -37,6 +37,7 @@ fn whole_of<'a>(index: u32, off: u64, bytes: &'a [u8]) -> Option<&'a Block>
     let from = (first - off) as usize;
     match <&Block>::try_from(&bytes[from..from + BLOCK_SIZE]) {
         Ok(block) => Some(block),
+        // Never: all 512 bytes are there, by the tests above.
         Err(_) => unreachable!(),
     }
 }

@@ -144,6 +144,7 @@ fn empty_write(alloc: Global, path: Path, place: Place) -> Request
     ensures { result ≡ requests.Write path place [] }
 {
     let Ok(bytes) = Payload::new(Vec::new(alloc)) else {
+        // Never: no bytes are few enough.
         unreachable!()
     };
     Request::Write { path, place, bytes }
@@ -154,6 +155,7 @@ fn no_mode() -> Mode
     ensures { result ≡ 0 }
 {
     let Some(mode) = Mode::new(0) else {
+        // Never: the number is a mode.
         unreachable!()
     };
     mode

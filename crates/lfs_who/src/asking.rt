@@ -212,6 +212,7 @@ fn no_row() -> ShownRow
     ensures { result ≡ no_row }
 {
     let Some(mode) = Mode::new(0o755) else {
+        // Never: the number is a mode.
         unreachable!()
     };
     let attrs = Attrs {

@@ -168,6 +168,7 @@ pub(crate) fn alone(uid: u32, gid: u32) -> Cred
     ensures { result ≡ alone uid gid }
 {
     let Ok(cred) = Cred::new(uid, &[gid], false) else {
+        // Never: one group is no more than 16.
         unreachable!()
     };
     cred

@@ -157,8 +157,10 @@ pub(crate) fn paths_of<F: FileStore>(
     ensures state { F.state tree.new ≡ F.state tree.old }
 {
     let Ok(superuser) = Cred::new(0, &[0], false) else {
+        // Never: one group is no more than 16.
         unreachable!()
     };
+    // By their clauses each is a path.
     let _first = first_of(request);
     let _second = second_of(request);
     let paths = explain(alloc, tree, level, &superuser, request)?;

@@ -41,6 +41,7 @@ fn payload_of(bytes: Vec<u8>) -> Payload
 {
     match Payload::new(bytes) {
         Ok(payload) => payload,
+        // Never: they are few enough, as is required.
         Err(_) => unreachable!(),
     }
 }
@@ -141,6 +142,7 @@ pub fn flags(word: &str) -> Result<FileFlags, FaultKind>
     }
     match u32::from_str_radix(word, 16) {
         Ok(bits) => FileFlags::new(bits).ok_or(FaultKind::Range),
+        // Never: by `is_flags` they are digits.
         Err(_) => unreachable!(),
     }
 }
