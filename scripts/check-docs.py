@@ -4,11 +4,12 @@
 A name between backticks that looks like a crate, a file, an item, a clause, a wrong body, a script or a test must stand
 in the repository; where the text says of which crate it is, in that crate. The crates of crates.txt, README's table and
 the map of docs/ARCHITECTURE.md must be the same, and a crate must lead to what it uses. Each wrong body must be named
-and replace a text that stands once, and each one that is named be there. Links must lead somewhere, no line may name a place of one machine, the tables of
-docs/TRUST.md must be those that scripts/reading-list.py makes, docs/SPEC.md is what scripts/spec-page.py makes, the
-manual pages have the options that the programs take, the tutorial shows its scripts as the gate runs them, and README.md
-with the pages of docs/ that are written by hand stays under 160 KiB. No line of a definition or a proof has above 150
-columns (scripts/wrap-proofs.py).
+and replace a text that stands once, and each one that is named be there. Links must lead somewhere, no line may name a
+place of one machine, the tables of docs/TRUST.md must be those that scripts/reading-list.py makes, docs/SPEC.md is what
+scripts/spec-page.py makes, the manual pages have the options that the programs take, the tutorial shows its scripts as
+the gate runs them, the counts of docs/TESTING.md and docs/GATE.md are those that scripts/count-tests.py makes, and
+README.md with the pages of docs/ that are written by hand stays under 160 KiB. No line of a definition or a proof has
+above 150 columns (scripts/wrap-proofs.py).
 
 Prints FILE:LINE: WHAT for each problem and ends with status 1, else one line.
 """
@@ -223,7 +224,7 @@ def check_edits(told):
             if cells is None:
                 column = None
             elif column is None:
-                column = cells.index("Refused bodies") if "Refused bodies" in cells else -1
+                column = cells.index("Wrong bodies") if "Wrong bodies" in cells else -1
             elif 0 <= column < len(cells):
                 for found in CODE.finditer(cells[column]):
                     where = crate_said(cells[column], found.start(), found.end()) or crate
@@ -329,6 +330,24 @@ def check_words(told):
         told(path, 1, f"{word} is no word of a line")
 
 
+def check_counts(told):
+    """The counts of docs/TESTING.md and docs/GATE.md are those that scripts/count-tests.py makes."""
+    ran = subprocess.run([sys.executable, TOP / "scripts/count-tests.py"], capture_output=True, text=True, check=True)
+    numbers = lambda form, text: [int(found.replace(",", "")) for found in re.findall(form, text, re.M)]
+    bodies = numbers(r"^(?:wrong bodies|  .*): (\d+)$", ran.stdout)
+    tests = sum(numbers(r"^tests of \w+: (\d+)$", ran.stdout))
+    scripts = numbers(r"\d+", next(line for line in ran.stdout.splitlines() if line.startswith("stored scripts")))
+    wanted = {"| wrong bodies,": bodies, "| tests |": [tests], "| stored scripts": scripts}
+    page = TOP / "docs/TESTING.md"
+    for number, line in enumerate(page.read_text(encoding="utf-8").splitlines(), 1):
+        for head, made in wanted.items():
+            if line.startswith(head) and numbers(r"\d[\d,]*", line)[:len(made)] != made:
+                told(page, number, f"scripts/count-tests.py counts {', '.join(map(str, made))}")
+    page = TOP / "docs/GATE.md"
+    if numbers(r"there are (\d+) now", page.read_text(encoding="utf-8").replace("\n", " ")) != bodies[:1]:
+        told(page, 1, f"there are {bodies[0]} wrong bodies now")
+
+
 def main():
     problems = []
 
@@ -341,6 +360,7 @@ def main():
     check_crates(told)
     check_tutorial(told)
     check_words(told)
+    check_counts(told)
     written = [TOP / "README.md", *(path for path in (TOP / "docs").glob("*.md") if path.name != "SPEC.md")]
     size = sum(path.stat().st_size for path in written)
     if size >= MOST_BYTES:

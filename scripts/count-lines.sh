@@ -1,5 +1,5 @@
 #!/usr/bin/env bash
-# Prints a row for each crate: lines of code, tests, specs and proofs, and the number of must-fail edits.
+# Prints a row for each crate: lines of code, tests, specs and proofs, and the number of wrong bodies.
 set -euo pipefail
 cd "$(dirname "$0")/.."
 
