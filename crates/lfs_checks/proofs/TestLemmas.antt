@@ -1,4 +1,7 @@
--- Tests that are asked one after the other.
+-- Tests that are asked one after the other: `ask_stops`, `ask_passes` and `ask_ends` for the judges of this crate and
+-- of lfs_calls. The code asks a test and goes on or hands its denial back; the rules are a conditional for each test,
+-- the next within it. So a test that wasn't met is the answer, and one that was is left out of it; the last is the
+-- answer itself. `none_denies` and `some_denies` say so of a rule among those that deny.
 use Rattle.std.proofs.Common.{◌≡◌, ℕ, Bool, true, false, cond, [], ◌∷◌, None, Some, Result, Ok, Err, refl, sym, ap, ◌∙◌}
 use Rattle.std.proofs.lemmas.Bool.{cond-true, cond-false}
 use Rattle.lfs_types.specs.declared.rule.Denial.{Denial}

@@ -1,4 +1,7 @@
--- The tree after the file of a row was changed, and not its place or kind.
+-- The tree after the file of a row was changed, and not its place or kind: `IsTree-changed`. The row has its parent,
+-- its name and its kind still, so each row has the same ancestors (`ancestors_same`), each parent is a directory still,
+-- and the root is the root, be it the changed row or not. What is asked of files is asked of the new one: a directory's
+-- has no bytes.
 use Rattle.std.proofs.Common.{◌≡◌, ◌≢◌, ◌≤◌, ℕ, zero, suc, [], Some, refl, sym, ap, subst, ◌∙◌, ⊎_elim}
 use Rattle.std.proofs.lemmas.Bool.{cases_eq}
 use Rattle.std.specs.Prelude.{IsSomeAnd}

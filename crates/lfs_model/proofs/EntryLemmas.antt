@@ -1,4 +1,6 @@
--- The users' entries alone are legal, and lead to the same world.
+-- The users' entries alone are legal, and lead to the same world: `users_alone_law`. The entries that are left out are
+-- the cleaner's, Syncs and refusals, which change nothing (`left_out`); so each entry that is kept is made in the world
+-- in which it was made.
 use Rattle.std.proofs.Common.{◌≡◌, ℕ, List, [], ◌∷◌, ◌++◌, refl}
 use Rattle.lfs_types.specs.Caller.{Caller}
 use Rattle.lfs_types.specs.Tree.{World}

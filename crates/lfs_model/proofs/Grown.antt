@@ -1,4 +1,7 @@
--- The tree and the store after a row was made.
+-- The tree after a row was made: `IsTree-grown`. The number was unused, so each row of before is there still and has
+-- the same ancestors (`climb`), and the new row's are its parent's, one step further (`climb_new`). Its parent is a
+-- directory, and no row had its name there, so names stay unique; the number isn't the root's and is one that a file
+-- may have.
 use Rattle.std.proofs.Common.{◌≡◌, ◌≢◌, ◌≤◌, ℕ, zero, suc, [], None, Some, sym, ap, subst, ◌∙◌, ⊎_elim}
 use Rattle.std.proofs.lemmas.Bool.{cases_eq}
 use Rattle.std.specs.Prelude.{IsSomeAnd}

@@ -1,4 +1,6 @@
--- The securelevel after a call: only the call that sets it changes it.
+-- The securelevel after a call: only the call that sets it changes it (`level_after`). Each other call changes rows, by
+-- putting a file, putting a row elsewhere, or inserting and removing one, and each of these builds the new world out of
+-- the old one by its rows alone; so it is a case for each call, and for a row that is there or not.
 use Rattle.std.proofs.Common.{◌≡◌, ℕ, ◌==◌, Bool, true, false, cond, List, [], ◌∷◌, None, Some, refl}
 use Rattle.std.specs.Prelude.{Option}
 use Rattle.std.specs.FinMap as map

@@ -1,4 +1,7 @@
--- The number of a new row: no row has it.
+-- The number of a new row: no row has it (`new_unused`), and it is not the root's (`new_below`). The search goes up
+-- from 4 and takes the first number without a row. So either what it found is unused, or each number that it looked at
+-- is used (`Found`, by induction on how many are left to look at); where not all are used it is the former. It never
+-- goes down, so it finds no less than 4, which is more than the root's number.
 use Rattle.std.proofs.Common.{◌≡◌, ◌⊎◌, ℕ, zero, suc, ◌+◌, ◌<◌, ◌≤◌, cond, true, false, Option, None, Some, inl, inr}
 use Rattle.std.proofs.Common.{refl, sym, ap, subst, ◌∙◌, ⊎_elim, arith}
 use Rattle.std.proofs.lemmas.Bool.{cases_eq}

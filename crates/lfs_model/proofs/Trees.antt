@@ -1,4 +1,6 @@
--- What holds of each tree of rows.
+-- What holds of each tree of rows: `root_above`, `not_in_itself` and `no_parent`. Each row's ancestors come to the
+-- root, and the root hangs in itself; a row that hangs in itself has no other ancestor, so there is none but the root
+-- (`stuck`). A row's parent is a directory, so nothing hangs in what is none.
 use Rattle.std.proofs.Common.{◌≡◌, ◌≢◌, ℕ, zero, suc, true, false, List, Option, Some, refl, sym, ap, ◌∙◌}
 use Rattle.std.specs.FinMap as map
 use Rattle.lfs_types.specs.Kinds.{is_directory_kind}

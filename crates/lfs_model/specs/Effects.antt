@@ -33,11 +33,11 @@ abbrev pub with_file : Option Row → ℕ → (File → File) → World → Worl
 with_file None n change w = w
 with_file (Some r) n change w = record w { rows = map.insert w.rows n (record r { file = change r.file }) }
 
--- the mode of a file after bytes were written to it: a caller who isn't the superuser clears the set-id bits
+-- write(2): the mode of a file after bytes were written to it: a caller who isn't the superuser clears the set-id bits
 abbrev pub mode_after : Caller → ℕ → ℕ
 mode_after caller mode = if caller.uid == 0 then mode else set_id_cleared mode
 
--- a file with bytes written to it
+-- write(2): a file with bytes written to it; what lies between its old end and them is zeros
 abbrev pub written : Caller → Place → List ℕ → File → File
 written caller place bytes f = record f {
   mode = mode_after caller f.mode;
@@ -51,7 +51,7 @@ after_write w caller path place (b ∷ bs) =
     let n = reached w.rows root path in
     with_file (map.get w.rows n) n (written caller place (b ∷ bs)) w
 
--- a new file of a caller in a directory of this group
+-- open(2), mkdir(2): a new file belongs to who makes it, and to the group of its directory
 abbrev pub new_file : Caller → Kind → ℕ → ℕ → File
 new_file caller kind gid mode = record { kind = kind; uid = caller.uid; gid = gid; mode = mode; flags = 0; bytes = [] }
 
@@ -79,8 +79,8 @@ with_place (Some r) n parent name w = record w {
       map.insert w.rows n (record r { parent = parent; name = name });
 }
 
--- the world after a row got a place to which a name leads here: another row is taken away from it, and a row that has
--- it already stays
+-- rename(2): the world after a row got a place to which a name leads here: another row is taken away from it, and a row
+-- that has it already stays
 abbrev pub after_rename : World → ℕ → Option ℕ → ℕ → List ℕ → World
 after_rename w n None parent name = with_place (map.get w.rows n) n parent name w
 after_rename w n (Some m) parent name =
@@ -90,11 +90,11 @@ after_rename w n (Some m) parent name =
 abbrev pub with_change : World → List (List ℕ) → (File → File) → World
 with_change w path change = let n = reached w.rows root path in with_file (map.get w.rows n) n change w
 
--- a file of another length
+-- truncate(2): a file of another length, cut, or grown with zeros
 abbrev pub cut : Caller → ℕ → File → File
 cut caller len f = record f { mode = mode_after caller f.mode; bytes = resized f.bytes len }
 
--- a file of another owner and group
+-- chown(2): a file of another owner and group; its set-id bits go where another than user 0 does so
 abbrev pub given : Caller → ℕ → ℕ → File → File
 given caller uid gid f = record f { uid = uid; gid = gid; mode = mode_after caller f.mode }
 
@@ -118,7 +118,7 @@ effect numbers w caller (Chflags path flags) = with_change w path (λ f. record 
 effect numbers w caller (SetLevel level) = record w { level = level }
 effect numbers w caller Sync = w
 
--- the most bytes that a Read serves
+-- read(2): bytes up to the file's end; this project's profile: the most that a Read serves
 abbrev pub read_max : ℕ
 read_max = TRANSFER_BYTES
 
@@ -133,7 +133,7 @@ unfoldable pub in_byte_order : List (List ℕ) → List (List ℕ)
 in_byte_order [] = []
 in_byte_order (name ∷ names) = put_in_order name (in_byte_order names)
 
--- the names in a directory
+-- getdirentries(2): the names in a directory, without its own and its parent's; in byte order by this project's profile
 abbrev pub names_in : Rows → ℕ → List (List ℕ)
 names_in rows parent = lists.map (λ n. name_of (map.get rows n)) (children rows parent)
 

@@ -83,7 +83,9 @@ last [] = []
 last (name ∷ []) = name
 last (name ∷ second ∷ names) = last (second ∷ names)
 
--- the tests of a walk: at each component the directory so far, search in it, and the name
+-- The tests of a walk: at each component the directory so far, search in it, and the name. Each page of a call with a
+-- path says so: ENOTDIR where what leads on is no directory, EACCES where it may not be searched, ENOENT where there is
+-- no such name.
 abbrev pub walk : Rows → Caller → ℕ → ℕ → ℕ → List (List ℕ) → List Check
 walk rows caller path k at [] = []
 walk rows caller path k at (name ∷ names) =
@@ -123,14 +125,16 @@ searching_tests caller path dir k =
     ∷ asks (grants_of caller dir bits.Search) GrantsSearch path k
     ∷ []
 
--- the tests of a directory that gets a free name, at component k of the path of this index
+-- open(2), mkdir(2), rename(2): a name is made in a directory that may be written. chflags(2): nothing changes in an
+-- immutable one. So: the tests of a directory that gets a free name, at component k of the path of this index
 abbrev pub entering_tests : Caller → ℕ → Attrs → ℕ → List Check
 entering_tests caller path dir k =
     asks (not (is_immutable dir)) IsMutable path k
     ∷ asks (grants_of caller dir bits.Write) GrantsWrite path k
     ∷ []
 
--- the tests of the directory, at component k of the path, that gets a new row; its name may be free in it
+-- open(2) with O_CREAT and O_EXCL, mkdir(2): EEXIST where the name is there, EACCES where the directory may not be
+-- written. So: the tests of the directory, at component k of the path, that gets a new row; its name may be free in it
 abbrev pub making_tests : Caller → Bool → Attrs → ℕ → List Check
 making_tests caller free dir k =
     asks (is_directory_kind dir.kind) IsDirectory 0 k
@@ -149,8 +153,10 @@ making rows caller names =
     asks (not (length names == 0)) NameFree 0 0
     ∷ walk rows caller 0 0 root parents ++ making_tests caller free (attrs_at rows dir) (length parents)
 
--- the tests of a directory, at component k of the path of this index, and of what hangs in it, whose name is to be
--- taken away
+-- unlink(2), rmdir(2), rename(2): a name is taken from a directory that may be written. sticky(8): in a sticky one by
+-- the owner of it or of what is named, or by user 0. chflags(2): what is immutable or append-only keeps its name, and
+-- such a directory its names. So: the tests of a directory, at component k of the path of this index, and of what hangs
+-- in it, whose name is to be taken away
 abbrev pub removing_tests : Caller → ℕ → Attrs → Attrs → ℕ → List Check
 removing_tests caller path dir file k =
     asks (not (is_immutable dir)) IsMutable path k
@@ -169,24 +175,28 @@ removing rows caller names =
     asks (not (length names == 0)) IsNotRoot 0 0
     ∷ walk rows caller 0 0 root names ++ removing_tests caller 0 dir file (length (front names))
 
--- the test of what an Unlink removes
+-- unlink(2) of 4.4BSD: EPERM for a directory, unless the caller is user 0. In this profile nobody unlinks a directory,
+-- user 0 neither. So: the test of what an Unlink removes
 abbrev pub unlink_tests : Attrs → ℕ → List Check
 unlink_tests file k = asks (not (is_directory_kind file.kind)) IsNoDirectory 0 k ∷ []
 
--- the tests of what a Rmdir removes, which may be empty
+-- rmdir(2): ENOTDIR for a file, ENOTEMPTY where it has names besides its own and its parent's. So: the tests of what a
+-- Rmdir removes, which may be empty
 abbrev pub rmdir_tests : Bool → Attrs → ℕ → List Check
 rmdir_tests empty dir k =
     asks (is_directory_kind dir.kind) IsDirectory 0 k
     ∷ asks empty IsEmpty 0 k
     ∷ []
 
--- the test of a row and of the rows on the way to its new place
+-- rename(2): EINVAL where a directory would come beneath itself. So: the test of a row and of the rows on the way to its
+-- new place
 abbrev pub apart_test : Rows → ℕ → List (List ℕ) → Check
 apart_test rows moved names =
     let way = visited rows root (front names) in
     asks (not (list_any (λ n. n == moved) way)) IsNotBeneathItself 1 (position moved way)
 
--- the test of what is moved, which may stay in its directory
+-- rename(2): EACCES where a directory that gets another parent may not be written, as its '..' is. So: the test of what
+-- is moved, which may stay in its directory
 abbrev pub leaves_test : Caller → Bool → Attrs → ℕ → Check
 leaves_test caller stays file k =
     asks (not (is_directory_kind file.kind) || stays || grants_of caller file bits.Write) GrantsWrite 0 k
@@ -198,8 +208,9 @@ abbrev pub is_there : ℕ → Option ℕ → Bool
 is_there n None = false
 is_there n (Some m) = m == n
 
--- the tests of a row, at component k of the second path, that is to be replaced by a moved one: a file by a file, a
--- directory, which may be empty, by a directory
+-- rename(2): EISDIR where a file would replace a directory, ENOTDIR the other way, ENOTEMPTY where that directory has
+-- names. So: the tests of a row, at component k of the second path, that is to be replaced by a moved one: a file by a
+-- file, a directory, which may be empty, by a directory
 abbrev pub replaced_tests : Bool → Attrs → Attrs → ℕ → List Check
 replaced_tests empty moved there k =
     asks (not (is_directory_kind there.kind) || is_directory_kind moved.kind) IsNoDirectory 1 k
@@ -244,25 +255,27 @@ abbrev pub reaching : Rows → Caller → List (List ℕ) → (Attrs → ℕ →
 reaching rows caller path tests = walk rows caller 0 0 root path
     ++ tests (attrs_at rows (reached rows root path)) (length path)
 
--- no tests behind a walk
+-- stat(2): no permission is asked of the file itself. So: no tests behind a walk
 abbrev pub stat_tests : Attrs → ℕ → List Check
 stat_tests attrs k = []
 
--- the tests of reading a file's bytes
+-- read(2): EISDIR for a directory; open(2): EACCES where the file may not be read. So: the tests of reading its bytes
 abbrev pub read_tests : Caller → Attrs → ℕ → List Check
 read_tests caller attrs k =
     asks (not (is_directory_kind attrs.kind)) IsNoDirectory 0 k
     ∷ asks (grants_of caller attrs bits.Read) GrantsRead 0 k
     ∷ []
 
--- the tests of listing a directory
+-- getdirentries(2): of a directory that may be read. So: the tests of listing it
 abbrev pub list_tests : Caller → Attrs → ℕ → List Check
 list_tests caller attrs k =
     asks (is_directory_kind attrs.kind) IsDirectory 0 k
     ∷ asks (grants_of caller attrs bits.Read) GrantsRead 0 k
     ∷ []
 
--- the tests of a call that changes a file's bytes or its length, up to the length; some only add bytes at the end
+-- write(2), truncate(2): EISDIR for a directory, EACCES where the file may not be written. chflags(2): an immutable file
+-- isn't changed, an append-only one only grows at its end. So: the tests of a call that changes a file's bytes or its
+-- length, up to the length; some only add bytes at the end
 abbrev pub change_tests : Caller → Bool → Attrs → ℕ → List Check
 change_tests caller appends attrs k =
     asks (not (is_directory_kind attrs.kind)) IsNoDirectory 0 k
@@ -271,21 +284,22 @@ change_tests caller appends attrs k =
     ∷ asks (appends || not (is_append_only attrs)) IsNotAppendOnly 0 k
     ∷ []
 
--- the tests of putting so many bytes at a place
+-- write(2): EFBIG past the greatest size of a file. So: the tests of putting so many bytes at a place
 abbrev pub write_tests : Caller → Place → ℕ → Attrs → ℕ → List Check
 write_tests caller place count attrs k =
     change_tests caller (is_end place) attrs k ++
     (asks (nat_le (start_in place attrs.size + count) file_max) FitsFile 0 k
     ∷ [])
 
--- the tests of giving a file this length
+-- truncate(2): the same. So: the tests of giving a file this length
 abbrev pub length_tests : Caller → ℕ → Attrs → ℕ → List Check
 length_tests caller len attrs k =
     change_tests caller false attrs k ++
     (asks (nat_le len file_max) FitsFile 0 k
     ∷ [])
 
--- the tests of setting a mode
+-- chmod(2): EPERM for who is neither the owner nor user 0. chflags(2): not of what is immutable or append-only. So: the
+-- tests of setting a mode
 abbrev pub chmod_tests : Caller → Attrs → ℕ → List Check
 chmod_tests caller attrs k =
     asks (not (is_immutable attrs)) IsMutable 0 k
@@ -293,7 +307,8 @@ chmod_tests caller attrs k =
     ∷ asks (is_owner_or_superuser caller attrs) IsOwner 0 k
     ∷ []
 
--- the tests of giving a file this owner and this group
+-- chown(2): user 0 gives a file away, its owner gives it a group that he is in, others EPERM. chflags(2): as of a mode.
+-- So: the tests of giving a file this owner and this group
 abbrev pub chown_tests : Caller → ℕ → ℕ → Attrs → ℕ → List Check
 chown_tests caller uid gid attrs k =
     asks (not (is_immutable attrs)) IsMutable 0 k
@@ -301,7 +316,8 @@ chown_tests caller uid gid attrs k =
     ∷ asks (may_set_owner caller attrs uid gid) MaySetOwner 0 k
     ∷ []
 
--- the tests of setting these flags at this securelevel
+-- chflags(2): the owner sets the user's flags, user 0 all; above level 0 nobody takes a system lock off. So: the tests of
+-- setting these flags at this securelevel
 abbrev pub chflags_tests : Caller → Level → ℕ → Attrs → ℕ → List Check
 chflags_tests caller level flags attrs k =
     asks (is_owner_or_superuser caller attrs) IsOwner 0 k
@@ -309,7 +325,7 @@ chflags_tests caller level flags attrs k =
     ∷ asks (keeps_system_locks level attrs.flags flags) KeepsSystemLocks 0 k
     ∷ []
 
--- the tests of setting the securelevel
+-- init(8): user 0 raises the securelevel, init alone lowers it. So: the tests of setting it
 abbrev pub level_tests : Caller → Level → Level → List Check
 level_tests caller old new =
     asks (is_the_superuser caller) IsSuperuser 0 0

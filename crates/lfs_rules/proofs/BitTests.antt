@@ -1,4 +1,6 @@
--- A test of a bit by a mask is the test of the number's binary digit.
+-- A test of a bit by a mask is the test of the number's binary digit: `owner_test`, `group_test`, `other_test` and
+-- `sticky_test` for the access rules, the others for flags. A mask is a power of two, and a number's `and` with it is
+-- the digit at that place times the power (`and_pow`), which is the mask just where the digit is 1 (`has_bit-and`).
 use Rattle.std.proofs.Common.{◌≡◌, ℕ, ◌*◌, ◌^◌, ◌<◌, ◌==◌, arith, lit<, sym}
 use Rattle.std.specs.Int.RustNames.{bit_and}
 use Rattle.std.proofs.lemmas.Grind.{common_steps}

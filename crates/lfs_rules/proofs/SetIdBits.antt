@@ -1,4 +1,6 @@
--- A mode without the set-id bits is its ten lower bits.
+-- A mode without the set-id bits is its ten lower bits: `without_set_id` and `lost_set_ids`, for `clear_set_id`. A mode
+-- is below 4096, so it has twelve bits, and the two of set-id are the highest; the mask leaves none of these (`high`)
+-- and all of the ten below. So each of the ten digits is as it was, which is looked at one by one (`kept_bit`).
 use Rattle.std.proofs.Common.{◌≡◌, ℕ, ◌/◌, ◌%◌, ◌<◌, ◌^◌, ◌==◌, zero, suc, refl, ap, ◌∙◌, arith, ne_eqb}
 use Rattle.std.specs.Int.RustNames.{bit_and}
 use Rattle.std.proofs.lemmas.Nat.{and_shr, and_mod, and_mask}

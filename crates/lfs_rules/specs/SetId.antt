@@ -2,7 +2,7 @@
 use Rattle.std.specs.Prelude.{◌≡◌, ◌<◌, ◌%◌, ◌^◌, ℕ, false}
 use Rattle.lfs_rules.specs.Bits.{has_bit, set_group_id, set_user_id}
 
--- write(2), chown(2): the set-id bits go where another than user 0 writes or gives the file away. So: a mode, which is
+-- write(2), chown(2): the set-id bits go where another than user 0 writes, cuts or grows the file, or gives it away. So: a mode, which is
 -- below 0o10000, without 0o4000 and 0o2000: its ten lower bits
 abbrev pub set_id_cleared : ℕ → ℕ
 set_id_cleared mode = mode % 0o2000

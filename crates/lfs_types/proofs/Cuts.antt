@@ -1,4 +1,7 @@
--- A text is cut at its first slash, and names are read part by part.
+-- A text is cut at its first slash, and names are read part by part: `cut_some` and `cut_none` for `cut_at_slash`,
+-- `slashed-parts` and `path_text-slashed` for `Path::parse_bytes`. The search gives the first slash, so the first part
+-- is what stands before it, and the others are the parts of what stands behind; without a slash the text is one part.
+-- Put together again with a slash before each part the parts are the text behind a slash, by induction on its bytes.
 use Rattle.std.proofs.Common.{◌≡◌, ℕ, ◌+◌, ◌<◌, ◌≤◌, ◌==◌, nat_lt, Bool, true, false, List, [], ◌∷◌, ◌++◌, length, take}
 use Rattle.std.proofs.Common.{drop, None, Some, cond, refl, ap, subst, arith}
 use Rattle.std.specs.List.{position, position_or_len, All, onto_first, slice_split}

@@ -1,4 +1,7 @@
--- Names read one after another: the first of them has no fault.
+-- Names read one after another: `reads_on`, for the loop of `path::names_of`. The names so far and those of the rest
+-- are the text's names, and the first fault of these is the first of the rest with the components counted on, as none
+-- of those so far has one. A name more is the rest's first part, cut at its slash, which leaves a shorter rest
+-- (`bounded`). The first name has no fault, which is what a list of names of a path has to begin with (`StartsWell`).
 use Rattle.std.proofs.Common.{◌≤◌, ◌+◌, length, arith, append_assoc, ◌≡◌, ◌++◌, ◌∷◌, [], List, ℕ, None, Some, Option}
 use Rattle.std.proofs.Common.{ap, sym, subst, ◌∙◌}
 use Rattle.lfs_types.specs.Naming.{name_fault}

@@ -1,4 +1,7 @@
--- Pieces of a list into which others were put.
+-- Pieces of a list into which others were put: `piece-before`, `piece-here` and `piece-behind` for a list over which
+-- others were put, `splice-put_over` for bytes that are spliced within it. Such a list is the old front, the new bytes
+-- and what stood behind them, and the seams lie at the start and at the start and their number. So a piece that ends
+-- before or begins behind is the old one; the whole is longer only where the new bytes reach past its end.
 use Rattle.std.proofs.Common.{◌≡◌, ℕ, ◌+◌, ◌-◌, ◌<◌, ◌≤◌, List, [], ◌∷◌, ◌++◌, length, take, drop, sym, ap, subst, ◌∙◌}
 use Rattle.std.proofs.Common.{arith, length-append, length-take, length-drop, append_assoc}
 use Rattle.std.proofs.Math.ListN.{length-replicate}

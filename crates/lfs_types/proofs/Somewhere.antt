@@ -1,4 +1,7 @@
--- What is known of a value that is there, or isn't.
+-- What is known of a value that is there, or isn't, for all crates above: `present` and `is_some_and` say that it is
+-- there because it is known, `there_of` and `some_and` give the value with what is known of it, and `none_there` and
+-- `not_some` are about one that isn't. Each takes the two cases of an Option apart, so that whoever knows more than
+-- that needn't.
 use Rattle.std.proofs.Common.{◌≡◌, false, Option, None, Some, refl, sym, subst}
 use Rattle.std.specs.Prelude.{is_some, IsSome, IsSomeAnd}
 

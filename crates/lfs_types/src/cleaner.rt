@@ -128,7 +128,7 @@ pub enum CleanFault {
     /// There is no room to write blocks again.
     #[error("no space")]
     NoSpace,
-    /// Cleaning any segment takes as much room as it gives back.
+    /// No segment that could be cleaned in the room there is would give back more than that takes.
     #[error("no segment is gainful")]
     NotGainful,
 }

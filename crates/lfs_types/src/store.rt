@@ -94,7 +94,7 @@ pub trait FileStore {
     /// The state that contracts see.
     ghost state: { Self → StoreState };
     /// Nothing waits to be written.
-    ghost is_settled: { Self → Type 0 };
+    ghost is_flushed: { Self → Type 0 };
     /// Changes that were asked for on somebody's behalf came to this result, and left the store so. Each store says it by a
     /// relation of its own, and only `apply` gives it: so it says that the store was asked.
     ghost made: { Self → List Change → Reserve → Result (Unit {0}) StoreRefusal → Self → Type 0 };
@@ -128,7 +128,7 @@ pub trait FileStore {
     /// Writes what waits to be written. The content stays.
     fn sync(&mut self) -> Result<(), StoreRefusal>
         ensures applies { Applies (state self.old) [] result (state self.new) }
-        ensures settled { OnOk result (is_settled self.new) };
+        ensures flushed { OnOk result (is_flushed self.new) };
 }
 
 /// The numbers with which a volume is laid out.
