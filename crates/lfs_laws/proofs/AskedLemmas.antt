@@ -31,7 +31,7 @@ use Rattle.lfs_model.specs.Rules.{unlink_tests, visited, walk}
 use Rattle.lfs_laws.specs.LawAsked.{IsAsked, IsAskedAlong, NamesWhatItAsks, OfMaker, OfMoved, OfNamed, OfNone}
 use Rattle.lfs_laws.specs.LawAsked.{OfReplaced, OfTaken, OfTaker, OnNewWay, OnWalk, OnWay}
 use Rattle.lfs_model.proofs.Allowed.{split_last}
-use Rattle.lfs_laws.proofs.DeniedLemmas.{Each, each, fails, fails-append, no_path}
+use Rattle.lfs_laws.proofs.UnmetTests.{Each, each, fails, fails-append, no_path}
 
 -- what holds of some tests holds of them together
 each-append : (D : Denial → Type 0) (xs ys : List Check) → Each D xs → Each D ys → Each D (xs ++ ys)

@@ -1,5 +1,5 @@
 -- A call by one whom a directory shuts out is decided alike whatever lies beneath: `hides_from_call`, for the law
--- `closed_door_hides`, and its parts for HiddenRuns. Rows that aren't beneath are the same in both worlds and have the
+-- `closed_door_hides`, and its parts for HiddenCalls. Rows that aren't beneath are the same in both worlds and have the
 -- same names in them (`Apart`, `same_row`, `same_child`), and his walk never gets past the directory (`walk_end`), so
 -- he sees the same and ViewLaw decides the rest. Two things still tell, and the law excepts both: the names of the
 -- directory, listed, and whether it's empty (`told_door`); if a walk asked for a name before it asked for search, the

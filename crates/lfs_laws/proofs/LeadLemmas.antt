@@ -1,4 +1,7 @@
--- Where a path leads, name by name.
+-- Where a path leads, name by name: `leads_by_names` and `shows_by_names`, for the law `paths_by_names`. The walk of a
+-- path looks each name up in the row of before; no two rows hang under one name, so what hangs there is what is found
+-- (`child_of_hangs`). By induction on the names the walk leads to a number just where each name's row hangs in the one
+-- before, and a Stat shows the row there.
 use Rattle.std.proofs.Common.{◌≡◌, ℕ, false, List, [], ◌∷◌, Option, None, Some, refl, sym, ap, ◌∙◌}
 use Rattle.lfs_types.specs.Caller.{Caller}
 use Rattle.lfs_types.specs.Tree.{attrs_of, root}

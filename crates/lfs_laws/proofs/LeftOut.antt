@@ -1,4 +1,6 @@
--- An entry that changes nothing may be left out.
+-- An entry that changes nothing may be left out: `idle_left_out`, for the law `users_alone`. The cleaner's entries,
+-- Syncs and refusals leave the world as it is (`stays`), so the entries behind one are made in the same worlds without
+-- it.
 use Rattle.std.proofs.Common.{◌≡◌, ℕ, [], ◌∷◌, refl, subst, sym, ap}
 use Rattle.lfs_types.specs.Caller.{Caller}
 use Rattle.lfs_types.specs.Tree.{World}

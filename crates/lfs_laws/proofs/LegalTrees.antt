@@ -1,4 +1,6 @@
--- What may happen leaves a tree, and so does each legal list of entries.
+-- What may happen leaves a tree, and so does each legal list of entries: `answer_tree`, `event_tree` and
+-- `entries_tree`, for all laws of runs. A served call leaves a tree by `effect_tree` of lfs_model; whatever else
+-- happens changes no row.
 use Rattle.std.proofs.Common.{ℕ, List, [], ◌∷◌}
 use Rattle.lfs_types.specs.Caller.{Caller}
 use Rattle.lfs_types.specs.Tree.{World}

@@ -8,6 +8,7 @@ pub mod DoneLemmas
 pub mod DoorLemmas
 pub mod EachLemmas
 pub mod Fates
+pub mod HiddenCalls
 pub mod HiddenLemmas
 pub mod HiddenRuns
 pub mod IdleLemmas
@@ -39,6 +40,7 @@ pub mod SetIdLemmas
 pub mod StrangerLemmas
 pub mod SystemNames
 pub mod TwinLemmas
+pub mod UnmetTests
 pub mod UnreadRuns
 pub mod ViewLaw
 pub mod ViewLemmas

@@ -1,4 +1,7 @@
--- The names in a directory are one list in byte order.
+-- The names in a directory are one list in byte order: `are_names` for RefusedLemmas and CallLaws, `names_alike` for
+-- ViewLaw. Sorting neither adds a name nor drops one, and no two rows hang under one name, so the list rises strictly.
+-- A list that rises strictly is told by what it contains (`one_list`), so two directories in which the same names hang
+-- have one list.
 use Rattle.std.proofs.Common.{◌≡◌, ◌↔◌, ℕ, List, sym, ◌∙◌}
 use Rattle.std.specs.Prelude.{Contains}
 use Rattle.std.specs.Cmp.Lexicographic.{slice_cmp}

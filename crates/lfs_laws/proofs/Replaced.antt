@@ -1,4 +1,7 @@
--- A row that a Rename replaces.
+-- A row that a Rename replaces: `may_be_replaced` and `same_kinds`, for MayLemmas and Fates. Whoever may replace it may
+-- take it away by a call of his own, as the tests of a Rename's second path and of the row there are those of a
+-- removal; a walk's tests say the same of whichever path they are (`walk_of_path`). The two tests of kinds, together,
+-- say that both rows are of one kind.
 use Rattle.std.proofs.Common.{◌≡◌, ℕ, ◌+◌, ◌||◌, not, true, false, List, [], ◌∷◌, None, Some, refl, sym, ap, subst, ◌∙◌}
 use Rattle.std.proofs.lemmas.Bool.{cond-true}
 use Rattle.std.specs.Prelude.{is_some, unwrap_or}

@@ -1,4 +1,6 @@
--- Maps by number that have the same numbers list them alike.
+-- Maps by number that have the same numbers list them alike: `same_keys`, for LawReads and IdleLemmas. What a map
+-- lists, taken without the values, is sorted still and finds the same numbers (`sorted-bare`, `find-bare`), and sorted
+-- lists that find the same are one. So the law of maps that are equal at each key does for maps of other values.
 use Rattle.std.proofs.Common.{◌≡◌, ℕ, true, false, cond, T, List, [], ◌∷◌, map, Option, None, Some, refl, sym, ap}
 use Rattle.std.proofs.Common.{subst, ◌∙◌}
 use Rattle.std.specs.Prelude.{◌&&◌, is_some, option_map}

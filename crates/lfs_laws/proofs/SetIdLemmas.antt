@@ -1,4 +1,8 @@
--- Set-id bits since a row was written or given.
+-- Set-id bits since a row was written or given: `set_ids_are_fresh`, for the law `set_ids_by_bits`. A call of another
+-- than the superuser that writes, cuts or gives a row leaves it without these bits, since its mode is that of
+-- `mode_after` (`worn`). A row that has one at the end then got it in between, and only a Chmod gives it
+-- (`set_id_between`); the entries before that call only lead to its world. A call that kept the mode's bits as they
+-- were would leave `worn` unproved.
 use Rattle.std.proofs.Common.{◌≡◌, ◌≢◌, ◌<◌, ℕ, cond, List, [], ◌∷◌, None, Some, refl, sym, ap, subst, ◌∙◌, arith}
 use Rattle.std.proofs.Common.{ne_eqb}
 use Rattle.std.specs.FinMap as map

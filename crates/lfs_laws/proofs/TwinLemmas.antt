@@ -27,7 +27,7 @@ use Rattle.lfs_model.specs.Effects.{after_rename, cut, effect, given, least_unus
 use Rattle.lfs_model.specs.Effects.{with_place, without_row, written}
 use Rattle.lfs_laws.specs.LawUnread.{DifferUnread, NumberLooksAlike}
 use Rattle.lfs_laws.specs.Rights.{Reaches}
-use Rattle.lfs_laws.proofs.HiddenRuns.{least_same}
+use Rattle.lfs_laws.proofs.HiddenCalls.{least_same}
 use Rattle.lfs_laws.proofs.LawBytes.{length-spliced}
 use Rattle.lfs_laws.proofs.LawReads.{child_same, reached_at}
 use Rattle.lfs_types.proofs.Maps.{get-insert_same, get-insert_other, get-remove_same, get-remove_other}

@@ -1,5 +1,5 @@
 -- A caller who sees the same along a call's paths in two worlds gets the same decision: `view`, for the law
--- `same_view`, HiddenLemmas and HiddenRuns. Call by call, the tests come to the same in their order, each only where
+-- `same_view`, HiddenLemmas and HiddenCalls. Call by call, the tests come to the same in their order, each only where
 -- those before it were met (`alike_cons`, `alike_behind`), since a row behind a closed directory isn't seen at all.
 -- Whether a directory is empty is the one thing asked that isn't seen (`TellsEmpty`); any other test of a fact that
 -- `sights` doesn't hold ends the proof.

@@ -1,4 +1,6 @@
--- What a caller reaches whose walk passed.
+-- What a caller reaches whose walk passed: `walk_reaches`, for CallLaws, Fates and MayLemmas. He reaches a row if he
+-- may search each row above it. Nothing is above the root (`reaches_root`), and what hangs in a row that he reaches and
+-- may search he reaches too (`reaches_below`); a walk whose tests were met searched each directory on its way.
 use Rattle.std.proofs.Common.{◌≡◌, ℕ, ◌+◌, zero, suc, List, [], ◌∷◌, true, None, Some, refl, sym, ap, subst, ◌∙◌}
 use Rattle.std.specs.FinMap as map
 use Rattle.lfs_types.specs.Caller.{Caller}

@@ -77,6 +77,9 @@ pub fn done()
 /// by a Rename onto its path of another row of its kind, which then hangs in its place; of a directory only where it is
 /// empty. The caller may take it away: he reaches it and may write its parent, neither of them fixed by a flag, and is
 /// user 0 or the owner of one of the two where the parent is sticky.
+///
+/// In signs: `specs/LawGone.antt`; who may: `MayTakeAway` of `Rights.antt`. Proved in `proofs/RowLaws.antt`, out of the
+/// seven cases of `Fates.antt`.
 pub fn gone()
     ensures { EachCall Gone }
 {}
@@ -91,6 +94,8 @@ pub fn new()
 /// A row gets another parent or another name only by a Rename from its path, of a caller who may take it away and may
 /// place it where the call says: what has the place, if anything, is of the row's kind, has nothing in it, and may be taken
 /// away by the caller. A directory that gets another parent grants the caller write.
+///
+/// In signs: `specs/LawMoved.antt`; proved as `gone` is.
 pub fn moved()
     ensures { EachCall Moved }
 {}
