@@ -1,4 +1,7 @@
--- A file's blocks have codes of their own, and stand for what summaries name.
+-- A file's blocks have codes of their own, and stand for what summaries name: `same_block`, `block_with-code_of` and
+-- `file_block_of-logical` for whoever goes from one to the other. Codes 0 to 2 are the record and the two roots, from 3
+-- on come the 128 children, from 131 on the data blocks; so a code lies in one of these ranges only, and says its
+-- block. An entry of a summary names a block by one variant for each kind, so both ways it is a case for each.
 use Rattle.std.proofs.Common.{◌≡◌, ◌<◌, ◌+◌, ◌-◌, refl, sym, ap, ◌∙◌, arith}
 use Rattle.std.proofs.lemmas.Bool.{cond-true, cond-false, ne_eqb, lt-ltb, le-ltb}
 use Rattle.lfs_segments.specs.Entry.{IsLogicalBlock}

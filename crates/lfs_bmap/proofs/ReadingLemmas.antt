@@ -19,7 +19,7 @@ pub record Clears (old new : Tree) (i : ℕ) (up : List ℕ) : Type 0 where
   pub room : i < length (table old up)
   pub parent : table new up ≡ slice_set (table old up) i 0
   pub root : up ≢ [] → new.root ≡ old.root
-  pub settled : new.waits (i ∷ up) ≡ None
+  pub flushed : new.waits (i ∷ up) ≡ None
   pub waits : (other : List ℕ) → IsBlockWay other → other ≢ i ∷ up → other ≢ up → new.waits other ≡ old.waits other
   pub blocks : (b : ℕ) → new.block b ≡ old.block b
   pub beneath : (j : ℕ) → IsBlockWay (j ∷ i ∷ up) → address old (j ∷ i ∷ up) ≡ 0
@@ -203,7 +203,7 @@ module _ (old new : Tree) (i : ℕ) (up : List ℕ) (a : ℕ) (known : IsBlockWa
       elim (cases_way way (i ∷ up) there known) [
         | inl e ↦
             ap (read new) e ∙ read-via new (i ∷ up) ∙ ap (bytes_via new (i ∷ up)) landed_address
-            ∙ via-log new (i ∷ up) a h.settled h.somewhere ∙ h.written ∙ ap (read old) (sym e)
+            ∙ via-log new (i ∷ up) a h.flushed h.somewhere ∙ h.written ∙ ap (read old) (sym e)
         | inr apart ↦
             read-via new way ∙ ap (bytes_via new way) (kept apart)
             ∙ via-same old new way (address old way) (h.waits way there apart ne)
@@ -249,7 +249,7 @@ module _ (old new : Tree) (i : ℕ) (up : List ℕ) (known : IsBlockWay (i ∷ u
 
   -- and reads as zeros
   pub cleared_bytes : read new (i ∷ up) ≡ zero_block
-  cleared_bytes = read-via new (i ∷ up) ∙ ap (bytes_via new (i ∷ up)) cleared_address ∙ via-none new (i ∷ up) h.settled
+  cleared_bytes = read-via new (i ∷ up) ∙ ap (bytes_via new (i ∷ up)) cleared_address ∙ via-none new (i ∷ up) h.flushed
 
   -- the cell of another block keeps its address, where it stands in the same block or in one whose cells were kept
   cleared_cell : (j : ℕ) (above : List ℕ) → IsBlockWay (j ∷ above)

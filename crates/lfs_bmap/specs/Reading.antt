@@ -59,7 +59,7 @@ pub record Lands (old new : Tree) (i : ℕ) (up : List ℕ) (a : ℕ) : Type 0 w
   pub room : i < length (table old up)
   pub parent : table new up ≡ slice_set (table old up) i a
   pub root : up ≢ [] → new.root ≡ old.root
-  pub settled : new.waits (i ∷ up) ≡ None
+  pub flushed : new.waits (i ∷ up) ≡ None
   pub waits : (other : List ℕ) → IsBlockWay other → other ≢ i ∷ up → other ≢ up → new.waits other ≡ old.waits other
   pub written : new.block a ≡ read old (i ∷ up)
   pub blocks : (b : ℕ) → b ≢ a → new.block b ≡ old.block b

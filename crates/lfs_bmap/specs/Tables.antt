@@ -4,7 +4,7 @@ use Rattle.lfs_bmap.specs.declared.blocks.FileBlock.TheVariants.{Data}
 use Rattle.lfs_bmap.specs.Blocks.{code_of, table_of, way_to}
 use Rattle.lfs_bmap.specs.declared.blocks.TheConstants.{FIRST_CHILD_CODE, FIRST_DATA_CODE}
 
--- In which pass the block with a code is written: data blocks in the first one, then the children of a double indirect
+-- In which turn the block with a code is written: data blocks in the first one, then the children of a double indirect
 -- block, then the other indirect blocks. Each is written before what holds its address.
 unfoldable pub rank_of : ℕ → ℕ
 rank_of code = if nat_le FIRST_DATA_CODE code then 0 else (if nat_le FIRST_CHILD_CODE code then 1 else 2)

@@ -1,5 +1,5 @@
 //! The blocks of a file that hold addresses: which ones these are, how far from the record, and in
-//! which pass each block is written.
+//! which turn each block is written.
 
 ghost use Rattle.std.specs.Prelude.{◌≡◌, ◌≤◌, ◌<◌, ◌↔◌, ℕ, length};
 ghost use Rattle.lfs_types.specs.declared.limits.TheConstants.{FILE_BLOCKS};
@@ -17,10 +17,10 @@ const FIRST_FAR_BLOCK: u32 = SINGLE_END as u32;
 /// The greatest number of blocks that lead from the record to a block, itself among them.
 pub const MOST_DEPTH: usize = 3;
 
-/// In how many passes blocks are written, each before what holds its address.
+/// In how many turns blocks are written, each before what holds its address.
 pub const RANKS: u32 = 3;
 
-/// The pass in which the block with a code is written, from 0: data blocks, then the children of a
+/// The turn in which the block with a code is written, from 0: data blocks, then the children of a
 /// double indirect block, then the other indirect blocks.
 #[tactic(auto, unfolding(crate::specs::Tables::rank_of))]
 pub fn rank(code: u32) -> u32

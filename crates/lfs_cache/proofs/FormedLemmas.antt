@@ -1,4 +1,7 @@
--- What holds of the contents of every cache.
+-- What holds of the contents of every cache: `contents_formed`, and `formed_as` for the clauses of `Cache`'s functions.
+-- No two frames hold one key, by `IsCache`, so neither do two entries; and a block that is found is that of some frame
+-- in the locked or the clean list, which has a key and so a whole block (`block_sized`). The number of locked blocks is
+-- that of frames in their list, which has a limit.
 use Rattle.std.proofs.Common.{◌≡◌, ◌⊎◌, ℕ, ◌+◌, ◌<◌, cond, List, [], ◌∷◌, length, get_or, Option, Some, None, sym, ap}
 use Rattle.std.proofs.Common.{subst, ◌∙◌, inl, inr, arith}
 use Rattle.std.specs.Prelude.{map}

@@ -1,4 +1,7 @@
--- The addresses that a shorter record keeps.
+-- The addresses that a shorter record keeps: `cut_roots` for `Inode::cut`, `kept_roots-all` for lfs_staging. An address
+-- of the fourteen is kept if the first block that it leads to lies below the new end: the twelve direct ones by their
+-- place, the single root if it is past 12, the double root if it is past 140 (`first_at`). So each of them is compared
+-- at its place, and where those past the end are none already, nothing changes.
 use Rattle.std.proofs.Common.{◌≡◌, ℕ, ◌<◌, ◌≤◌, List, [], ◌∷◌, ◌++◌, ◌∙◌, sym, ap, inl, inr, length, slice_index, arith}
 use Rattle.std.specs.Prelude.{if◌then◌else◌, nat_lt}
 use Rattle.std.proofs.lemmas.Bool.{cases_eq, cases_lt, cond-false, cond-true, le-ltb, lt-ltb, ne_eqb}

@@ -1,4 +1,7 @@
--- The four slots of an inode block.
+-- The four slots of an inode block: `slots-put` for `with_slot`, `slot_of-zeros` for `slot`, `get_or-slots` for
+-- lfs_log. Slot i is bytes 128 i to 128 i + 127, so a write of 128 bytes there changes all of this slot; a slot below
+-- ends before it, and one above begins behind it (`below`, `above`). A block is the list of its slots, so it is that
+-- list with one replaced.
 use Rattle.std.proofs.Common.{◌≡◌, ◌≢◌, ℕ, zero, suc, ◌+◌, ◌-◌, ◌*◌, ◌<◌, List, [], ◌++◌, length, get_or, take, drop}
 use Rattle.std.proofs.Common.{set, replicate, refl, sym, ap, ◌∙◌, arith, inl, inr}
 use Rattle.std.proofs.lemmas.Bool.{cases_lt, cases_eq}

@@ -1,4 +1,7 @@
--- A list with zeros from a place on.
+-- A list with zeros from a place on: `slice_index-zeroed_below` and `slice_index-zeroed_from` for CutLemmas, and
+-- `slice_index-zeros` and `slice_index-cells_zero_block` for whoever reads an indirect block that isn't there. A place
+-- past a list's end reads as 0, so zeros read as 0 everywhere, and a list that was zeroed from n on reads as before
+-- below n. Four zero bytes are the number 0, so a block of zeros has the address 0 in each cell.
 use Rattle.std.proofs.Common.{◌≡◌, ℕ, ◌+◌, ◌-◌, ◌*◌, ◌<◌, ◌≤◌, List, [], length, slice_index, replicate}
 use Rattle.std.proofs.Common.{take, sym, ◌∙◌, arith, inl, inr}
 use Rattle.std.proofs.lemmas.Bool.{cases_lt}

@@ -1,4 +1,7 @@
--- A key may take a place that was written, and live bytes may move with it.
+-- A key may take a place that was written, and live bytes may move with it: `MayTake-written` and `MayMoveLive-taken`,
+-- for NotedLemmas of lfs_segwrite. The place lies in the active segment's log behind its label, so it is no address 0,
+-- and the log names it for this key. What the key had before counts at its old segment, so as many bytes are there to
+-- be taken off (`old_had`); at the new one they fit, as the spare bytes were counted for such (`taken_fits`).
 use Rattle.std.proofs.Common.{◌≡◌, ◌≢◌, ℕ, ◌+◌, ◌*◌, ◌/◌, ◌<◌, ◌≤◌, zero, suc, inl, inr, Some, sym, ap, subst}
 use Rattle.std.proofs.Common.{◌∙◌, arith}
 use Rattle.std.proofs.lemmas.Bool.{cases_eq}

@@ -17,10 +17,11 @@ use crate::log::Log;
 use crate::packing::{SLOT_COUNT, inode_in};
 use lfs_segments::entry::{LogicalBlock, SummaryEntry};
 use lfs_segments::log_summary::summary_in;
-use lfs_segments::segments::{SEGMENT_BLOCKS, Segments, log_start};
+use lfs_segments::segments::{Segments, log_start};
 use lfs_segments::summary::ENTRY_LIMIT;
 use lfs_types::block::Block;
 use lfs_types::cleaner::{BlockInfo, InfoList};
+use lfs_types::limits::SEGMENT_BLOCKS;
 
 impl Log {
     /// The infos of all that the log of a segment names, in its order: one for each block of a file,

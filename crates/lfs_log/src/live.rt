@@ -16,8 +16,8 @@ ghost use Rattle.lfs_log.specs.Parts.{IsParts, MayMoveLive, SameButLive, live_of
 use crate::log::Log;
 use lfs_bmap::blocks::FileBlock;
 use lfs_ifile::{Ifile, SegState};
-use lfs_segments::segments::SEGMENT_BLOCKS;
 use lfs_types::block::BLOCK_SIZE;
+use lfs_types::limits::SEGMENT_BLOCKS;
 
 /// The number of bytes of the log that a block of a file takes: a record takes a quarter of a
 /// block.

@@ -1,4 +1,8 @@
--- The frames are made one after another, each in a ring of its own.
+-- The frames are made one after another, each in a ring of its own: `lone_more`, for the loop of `lone_frames`. Item i
+-- lies i sizes behind the first (`place_next`), and both links of a frame are set to its own place, so it is alone in
+-- its ring. A push and a write to the last item leave the items before, so what held of each of them holds still, and
+-- with the new one of all (`field_all`). Before the first push the vector may have no block: then its place is null,
+-- and is an item's all the same once one is put there (`place_behind`).
 use Rattle.std.proofs.Common.{◌≡◌, ℕ, zero, suc, ◌+◌, ◌*◌, ◌<◌, List, [], ◌∷◌, ◌++◌, length, min, get_or, set, refl}
 use Rattle.std.proofs.Common.{sym, ap, subst, ◌∙◌, inl, inr, add-one, arith}
 use Rattle.std.proofs.Math.Nat.{zero-div, suc-mul}

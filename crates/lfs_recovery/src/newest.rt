@@ -14,9 +14,9 @@ use crate::places::RecordPlace;
 use crate::reader::Reader;
 use lfs_inodes::inode::Inode;
 use lfs_inodes::slots::slot;
-use lfs_segments::segments::{SEGMENT_BLOCKS, Segments};
+use lfs_segments::segments::Segments;
 use lfs_types::block::Block;
-use lfs_types::limits::MOST_INODES;
+use lfs_types::limits::{MOST_INODES, SEGMENT_BLOCKS};
 use std::alloc::{AllocError, Global};
 
 /// For each inode number the newest of its records that stand in the logs, and `None` where it has none: that of the

@@ -7,7 +7,8 @@ ghost use Rattle.lfs_recovery.specs.Whole.{IsWhole};
 
 use crate::places::PartialSegment;
 use crate::reader::Reader;
-use lfs_segments::segments::{SEGMENT_BLOCKS, Segments};
+use lfs_segments::segments::Segments;
+use lfs_types::limits::SEGMENT_BLOCKS;
 use std::alloc::{AllocError, Global};
 
 /// The partial segments of the logs of all segments, in the order of their addresses.

@@ -7,8 +7,9 @@ ghost use Rattle.lfs_recovery.specs.Course.{at_inodes, begins_log, begun, entere
 use crate::places::PartialSegment;
 use crate::whole::{is_inodes, whole_at};
 use lfs_segments::entry::SummaryEntry;
-use lfs_segments::segments::{SEGMENT_BLOCKS, Segments, log_start};
+use lfs_segments::segments::{Segments, log_start};
 use lfs_segments::summary::ENTRY_LIMIT;
+use lfs_types::limits::SEGMENT_BLOCKS;
 use std::marker::Model;
 
 /// How far the log of a segment is read: the last whole partial segment that began, and how many of its blocks went by.

@@ -9,9 +9,10 @@ ghost use Rattle.lfs_recovery.specs.Whole.{ends_in_inodes, has_record, is_inodes
 use lfs_inodes::inode::Inode;
 use lfs_inodes::slots::slot;
 use lfs_segments::entry::LogicalBlock;
-use lfs_segments::segments::{SEGMENT_BLOCKS, Segments};
+use lfs_segments::segments::Segments;
 use lfs_segments::serial::SerialSummary;
 use lfs_segments::summary::Summary;
+use lfs_types::limits::SEGMENT_BLOCKS;
 
 /// The summary at an address, where it begins a whole partial segment with a serial above another.
 pub(crate) fn whole_at(memory: &Segments, address: u32, above: u32) -> Option<SerialSummary>

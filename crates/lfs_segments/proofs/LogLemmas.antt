@@ -1,21 +1,17 @@
 -- What a log expects and names at an address rests on the earlier blocks of its segment (`expected-same`,
 -- `entry_at-same`), and what it expects it names in turn (`entry_at-pending`): WritingLemmas stands on these, and the
 -- scan of `lfs_log` on the steps between (`expected_at-more`, `names_from-more`). Each goes by induction on the number
--- of blocks, as `expected` does; None stays None (`expected-ended`), and zeros behind whole partial segments are no
--- summary, so they end the log (`expected-zeros`). Nothing here would hold of an `expected` that looks ahead, or that
--- goes on behind a block that is no summary.
+-- of blocks, as `expected` does; None stays None (`expected-ended`). Nothing here would hold of an `expected` that looks
+-- ahead, or that goes on behind a block that is no summary.
 use Rattle.std.proofs.Common.{◌≡◌, ℕ, zero, suc, ◌+◌, ◌-◌, ◌*◌, ◌/◌, ◌<◌, ◌≤◌, List, [], ◌∷◌, ◌++◌, Option, Some, None}
 use Rattle.std.proofs.Common.{Bool, option_and_then, length, drop, refl, sym, ap, ◌∙◌, arith}
 use Rattle.std.proofs.Common.{append_assoc, append-nil}
 use Rattle.std.specs.List.{slice_get}
-use Rattle.lfs_types.specs.Blocks.{zero_block}
 use Rattle.lfs_segments.specs.declared.entry.SummaryEntry.{SummaryEntry}
 use Rattle.lfs_segments.specs.Log.{Expects, after_block, entry_at, expected, expected_at, first_of, log_block}
 use Rattle.lfs_segments.specs.Log.{named_one, names_from}
 use Rattle.lfs_segments.specs.Memory.{IsLaidOut, SegmentMemory, block_at, has_serials, next_address}
-use Rattle.lfs_segments.specs.Serial.{entries_in}
 use Rattle.lfs_segments.proofs.MemoryLemmas.{log_start-le}
-use Rattle.lfs_segments.proofs.SerialLemmas.{entries_in-zero_block}
 
 -- the entry of the next block, if some are expected
 abbrev pub next_entry : Option (List SummaryEntry) → Option SummaryEntry
@@ -51,26 +47,6 @@ expected-entries s f n (suc j) (entry ∷ entries) e within =
     let one : n + suc j ≡ n + 1 + j = omega arith in
     ap (expected s f) one
     ∙ expected-entries s f (n + 1) j entries (expected-more s f n (entry ∷ entries) e) (omega arith)
-
--- behind whole partial segments zeros are no log
-pub expected-zeros : (s : Bool) (f : ℕ → List ℕ) (n j : ℕ) → expected s f n ≡ Some [] → f n ≡ zero_block
-    → expected s f (n + suc j) ≡ None
-expected-zeros s f n j e at =
-    let one : n + suc j ≡ n + 1 + j = omega arith in
-    ap (expected s f) one ∙ expected-ended s f (n + 1) j (expected-more s f n [] e ∙ ap (entries_in s) at
-    ∙ entries_in-zero_block s)
-
--- and name nothing
-next_entry-zeros : (s : Bool) (f : ℕ → List ℕ) (n j : ℕ) → expected s f n ≡ Some [] → (0 < j → f n ≡ zero_block)
-    → next_entry (expected s f (n + j)) ≡ None
-next_entry-zeros s f n zero e at = let none : n + 0 ≡ n = omega arith in rw (none, e) refl
-next_entry-zeros s f n (suc j) e at = rw (expected-zeros s f n j e (at (omega arith))) refl
-
-pub next_entry-zeros_from : (s : Bool) (f : ℕ → List ℕ) (n k : ℕ) → n ≤ k → expected s f n ≡ Some []
-    → (n < k → f n ≡ zero_block) → next_entry (expected s f k) ≡ None
-next_entry-zeros_from s f n k from e at =
-    let sum : k ≡ n + (k - n) = omega arith in
-    ap (λ (i : ℕ). next_entry (expected s f i)) sum ∙ next_entry-zeros s f n (k - n) e (λ some. at (omega arith))
 
 -- an address whose segment is known
 pub entry_at-in : (m : SegmentMemory) (segment address : ℕ) → address / 64 ≡ segment → entry_at m address

@@ -10,7 +10,6 @@ use Rattle.std.proofs.lemmas.Bool.{cases_lt, eq-eqb, eqb-true, le-leb, leb-true,
 use Rattle.std.proofs.lemmas.Option.{none-some}
 use Rattle.std.proofs.lemmas.List.{ext_get_or, get_or-append_right, get_or-take, get_or_append_left, get_or_past}
 use Rattle.std.proofs.lemmas.List.{length-append, length-replicate, length-take}
-use Rattle.lfs_types.specs.Blocks.{zero_block}
 use Rattle.lfs_segments.specs.declared.entry.SummaryEntry.{SummaryEntry}
 use Rattle.lfs_segments.specs.declared.summary.Summary.{Summary}
 use Rattle.lfs_segments.specs.Bytes.{half_at, word_at}
@@ -203,8 +202,3 @@ pub entries_read : (bytes : List ℕ) (read : Option Summary) → length bytes �
     → option_map named_by read ≡ summary_entries bytes
 entries_read bytes None long found only = sym (summary_entries-none bytes long (λ s p. none-some s (only s p)))
 entries_read bytes (Some s) long found only = sym (summary_entries-spelled bytes s found)
-
--- a block without data is no summary
-pub summary_entries-zero_block : summary_entries zero_block ≡ None
-unfolding summary_entries is_summary zero_block
-summary_entries-zero_block = refl

@@ -15,13 +15,12 @@ use Rattle.std.proofs.lemmas.List.{length-append, length-drop, length-take}
 use Rattle.lfs_segments.specs.declared.entry.SummaryEntry.{SummaryEntry}
 use Rattle.lfs_segments.specs.declared.serial.SerialSummary.{SerialSummary}
 use Rattle.lfs_segments.specs.declared.summary.Summary.{Summary}
-use Rattle.lfs_types.specs.Blocks.{zero_block}
 use Rattle.lfs_segments.specs.Bytes.{IsBlock, half_at, word_at}
 use Rattle.lfs_segments.specs.Reading.{named_by, summary_entries}
 use Rattle.lfs_segments.specs.Serial.{IsSerialBlock, IsSummaryWith, Told, entries_in, told_by, told_in, without_serial}
 use Rattle.lfs_segments.specs.Summary.{IsSummaryBlock}
 use Rattle.lfs_segments.proofs.BytesLemmas.{get_or-replicate_same, half_kept, word_kept}
-use Rattle.lfs_segments.proofs.ReadingLemmas.{summary_entries-none, summary_entries-spelled, summary_entries-zero_block}
+use Rattle.lfs_segments.proofs.ReadingLemmas.{summary_entries-none, summary_entries-spelled}
 use Rattle.lfs_segments.proofs.SummaryLemmas.{SpellsRest, rest_of, same_block}
 
 -- a summary with a serial is what its fields are
@@ -239,12 +238,6 @@ pub told_in-none : (bytes plain : List ℕ) → length bytes ≡ 512 → plain �
 told_in-none bytes plain long is some none =
     told_in-more bytes some
     ∙ ap (λ (o : Option (List SummaryEntry)). option_map (told_of bytes) o) (sym (none ∙ ap summary_entries is))
-
--- a block without data is no summary
-pub entries_in-zero_block : (s : Bool) → entries_in s zero_block ≡ None
-unfolding told_in zero_block
-entries_in-zero_block false = summary_entries-zero_block
-entries_in-zero_block true = refl
 
 -- what is read as a summary with a serial has the entries of the block without it
 serial_entries : (bytes : List ℕ) (told : Bool) (o : Option (List SummaryEntry)) (entries : List SummaryEntry)

@@ -1,4 +1,8 @@
--- A block spells one summary, and a summary is spelled by one block.
+-- A block spells one summary (`same_summary`, for `Summary::parse`), and a summary is spelled by one block
+-- (`same_spelling`, for `Summary::encode`). A block has each field at a place of its own, so two summaries of one block
+-- have the same fields; what a summary proves of its fields is a proposition, so they are one (`same_fields`). The
+-- other way each byte is a field's, an entry's at 16 + 12 k, or 0 behind these (`same_byte`). Bytes 12 to 15 are left
+-- out of this (`SpellsRest`), as SerialLemmas needs the same of blocks that have a serial there.
 use Rattle.std.proofs.Common.{◌≡◌, ℕ, ◌+◌, ◌-◌, ◌*◌, ◌/◌, ◌<◌, ◌≤◌, List, length, get_or, slice_index, sym, subst, ◌∙◌}
 use Rattle.std.proofs.Common.{⊎_elim, arith}
 use Rattle.std.proofs.lemmas.Bool.{cases_lt}

@@ -13,9 +13,10 @@ ghost use Rattle.lfs_segments.specs.Serial.{IsSummaryWith};
 
 use crate::entry::SummaryEntry;
 use crate::log_summary::summary_block;
-use crate::segments::{SEGMENT_BLOCKS, Segments};
+use crate::segments::Segments;
 use crate::summary::Summary;
 use lfs_types::block::Block;
+use lfs_types::limits::SEGMENT_BLOCKS;
 use std::slice;
 
 impl Segments {

@@ -13,7 +13,7 @@ use crate::log_summary::next_serial;
 use byteorder::{BigEndian, ByteOrder};
 use lfs_types::block::{Block, ZERO_BLOCK};
 use lfs_types::fault::FormatFault;
-pub use lfs_types::limits::{LEAST_SEGMENTS, MOST_SEGMENTS, SEGMENT_BLOCKS};
+use lfs_types::limits::{LEAST_SEGMENTS, MOST_SEGMENTS, SEGMENT_BLOCKS};
 use std::alloc::Global;
 use std::marker::Model;
 
