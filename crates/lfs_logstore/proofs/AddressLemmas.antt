@@ -1,4 +1,6 @@
--- Items of a list are changed one after the other.
+-- Items of a list are changed one after the other: `mapped_none`, `mapped_more` and `mapped_all`, for the loop of
+-- `bmapv`. The first i items are changed and the others as they were (`mapped_below`); the loop sets item i to what the
+-- function makes of it, which is still the old one, and in the end all are changed.
 use Rattle.std.proofs.Common.{◌≡◌, ℕ, zero, suc, ◌<◌, ◌≤◌, List, [], ◌∷◌, length, get_or, refl, sym, ap, ◌∙◌, arith}
 use Rattle.std.specs.Prelude.{map}
 use Rattle.std.proofs.Math.ListN.{set}

@@ -10,7 +10,7 @@ use Rattle.lfs_logstore.specs.Frames.{KeepsCached}
 pub keeps_cached : (old new : Parts) → WritesWaiting old new → KeepsCached old new
 keeps_cached old new w =
     let only : (key : Key) → block_of key new.cache ≡ block_in key new.cache.lru =
-    λ key. ap (λ (es : List (Key × List ℕ)). or_else (block_in key es) (block_in key new.cache.lru)) w.settled.no_frame
+    λ key. ap (λ (es : List (Key × List ℕ)). or_else (block_in key es) (block_in key new.cache.lru)) w.flushed.no_frame
     in
     record {
       clean = λ key held. ap is_some (sym (only key)) ∙ w.held.keys key ∙ held;

@@ -1,4 +1,7 @@
--- A store that was just laid out, and the faults of laying one out.
+-- A store that was just laid out, and the faults of laying one out: `opened_state`, `error_told` and `value_told`, for
+-- `format_as`. Its content is that of a fresh volume, all segments but the first are clean, and its numbers are those
+-- that it was laid out for, which is all that a state tells. A fault of the layers below is handed on, so it is told
+-- exactly where theirs is, and where a value came of it none is.
 use Rattle.std.proofs.Common.{◌≡◌, ◌↔◌, ℕ, ◌-◌, Option, Result, Ok, Err, refl, ap, arith}
 use Rattle.std.specs.Prelude.{IsErrAnd, IsErrOf}
 use Rattle.std.proofs.lemmas.Result.{err_from_is_err_and}

@@ -1,4 +1,7 @@
--- What waits has room: where nothing waits, and where only clean blocks came or went.
+-- What waits has room: `flushed_room` where nothing waits, `same_room` and `same_state` where only clean blocks of the
+-- cache came or went, for `LogStore::gain`, `markv` and `read`. What waits takes a block for each entry and one for a
+-- summary, and none where there is no entry. Clean blocks are no entries and no part of the content, so both the room
+-- that is wanted and what the store shows stay as they were.
 use Rattle.std.proofs.Common.{◌≡◌, ℕ, ◌+◌, List, length, ap, sym, ◌∙◌, inl, inr, arith}
 use Rattle.std.specs.Prelude.{if◌then◌else◌, ◌==◌}
 use Rattle.lfs_inodes.specs.declared.inode.Inode.{Inode}
@@ -12,12 +15,12 @@ use Rattle.lfs_logstore.specs.States.{shape_of, state_of}
 use Rattle.lfs_parts.specs.declared.parts.Parts.{Parts}
 use Rattle.lfs_parts.proofs.FilledLemmas.{same_content}
 use Rattle.lfs_parts.specs.Filling.{SameButClean}
-use Rattle.lfs_parts.specs.Store.{IsSettled}
+use Rattle.lfs_parts.specs.Store.{IsFlushed}
 
-pub settled_room : (p : Parts) → IsSettled p → HasRoom p
-settled_room p settled =
-    let frames : length p.cache.locked ≡ 0 = ap length settled.no_frame in
-    let records : length p.waiting ≡ 0 = ap (λ (vs : List Inode). length vs) settled.no_record in
+pub flushed_room : (p : Parts) → IsFlushed p → HasRoom p
+flushed_room p flushed =
+    let frames : length p.cache.locked ≡ 0 = ap length flushed.no_frame in
+    let records : length p.waiting ≡ 0 = ap (λ (vs : List Inode). length vs) flushed.no_record in
     let many : length (entries_of p) ≡ 0 = let all = entries_of-length p in omega arith in
     let none : waiting_blocks p ≡ 0 = ap (λ n. if n == 0 then 0 else n + 1) many in
     record { room = inl (omega arith) }

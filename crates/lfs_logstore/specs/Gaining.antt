@@ -2,7 +2,7 @@
 use Rattle.std.specs.Prelude.{ℕ, ◌<◌, Result, OnErr, OnOk}
 use Rattle.lfs_types.specs.declared.cleaner.CleanFault.{CleanFault}
 use Rattle.lfs_parts.specs.declared.parts.Parts.{Parts}
-use Rattle.lfs_parts.specs.Store.{IsSettled}
+use Rattle.lfs_parts.specs.Store.{IsFlushed}
 use Rattle.lfs_segwrite.specs.Applying.{WritesWaiting}
 use Rattle.lfs_segwrite.specs.Gaining.{Empties, IsGainful, NoneIsGainful, space}
 use Rattle.lfs_logstore.specs.Cleaning.{IsReclaimed}
@@ -24,4 +24,4 @@ pub record GainsRoom (old : Parts) (result : Result (Unit {0}) CleanFault) (new 
   pub gained : OnOk result (GainsSpace old new)
   pub full : OnErr result (NoneIsGainful new)
   pub written : OnErr result (WritesWaiting old new)
-  pub settled : IsSettled new
+  pub flushed : IsFlushed new

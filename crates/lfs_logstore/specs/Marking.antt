@@ -6,7 +6,7 @@ use Rattle.lfs_found.specs.Written.{IsRecoverable}
 use Rattle.lfs_parts.specs.declared.parts.Parts.{Parts}
 use Rattle.lfs_segwrite.specs.Applying.{WritesWaiting}
 use Rattle.lfs_segwrite.specs.Finishing.{LacksRoomFor, MarksAgain}
-use Rattle.lfs_parts.specs.Store.{IsSettled}
+use Rattle.lfs_parts.specs.Store.{IsFlushed}
 
 -- Blocks may be written again with this result, from one state of the store to another: all that are named with their
 -- present address once what waited was written, which are counted; none where there is no room for them, or no dirty
@@ -15,7 +15,7 @@ use Rattle.lfs_parts.specs.Store.{IsSettled}
 pub record WritesAgain (old : Parts) (marks : List BlockInfo) (result : Result ℕ CleanFault)
     (new : Parts) : Type 0 where
   pub marked : IfOk result (λ count. MarksAgain marks count old new)
-  pub settled : IsSettled new
+  pub flushed : IsFlushed new
   pub whole : IsRecoverable old.log.memory → IsRecoverable new.log.memory
   pub refused : OnErr result (WritesWaiting old new)
   pub lacking : OnErr result (LacksRoomFor marks new)

@@ -5,7 +5,7 @@ ghost use Rattle.lfs_types.specs.Cleaned.{ifile_size};
 ghost use Rattle.lfs_logstore.specs.Cleaning.{GivesIfile, HasLive, IsAccounted, IsListingFaultOf, IsReclaimed};
 ghost use Rattle.lfs_logstore.specs.States.{state_of};
 
-use crate::gaining::NotGainful;
+use crate::gaining::GainFault;
 use crate::store::LogStore;
 use lfs_ifile::SegState;
 use lfs_segwrite::marking::mark;
@@ -81,7 +81,7 @@ impl CleanedStore for LogStore {
     fn gain_room(&mut self) -> Result<(), CleanFault> {
         match self.gain() {
             Ok(()) => Ok(()),
-            Err(NotGainful) => Err(CleanFault::NotGainful),
+            Err(GainFault) => Err(CleanFault::NotGainful),
         }
     }
 }

@@ -10,7 +10,7 @@ ghost use Rattle.lfs_found.specs.Written.{IsRecoverable};
 ghost use Rattle.lfs_parts.specs.Filling.{IsCached, SameButClean};
 ghost use Rattle.lfs_parts.specs.View.{version_of};
 ghost use Rattle.lfs_segwrite.specs.Applying.{HasRoomFor, MakesChanges, WritesWaiting};
-ghost use Rattle.lfs_parts.specs.Store.{IsSettled};
+ghost use Rattle.lfs_parts.specs.Store.{IsFlushed};
 ghost use Rattle.lfs_logstore.specs.Answering.{ComesTo};
 ghost use Rattle.lfs_logstore.specs.Frames.{KeepsCached};
 ghost use Rattle.lfs_logstore.specs.States.{state_of};
@@ -23,12 +23,12 @@ use lfs_types::store::{Change, FileStore, Reserve, StoreRefusal};
 
 impl FileStore for LogStore {
     ghost use Rattle.lfs_logstore.specs.States.{state_of};
-    ghost use Rattle.lfs_parts.specs.Store.{IsSettled};
+    ghost use Rattle.lfs_parts.specs.Store.{IsFlushed};
     ghost use Rattle.lfs_logstore.specs.Answering.{ComesTo};
 
     ghost state = { state_of };
 
-    ghost is_settled = { IsSettled };
+    ghost is_flushed = { IsFlushed };
 
     ghost made = { ComesTo };
 
@@ -76,10 +76,10 @@ impl FileStore for LogStore {
     }
 
     /// Writes what waits. It always has room. What the cache holds it holds behind it, clean.
-    #[tactic(auto, using(crate::proofs::RoomLemmas::settled_room))]
+    #[tactic(auto, using(crate::proofs::RoomLemmas::flushed_room))]
     fn sync(&mut self) -> Result<(), StoreRefusal>
         ensures applies { Applies (state_of self.old) [] result (state_of self.new) }
-        ensures settled { OnOk result (IsSettled self.new) }
+        ensures flushed { OnOk result (IsFlushed self.new) }
         ensures written { WritesWaiting self.old self.new }
         ensures held { KeepsCached self.old self.new }
         ensures whole { IsRecoverable self.old.log.memory → IsRecoverable self.new.log.memory }

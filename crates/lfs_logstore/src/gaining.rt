@@ -5,7 +5,7 @@ ghost use Rattle.lfs_found.specs.Written.{IsRecoverable};
 ghost use Rattle.lfs_segwrite.specs.Applying.{WritesWaiting};
 ghost use Rattle.lfs_segwrite.specs.Gaining.{NoneIsGainful};
 ghost use Rattle.lfs_parts.specs.Files.{content_of};
-ghost use Rattle.lfs_parts.specs.Store.{IsSettled};
+ghost use Rattle.lfs_parts.specs.Store.{IsFlushed};
 ghost use Rattle.lfs_logstore.specs.Gaining.{GainsSpace};
 ghost use Rattle.lfs_logstore.specs.States.{state_of};
 
@@ -13,19 +13,19 @@ use crate::store::LogStore;
 use lfs_segwrite::gaining::{empty_segment, gainful};
 use lfs_segwrite::writing::write_waiting;
 
-/// No segment is gainful: cleaning each of them takes more than it gives back.
+/// No segment is gainful: each takes as much as it gives back, or more room than there is.
 #[derive(Clone, Copy, PartialEq, Eq, Debug)]
-pub struct NotGainful;
+pub struct GainFault;
 
 impl LogStore {
     /// Writes what waits, and cleans a segment where that gains room: its live blocks are written again, eight by eight,
-    /// for less than a segment, and it becomes clean. What that takes is counted before, exactly. `NotGainful` where each
+    /// for less than a segment, and it becomes clean. What that takes is counted before, exactly. `GainFault` where each
     /// dirty segment takes too much.
-    pub fn gain(&mut self) -> Result<(), NotGainful>
+    pub fn gain(&mut self) -> Result<(), GainFault>
         ensures gained { OnOk result (GainsSpace self.old self.new) }
         ensures full { OnErr result (NoneIsGainful self.new) }
         ensures written { OnErr result (WritesWaiting self.old self.new) }
-        ensures settled { IsSettled self.new }
+        ensures flushed { IsFlushed self.new }
         ensures content { content_of self.new ≡ content_of self.old }
         ensures shape { (state_of self.new).shape ≡ (state_of self.old).shape }
         ensures whole { IsRecoverable self.old.log.memory → IsRecoverable self.new.log.memory }
@@ -37,7 +37,7 @@ impl LogStore {
                 self.reclaim(segment);
                 Ok(())
             }
-            None => Err(NotGainful),
+            None => Err(GainFault),
         }
     }
 }

@@ -8,6 +8,6 @@ mod gaining;
 mod looking;
 mod store;
 
-pub use gaining::NotGainful;
+pub use gaining::GainFault;
 pub use lfs_types::cleaner::{BlockInfo, CleanFault, InfoList, MarkList};
 pub use store::LogStore;

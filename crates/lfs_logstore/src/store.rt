@@ -5,7 +5,7 @@ ghost use Rattle.lfs_segments.specs.Memory.{IsNextSerial};
 ghost use Rattle.lfs_segments.specs.Rising.{IsRising};
 ghost use Rattle.lfs_found.specs.Written.{IsRecoverable};
 ghost use Rattle.lfs_parts.specs.Opening.{IsOpening, IsOpeningWith, IsTooFew, IsTooMany};
-ghost use Rattle.lfs_parts.specs.Store.{IsSettled, IsStore};
+ghost use Rattle.lfs_parts.specs.Store.{IsFlushed, IsStore};
 ghost use Rattle.lfs_logstore.specs.States.{opening_state};
 
 use lfs_parts::parts::Parts;
@@ -93,7 +93,7 @@ impl LogStore {
     /// The store over these parts, of which nothing waits, whoever made them.
     pub fn over(parts: Parts) -> LogStore
         requires store { IsStore parts }
-        requires settled { IsSettled parts }
+        requires flushed { IsFlushed parts }
         ensures { result ≡ parts }
     {
         LogStore { parts }

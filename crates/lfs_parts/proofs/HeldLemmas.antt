@@ -1,5 +1,5 @@
--- Which blocks are clean after another came to wait, was forgotten or was settled: `gains_none` for StagingLemmas,
--- `forgets_none` for GivenBackLemmas, `filled_clean` for FilledLemmas, `settled_own` for `land_block`. No key is dirty
+-- Which blocks are clean after another came to wait, was forgotten or was flushed: `gains_none` for StagingLemmas,
+-- `forgets_none` for GivenBackLemmas, `filled_clean` for FilledLemmas, `flushed_own` for `land_block`. No key is dirty
 -- and clean at once (AreApart), so a block that is clean now isn't among the dirty ones, and was clean before unless
 -- it's the one that the call was about (`clean_was`). CleanLemmas rests on this for the invariant Mirrors; a cache with
 -- two blocks for a key has none of it.
@@ -86,10 +86,10 @@ forgets_none old new k formed keeps gone = record {
 }
 
 -- a block that waited and is clean now has its bytes
-pub settled_own : (old new : Contents) (k : Key) (block bytes : List ℕ) → IsContents new → block_of k new
+pub flushed_own : (old new : Contents) (k : Key) (block bytes : List ℕ) → IsContents new → block_of k new
     ≡ block_of k old → block_in k old.locked ≡ Some block
     → block_in k new.lru ≡ Some bytes → bytes ≡ block
-settled_own old new k block bytes formed kept waited there =
+flushed_own old new k block bytes formed kept waited there =
     let none = clean_waits new k bytes formed there in
     let now : block_of k new ≡ Some bytes = ap (λ o. or_else o (block_in k new.lru)) none ∙ there in
     let before : block_of k old ≡ Some block = ap (λ o. or_else o (block_in k old.lru)) waited in

@@ -1,4 +1,8 @@
--- A data block of a file, read through the cache.
+-- A data block of a file, read through the cache: `mirrored`, `logged`, `data_via`, `data_logged` and others, for
+-- `Parts::read_block`. The block's address is found along the file's tree, which is that of the record that stands
+-- (`same_tree`). A clean block that is held is what the log has at this address, and a block that isn't held and
+-- doesn't wait is read there; so either is the file's data, and what was read may be held as clean. Address 0 is a hole
+-- of zeros.
 use Rattle.std.proofs.Common.{◌≡◌, ◌≢◌, ℕ, ◌+◌, ◌<◌, List, None, Some, refl, sym, ap, ◌∙◌, subst, arith}
 use Rattle.lfs_types.specs.declared.limits.TheConstants.{FILE_BLOCKS}
 use Rattle.lfs_inodes.specs.declared.inode.Inode.{Inode}

@@ -1,4 +1,7 @@
--- A record that waits is replaced.
+-- A record that waits is replaced: `replaces`, `found_place` and `no_place` for `replace_record`, `each_replaced` for
+-- what holds of all. The place is the first with this number, so the record there is found under the number after it
+-- was put; for another number neither the old nor the new record of that place is looked for, so the search finds what
+-- it found. The list of numbers is the same, and where no place is found no record of the number waits.
 use Rattle.std.proofs.Common.{◌≡◌, ℕ, suc, ◌<◌, ◌≤◌, List, [], ◌∷◌, length, Option, None, Some, Bool, true, cond}
 use Rattle.std.proofs.Common.{get_or, refl, sym, ap, ◌∙◌, inl, inr, arith}
 use Rattle.std.specs.Prelude.{◌==◌, All, nat_lt, find}

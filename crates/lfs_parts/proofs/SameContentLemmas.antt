@@ -1,4 +1,7 @@
--- Files that read alike make the same content.
+-- Files that read alike make the same content: `content_of-same`, and for one file `file_at-kept` and `file_at-same`. A
+-- file is made of its record's attributes and of its data blocks, joined and cut at its size, and of nothing else of
+-- the store; where a block lies is no part of it. The content is the files of all numbers of the table one after
+-- another, so with the same files below as many numbers it is the same.
 use Rattle.std.proofs.Common.{◌≡◌, ℕ, zero, suc, ◌+◌, ◌/◌, ◌<◌, List, ◌++◌, length, take, Option, None, Some, refl, sym}
 use Rattle.std.proofs.Common.{ap, ◌∙◌, arith}
 use Rattle.lfs_types.specs.Tree.{File, file_of, content_with}

@@ -98,6 +98,6 @@ pub record IsStore (p : Parts) : Type 0 where
       → IsLocked (key_of number (version_of p number) (code_of block)) p.cache → IsWithin block f.attributes.size
 
 -- nothing waits to be written
-pub record IsSettled (p : Parts) : Type 0 where
+pub record IsFlushed (p : Parts) : Type 0 where
   pub no_record : p.waiting ≡ []
   pub no_frame : p.cache.locked ≡ []

@@ -11,7 +11,7 @@ ghost use Rattle.lfs_segments.specs.Rising.{IsRising};
 ghost use Rattle.lfs_log.specs.Parts.{IsParts};
 ghost use Rattle.lfs_parts.specs.Files.{content_of};
 ghost use Rattle.lfs_parts.specs.Opening.{HasRootBlock, HasRootRow, IsOpening, IsOpeningWith, IsTooFew, IsTooMany, fresh_used};
-ghost use Rattle.lfs_parts.specs.Store.{IsSettled, IsStore};
+ghost use Rattle.lfs_parts.specs.Store.{IsFlushed, IsStore};
 
 use crate::parts::Parts;
 use crate::records::Records;
@@ -45,7 +45,7 @@ impl Parts {
         ensures opening { IfOk result (IsOpening segments inodes frames) }
         ensures content { IfOk result (λ parts. content_of parts ≡ opening_content) }
         ensures store { IfOk result IsStore }
-        ensures settled { IfOk result IsSettled }
+        ensures flushed { IfOk result IsFlushed }
         ensures rising { IfOk result (λ parts. IsRising parts.log.memory) }
     {
         Parts::format_as(alloc, segments, inodes, frames, None)
@@ -66,7 +66,7 @@ impl Parts {
         ensures opening { IfOk result (IsOpeningWith serial segments inodes frames) }
         ensures content { IfOk result (λ parts. content_of parts ≡ opening_content) }
         ensures store { IfOk result IsStore }
-        ensures settled { IfOk result IsSettled }
+        ensures flushed { IfOk result IsFlushed }
         ensures rising { IfOk result (λ parts. IsRising parts.log.memory) }
     {
         check_numbers(segments, inodes, frames)?;

@@ -67,7 +67,8 @@ fn drop_known(records: &mut VecDeque<Inode>, number: u32, waits: bool)
     }
 }
 
-/// The first record of a number on a list, if there is one.
+/// The first record of a number on a list, if there is one. By places: an iterator over the two halves of a ring takes more
+/// instructions for each record.
 fn find_record(records: &VecDeque<Inode>, number: u32) -> Option<Inode>
     ensures { result ≡ waiting_in records.now.items number }
 {

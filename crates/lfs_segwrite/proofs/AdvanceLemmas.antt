@@ -1,4 +1,8 @@
--- Steps that write what waits, one behind the other.
+-- Steps that write what waits, one behind the other: `Advances-refl` and `Advances-trans`, for `flush`, the loop of
+-- `land_all_records` and RecordsLemmas. What waits behind both waited between them and before; what didn't wait before
+-- stands where it stood. A block that waited and is written has its address in what was written, from `from` on: if it
+-- still waited between, the second step wrote it, else the first did and the second left it there; so that is decided
+-- first (`cases_Waits`).
 use Rattle.std.proofs.Common.{◌≡◌, ℕ, zero, suc, ◌+◌, ◌*◌, ◌/◌, ◌<◌, ◌≤◌, ◌⊎◌, Bool, true, length, is_some, refl, sym}
 use Rattle.std.proofs.Common.{◌∙◌, subst, inl, inr, arith}
 use Rattle.std.proofs.lemmas.Bool.{cases_Bool, false≢true}

@@ -33,7 +33,7 @@ use Rattle.lfs_parts.specs.Files.{content_of}
 use Rattle.lfs_segwrite.specs.Flushing.{Flushes, Waits, WritesAhead}
 use Rattle.lfs_parts.specs.Keys.{log_state}
 use Rattle.lfs_segwrite.specs.Room.{KeepsFiles}
-use Rattle.lfs_parts.specs.Store.{IsSettled, IsStore}
+use Rattle.lfs_parts.specs.Store.{IsFlushed, IsStore}
 use Rattle.lfs_staging.specs.Changing.{StaysInLog}
 use Rattle.lfs_staging.specs.Staging.{IsStaged}
 use Rattle.lfs_staging.proofs.HeldFrames.{KeepsFrames-same, KeepsFrames-trans}
@@ -70,8 +70,8 @@ module _ (old a b new : Parts) (kept : KeepsFiles old a) (fewer : a.log.clean �
     dirty = λ s low dirty. ap (λ (xs : List SegState). slice_index_or xs s Clean) stays.states ∙ dirty;
   }
 
-  flushed_dirty : StaysDirty (log_state b) (log_state new)
-  flushed_dirty = record {
+  flush_dirty : StaysDirty (log_state b) (log_state new)
+  flush_dirty = record {
     segments = flushes.segments;
     dirty = λ s low dirty. ap (λ (xs : List SegState). slice_index_or xs s Clean) flushes.states ∙ dirty;
   }
@@ -94,8 +94,8 @@ module _ (old a b new : Parts) (kept : KeepsFiles old a) (fewer : a.log.clean �
       let whole = flushes.store.whole.parts.laid_out.within in
       omega (arith, m.0, m.1)
 
-  flushed : Moves (DirtyIn (log_state old)) (log_state b) (log_state new)
-  flushed = record {
+  flush_moves : Moves (DirtyIn (log_state old)) (log_state b) (log_state new)
+  flush_moves = record {
     numbers = flushes.numbers;
     places = λ n c there dirty. elim (cases_Waits b n c) [
       | inl waits ↦ absurd (active_other (subst (DirtyIn (log_state old)) (moved_active n c there waits) dirty))
@@ -116,7 +116,7 @@ module _ (old a b new : Parts) (kept : KeepsFiles old a) (fewer : a.log.clean �
       moves-trans (DirtyIn (log_state old)) (log_state old) (log_state b) (log_state new)
       (moves-trans (DirtyIn (log_state old)) (log_state old) (log_state a) (log_state b)
       (moves-same (DirtyIn (log_state old)) (log_state old) (log_state a) kept.keys) staged_moves)
-      flushed
+      flush_moves
 
   -- ---- the blocks
   -- a block that was written lies outside what was written now
@@ -150,7 +150,7 @@ module _ (old a b new : Parts) (kept : KeepsFiles old a) (fewer : a.log.clean �
     numbers = flushes.numbers ∙ stays.numbers ∙ ap (λ (rs : List InodeRow). length rs) kept.rows;
     clean = clean_less;
     moves = moves_ahead;
-    dirty = StaysDirty-trans (log_state old) (log_state b) (log_state new) until_dirty flushed_dirty;
+    dirty = StaysDirty-trans (log_state old) (log_state b) (log_state new) until_dirty flush_dirty;
     blocks = λ x used before.
         flushes.blocks x (outside x used before) ∙ ap (λ (m : SegmentMemory). block_at m x) stays.memory
         ∙ kept.blocks x used;
@@ -184,7 +184,7 @@ module _ (old a new : Parts) (blocks : ℕ) (is : blocks ≡ waiting_blocks old)
   pub writes_waiting : WritesWaiting old new
   writes_waiting = record {
     store = flushes.store;
-    settled = flushes.settled;
+    flushed = flushes.flushed;
     content = flushes.content ∙ kept.content;
     log = writes_ahead old a a new kept fewer (stays-refl a) (store_staged a store) flushes;
     used = λ n. flushes.used n ∙ ap (λ (rs : List InodeRow). (row_at rs n).used) kept.rows;
@@ -290,10 +290,10 @@ waits_few p store =
     omega arith
 
 -- nothing that waits takes no block
-settled_none : (p : Parts) → IsSettled p → waiting_blocks p ≡ 0
-settled_none p settled =
-    let frames : length p.cache.locked ≡ 0 = ap length settled.no_frame in
-    let records : length p.waiting ≡ 0 = ap (λ (vs : List Inode). length vs) settled.no_record in
+flushed_none : (p : Parts) → IsFlushed p → waiting_blocks p ≡ 0
+flushed_none p flushed =
+    let frames : length p.cache.locked ≡ 0 = ap length flushed.no_frame in
+    let records : length p.waiting ≡ 0 = ap (λ (vs : List Inode). length vs) flushed.no_record in
     let none : length (entries_of p) ≡ 0 = let all = entries_of-length p in omega arith in
     ap (λ n. if n == 0 then 0 else n + 1) none
 
@@ -372,7 +372,7 @@ makes_changes by changes old a b had has few most peak count way stages =
           let w = written.1 in
           let waits = waiting_most changes old a b way.store stages in
           let room = same_room changes old a b way.store stages in
-          let none = settled_none a w.settled in
+          let none = flushed_none a w.flushed in
           let clean = stages.log.clean in
           record {
             store = still_store changes old a b way.store stages;

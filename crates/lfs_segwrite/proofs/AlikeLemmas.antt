@@ -1,5 +1,5 @@
 -- Parts whose records and readings are the same have the same content and keep what holds in the middle of a call:
--- `alike_content`, `alike_files` and `alike_staged`, for AppendedLemmas and SettleLemmas. All that IsStaged says of
+-- `alike_content`, `alike_files` and `alike_staged`, for AppendedLemmas and NotedLemmas. All that IsStaged says of
 -- files is said of records, addresses and blocks read, so it carries over; log, AreOnce and what waits are given by the
 -- caller. A step that moves a block or a record needs more (LandedLemmas), as the places of its key change.
 use Rattle.std.proofs.Common.{◌≡◌, ◌≢◌, ℕ, ◌*◌, ◌<◌, ◌≤◌, List, length, Some, IsSome, is_some, sym, ap, ◌∙◌, subst, inl}

@@ -1,5 +1,5 @@
--- `collecting::to_land` lists an entry for each block that waits, pass by pass, and then one for each four records:
--- `collected_more`, `collected`, with `collected_room` and `all_entries`. Each key is in just one of three passes, as
+-- `collecting::to_land` lists an entry for each block that waits, turn by turn, and then one for each four records:
+-- `collected_more`, `collected`, with `collected_room` and `all_entries`. Each key is in just one of three turns, as
 -- its rank is below 3 (`rank_of-few`), so the order is as long as the list of keys (`in_order-length`, by induction on
 -- it). They fit one summary: 24 frames and the 16 blocks of 64 records are its 40 entries; a higher limit of either
 -- needs a second one.
@@ -27,7 +27,7 @@ use Rattle.lfs_bmap.proofs.BlockLemmas.{block_with-code_of}
 use Rattle.lfs_bmap.proofs.TableLemmas.{rank_of-few}
 use Rattle.lfs_parts.specs.Store.{AreFiles, IsBlockCode}
 use Rattle.lfs_parts.specs.declared.parts.Parts.{Parts}
-use Rattle.lfs_segwrite.specs.Collecting.{entries_of, entry_of, in_order, in_passes, inode_blocks, is_of}
+use Rattle.lfs_segwrite.specs.Collecting.{entries_of, entry_of, in_order, in_turns, inode_blocks, is_of}
 use Rattle.lfs_parts.specs.Opening.{inodes_entry}
 use Rattle.lfs_parts.proofs.SameLogLemmas.{used_low}
 
@@ -38,76 +38,76 @@ filter_yes p n ns holds = ap (λ b. cond b (n ∷ filter p ns) (filter p ns)) ho
 pub filter_no : (p : Key → Bool) (n : Key) (ns : List Key) → p n ≡ false → filter p (n ∷ ns) ≡ filter p ns
 filter_no p n ns fails = ap (λ b. cond b (n ∷ filter p ns) (filter p ns)) fails
 
-pub in_passes-none : (keys : List Key) → in_passes 0 keys ≡ []
-unfolding in_passes
-in_passes-none keys = refl
+pub in_turns-none : (keys : List Key) → in_turns 0 keys ≡ []
+unfolding in_turns
+in_turns-none keys = refl
 
-pub in_passes-more : (n : ℕ) (keys : List Key) → in_passes (suc n) keys ≡ in_passes n keys ++ filter (is_of n) keys
-unfolding in_passes
-in_passes-more n keys = refl
+pub in_turns-more : (n : ℕ) (keys : List Key) → in_turns (suc n) keys ≡ in_turns n keys ++ filter (is_of n) keys
+unfolding in_turns
+in_turns-more n keys = refl
 
--- one key more is in the passes behind its own, once
-passes_length : (n : ℕ) (keys : List Key) → length (in_passes (suc n) keys) ≡ length (in_passes n keys)
+-- one key more is in the turns behind its own, once
+turns_length : (n : ℕ) (keys : List Key) → length (in_turns (suc n) keys) ≡ length (in_turns n keys)
     + length (filter (is_of n) keys)
-passes_length n keys = ap (λ (ks : List Key). length ks) (in_passes-more n keys)
-    ∙ length-append (in_passes n keys) (filter (is_of n) keys)
+turns_length n keys = ap (λ (ks : List Key). length ks) (in_turns-more n keys)
+    ∙ length-append (in_turns n keys) (filter (is_of n) keys)
 
-passes_without : (n : ℕ) (k : Key) (keys : List Key) → n ≤ rank_of k.lbn.0 → length (in_passes n (k ∷ keys))
-    ≡ length (in_passes n keys)
-passes_without zero k keys past = ap (λ (ks : List Key). length ks) (in_passes-none (k ∷ keys)
-    ∙ sym (in_passes-none keys))
-passes_without (suc n) k keys past =
-    let before = passes_without n k keys (omega arith) in
+turns_without : (n : ℕ) (k : Key) (keys : List Key) → n ≤ rank_of k.lbn.0 → length (in_turns n (k ∷ keys))
+    ≡ length (in_turns n keys)
+turns_without zero k keys past = ap (λ (ks : List Key). length ks) (in_turns-none (k ∷ keys)
+    ∙ sym (in_turns-none keys))
+turns_without (suc n) k keys past =
+    let before = turns_without n k keys (omega arith) in
     let same = ap (λ (ks : List Key). length ks)
     (filter_no (is_of n) k keys (ne_eqb (rank_of k.lbn.0) n (λ e. omega arith))) in
-    let first = passes_length n (k ∷ keys) in
-    let second = passes_length n keys in
+    let first = turns_length n (k ∷ keys) in
+    let second = turns_length n keys in
     omega arith
 
-passes_with : (n : ℕ) (k : Key) (keys : List Key) → rank_of k.lbn.0 < n → length (in_passes n (k ∷ keys))
-    ≡ length (in_passes n keys) + 1
-passes_with zero k keys low = absurd (omega arith)
-passes_with (suc n) k keys low =
-    let first = passes_length n (k ∷ keys) in
-    let second = passes_length n keys in
+turns_with : (n : ℕ) (k : Key) (keys : List Key) → rank_of k.lbn.0 < n → length (in_turns n (k ∷ keys))
+    ≡ length (in_turns n keys) + 1
+turns_with zero k keys low = absurd (omega arith)
+turns_with (suc n) k keys low =
+    let first = turns_length n (k ∷ keys) in
+    let second = turns_length n keys in
     elim (cases_eq (rank_of k.lbn.0) n) [
       | inl is ↦
-          let before = passes_without n k keys (omega arith) in
+          let before = turns_without n k keys (omega arith) in
           let more = ap (λ (ks : List Key). length ks) (filter_yes (is_of n) k keys (eq-eqb (rank_of k.lbn.0) n is)) in
           omega arith
       | inr other ↦
-          let before = passes_with n k keys (omega arith) in
+          let before = turns_with n k keys (omega arith) in
           let same = ap (λ (ks : List Key). length ks) (filter_no (is_of n) k keys (ne_eqb (rank_of k.lbn.0) n other)) in
           omega arith
     ]
 
 pub in_order-length : (keys : List Key) → length (in_order keys) ≡ length keys
-in_order-length [] = passes_empty 3
+in_order-length [] = turns_empty 3
   where
-    passes_empty : (n : ℕ) → length (in_passes n []) ≡ 0
-    passes_empty zero = ap (λ (ks : List Key). length ks) (in_passes-none [])
-    passes_empty (suc n) = let before = passes_empty n in let more = passes_length n [] in omega arith
-in_order-length (k ∷ keys) = let more = passes_with 3 k keys (rank_of-few k.lbn.0) in let rest = in_order-length keys in
+    turns_empty : (n : ℕ) → length (in_turns n []) ≡ 0
+    turns_empty zero = ap (λ (ks : List Key). length ks) (in_turns-none [])
+    turns_empty (suc n) = let before = turns_empty n in let more = turns_length n [] in omega arith
+in_order-length (k ∷ keys) = let more = turns_with 3 k keys (rank_of-few k.lbn.0) in let rest = in_order-length keys in
     omega arith
 
--- as far as a pass there are no more than in all
-passes_grow : (keys : List Key) (n m : ℕ) → n ≤ m → length (in_passes n keys) ≤ length (in_passes m keys)
-passes_grow keys n zero less = let none : n
-    ≡ 0 = omega arith in subst (λ k. length (in_passes k keys) ≤ length (in_passes 0 keys)) (sym none) (omega arith)
-passes_grow keys n (suc m) less = elim (cases_eq n (suc m)) [
-  | inl is ↦ subst (λ k. length (in_passes k keys) ≤ length (in_passes (suc m) keys)) (sym is) (omega arith)
-  | inr other ↦ let before = passes_grow keys n m (omega arith) in let more = passes_length m keys in omega arith
+-- as far as a turn there are no more than in all
+turns_grow : (keys : List Key) (n m : ℕ) → n ≤ m → length (in_turns n keys) ≤ length (in_turns m keys)
+turns_grow keys n zero less = let none : n
+    ≡ 0 = omega arith in subst (λ k. length (in_turns k keys) ≤ length (in_turns 0 keys)) (sym none) (omega arith)
+turns_grow keys n (suc m) less = elim (cases_eq n (suc m)) [
+  | inl is ↦ subst (λ k. length (in_turns k keys) ≤ length (in_turns (suc m) keys)) (sym is) (omega arith)
+  | inr other ↦ let before = turns_grow keys n m (omega arith) in let more = turns_length m keys in omega arith
 ]
 
-pub passes_most : (n : ℕ) (keys : List Key) → n ≤ 3 → length (in_passes n keys) ≤ length keys
-passes_most n keys few = let whole = in_order-length keys in let grows = passes_grow keys n 3 few in omega arith
+pub turns_most : (n : ℕ) (keys : List Key) → n ≤ 3 → length (in_turns n keys) ≤ length keys
+turns_most n keys few = let whole = in_order-length keys in let grows = turns_grow keys n 3 few in omega arith
 
 -- what holds of the keys holds of them in order
-pub in_passes-each : (P : Key → Type 0) (n : ℕ) (keys : List Key) → All P keys → All P (in_passes n keys)
-in_passes-each P zero keys all = subst (All P) (sym (in_passes-none keys)) (λ k d low. absurd (omega arith))
-in_passes-each P (suc n) keys all =
-    subst (All P) (sym (in_passes-more n keys))
-    (All-append P (in_passes n keys) (filter (is_of n) keys) (in_passes-each P n keys all)
+pub in_turns-each : (P : Key → Type 0) (n : ℕ) (keys : List Key) → All P keys → All P (in_turns n keys)
+in_turns-each P zero keys all = subst (All P) (sym (in_turns-none keys)) (λ k d low. absurd (omega arith))
+in_turns-each P (suc n) keys all =
+    subst (All P) (sym (in_turns-more n keys))
+    (All-append P (in_turns n keys) (filter (is_of n) keys) (in_turns-each P n keys all)
     (All-filter (is_of n) P keys all))
 
 -- how many entries there are
@@ -132,38 +132,38 @@ filter_part p xs n =
     let whole = length-append (filter p (take n xs)) (filter p (drop n xs)) in
     omega arith
 
--- room for a key of the pass that is still to come
-pub pass_room : (n : ℕ) (keys : List Key) (i : ℕ) (key : Key) → i < length keys → is_of n (get_or keys i key) ≡ true
+-- room for a key of the turn that is still to come
+pub turn_room : (n : ℕ) (keys : List Key) (i : ℕ) (key : Key) → i < length keys → is_of n (get_or keys i key) ≡ true
     → length (filter (is_of n) (take i keys)) + 1 ≤ length (filter (is_of n) keys)
-pass_room n keys i key low is =
+turn_room n keys i key low is =
     let more = length-filter_more (is_of n) keys i key low in
     let one : cond {A = ℕ} (is_of n (get_or keys i key)) 1 0 ≡ 1 = ap (λ b. cond {A = ℕ} b 1 0) is in
     let part = filter_part (is_of n) keys (i + 1) in
     omega arith
 
--- one pass more is collected
-pub collected_more : (l m : List SummaryEntry) (n : ℕ) (keys : List Key) → l ≡ map entry_of (in_passes n keys) → m ≡ l
+-- one turn more is collected
+pub collected_more : (l m : List SummaryEntry) (n : ℕ) (keys : List Key) → l ≡ map entry_of (in_turns n keys) → m ≡ l
     ++ map entry_of (filter (is_of n) keys)
-    → m ≡ map entry_of (in_passes (n + 1) keys)
+    → m ≡ map entry_of (in_turns (n + 1) keys)
 collected_more l m n keys before more =
     let next : suc n ≡ n + 1 = omega arith in
     more ∙ ap (λ es. es ++ map entry_of (filter (is_of n) keys)) before
-    ∙ sym (map-append entry_of (in_passes n keys) (filter (is_of n) keys))
-    ∙ ap (map entry_of) (sym (in_passes-more n keys)) ∙ ap (λ k. map entry_of (in_passes k keys)) next
+    ∙ sym (map-append entry_of (in_turns n keys) (filter (is_of n) keys))
+    ∙ ap (map entry_of) (sym (in_turns-more n keys)) ∙ ap (λ k. map entry_of (in_turns k keys)) next
 
 -- and fits
-pub collected_room : (l : List SummaryEntry) (n : ℕ) (keys : List Key) → l ≡ map entry_of (in_passes n keys) → n < 3
+pub collected_room : (l : List SummaryEntry) (n : ℕ) (keys : List Key) → l ≡ map entry_of (in_turns n keys) → n < 3
     → length keys ≤ 24
     → length l + length (filter (is_of n) keys) ≤ 40
 collected_room l n keys is low few =
     let many = ap (λ (es : List SummaryEntry). length es) is in
-    let mapped = length-map (in_passes n keys) entry_of in
-    let more = passes_length n keys in
-    let most = passes_most (suc n) keys (omega arith) in
+    let mapped = length-map (in_turns n keys) entry_of in
+    let more = turns_length n keys in
+    let most = turns_most (suc n) keys (omega arith) in
     omega arith
 
-pub collected_none : (keys : List Key) → map entry_of (in_passes 0 keys) ≡ []
-collected_none keys = ap (map entry_of) (in_passes-none keys)
+pub collected_none : (keys : List Key) → map entry_of (in_turns 0 keys) ≡ []
+collected_none keys = ap (map entry_of) (in_turns-none keys)
 
 -- with the records that is all
 pub collected : (p : Parts) (l m : List SummaryEntry) (keys : List Key) (blocks : ℕ) → l ≡ map entry_of (in_order keys)
@@ -222,5 +222,5 @@ all_entries p files =
     λ k d low. key_entry p (get_or keys k d) files
     (listed_has_block (get_or keys k d) p.cache.locked k d low (same_self (get_or keys k d))) in
     All-append IsEntry (map entry_of (in_order keys)) (replicate (inode_blocks (length p.waiting)) inodes_entry)
-    (All-map IsEntry entry_of (in_order keys) (in_passes-each (λ (key : Key). IsEntry (entry_of key)) 3 keys each))
+    (All-map IsEntry entry_of (in_order keys) (in_turns-each (λ (key : Key). IsEntry (entry_of key)) 3 keys each))
     (All-replicate IsEntry (inode_blocks (length p.waiting)) inodes_entry (record { block = tt; owner = (refl, refl) }))

@@ -1,5 +1,5 @@
 -- `flushing::flush` writes all that waits, blocks first and then records: `keys_more` for `land_blocks`,
--- `remains_fewer` for `land_all_records`, `flushed` for the whole. Of the keys in order the first k are written, the
+-- `remains_fewer` for `land_all_records`, `flush_moves` for the whole. Of the keys in order the first k are written, the
 -- others wait, and the log expects the entries from k on (`LandsKeys`); then come the records by four (`Remains`). The
 -- hard part is that no block waits whose address the next one holds (`IsNext`): such a block has a lower rank, and so
 -- came before; by another order an indirect block would be written without an address.
@@ -34,7 +34,7 @@ use Rattle.lfs_segwrite.specs.Flushing.{Flushes, Waits}
 use Rattle.lfs_parts.specs.Opening.{inodes_entry}
 use Rattle.lfs_segwrite.specs.Recording.{Advances, entry_at_version}
 use Rattle.lfs_staging.specs.Staging.{IsStaged}
-use Rattle.lfs_parts.specs.Store.{AreFiles, IsBlockCode, IsSettled}
+use Rattle.lfs_parts.specs.Store.{AreFiles, IsBlockCode, IsFlushed}
 use Rattle.lfs_parts.specs.View.{key_of, version_of, waiting_in}
 use Rattle.lfs_bmap.proofs.BlockLemmas.{file_block_of-logical, logical_of-file_block}
 use Rattle.lfs_segwrite.proofs.CollectingLemmas.{coded_entry, entries_of-length, in_order-length}
@@ -163,10 +163,10 @@ pub record IsNext (old p : Parts) (k : ℕ) (entry : SummaryEntry) (block : File
   pub split : drop k (entries_of old) ≡ entry ∷ drop (k + 1) (entries_of old)
   pub key : (d : Key) → get_or (ordered old) k d ≡ key_of entry.number (version_of p entry.number) (code_of block)
 
--- a block that holds the address of another one has a later pass
-later_pass : (block : FileBlock) (code i : ℕ) → IsFileBlock block → IsBlockCode code → code_of block ≢ 0 → way_of code
+-- a block that holds the address of another one has a later turn
+later_turn : (block : FileBlock) (code i : ℕ) → IsFileBlock block → IsBlockCode code → code_of block ≢ 0 → way_of code
     ≡ i ∷ way_to block → rank_of code < rank_of (code_of block)
-later_pass block code i can h other way =
+later_turn block code i can h other way =
     let up : way_to (table_of h.block) ≡ way_to block =
     table_of-way h.block h.is i (way_to block) (sym (way_of-code_of h.block h.is) ∙ ap way_of h.coded ∙ way) in
     let same : code_of (table_of h.block) ≡ code_of block =
@@ -199,7 +199,7 @@ next_key old p k entry h low at =
       waits = subst (λ x. IsLocked x p.cache) (sym here) locked;
       free = λ other waits number i way.
           let there = h.each other waits in
-          let less = later_pass block other.lbn.0 i names.can (h.staged.whole.coded other waits) names.other way in
+          let less = later_turn block other.lbn.0 i names.can (h.staged.whole.coded other waits) names.other way in
           let after = in_order-after (keys_of old.cache.locked) k there.0 d there.1 there.2 in
           let at = ap (λ (x : Key). rank_of x.lbn.0) (get_or_default (ordered old) there.0 d other there.2 ∙ there.3) in
           let own = ap rank_of names.code in
@@ -292,10 +292,10 @@ keys_left old p k h end =
     (subst (Expects p.log.memory) (entries_left old k end) h.expected)
 
 -- ---- the whole
-none_waits : (q : Parts) → IsSettled q → (n c : ℕ) → Waits q n c → ⊥
-none_waits q settled n zero waits = false≢true (sym (ap (λ vs. is_some (waiting_in vs n)) settled.no_record) ∙ waits)
-none_waits q settled n (suc c) waits = false≢true
-    (sym (ap (λ es. is_some (block_in (key_of n (version_of q n) (suc c)) es)) settled.no_frame) ∙ waits)
+none_waits : (q : Parts) → IsFlushed q → (n c : ℕ) → Waits q n c → ⊥
+none_waits q flushed n zero waits = false≢true (sym (ap (λ vs. is_some (waiting_in vs n)) flushed.no_record) ∙ waits)
+none_waits q flushed n (suc c) waits = false≢true
+    (sym (ap (λ es. is_some (block_in (key_of n (version_of q n) (suc c)) es)) flushed.no_frame) ∙ waits)
 
 -- something is written with a summary before it
 pub blocks_some : (n : ℕ) → (if n == 0 then 0 else n + 1) ≢ 0 → (if n == 0 then 0 else n + 1) ≡ n + 1
@@ -366,14 +366,14 @@ advanced_extends p q h =
           older));
     }
 
-pub flushed : (p q : Parts) → IsStaged q 0 → Expects q.log.memory [] → IsSettled q
+pub flush_moves : (p q : Parts) → IsStaged q 0 → Expects q.log.memory [] → IsFlushed q
     → Advances (next_address p.log.memory) p q
     → next_address q.log.memory ≡ next_address p.log.memory + blocks_of_entries (entries_of p)
     → (0 < length p.waiting → WritesEntries p.log.memory q.log.memory (entries_of p))
     → (IsRecoverable p.log.memory → IsRecoverable q.log.memory) → Flushes p q
-flushed p q staged ready settled h grown written whole = record {
+flush_moves p q staged ready flushed h grown written whole = record {
   store = staged_store q staged ready;
-  settled = settled;
+  flushed = flushed;
   content = h.content;
   segments = h.segments;
   serials = h.serials;
@@ -385,7 +385,7 @@ flushed p q staged ready settled h grown written whole = record {
   used = h.used;
   versions = h.versions;
   still = h.still;
-  moved = λ n c low below waits. h.moved n c low below waits (none_waits q settled n c);
+  moved = λ n c low below waits. h.moved n c low below waits (none_waits q flushed n c);
   blocks = h.blocks;
   held = h.held;
   grown = grown;

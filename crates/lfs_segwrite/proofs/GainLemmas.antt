@@ -35,11 +35,11 @@ use Rattle.lfs_cache.specs.Keys.{same_key}
 use Rattle.lfs_parts.specs.declared.parts.Parts.{Parts}
 use Rattle.lfs_parts.specs.Files.{content_of}
 use Rattle.lfs_parts.specs.Keys.{log_state}
-use Rattle.lfs_parts.specs.Store.{IsSettled, IsStore}
+use Rattle.lfs_parts.specs.Store.{IsFlushed, IsStore}
 use Rattle.lfs_segwrite.specs.Gaining.{Empties, IsGainful, IsWorth, MovesBlocks, MovesEights, Spends, blocks_by_eights}
 use Rattle.lfs_segwrite.specs.Gaining.{eight, eight_blocks, eights, greatest, live_infos, pass_blocks, space, widest}
 use Rattle.lfs_segwrite.specs.Gaining.{widest_eight}
-use Rattle.lfs_segwrite.specs.Marking.{IsNamed, IsOnWay, IsRewritten, MarksSettled, blocks_to_mark, code_named}
+use Rattle.lfs_segwrite.specs.Marking.{IsNamed, IsOnWay, IsRewritten, MarksFlushed, blocks_to_mark, code_named}
 use Rattle.lfs_segwrite.specs.Marking.{keys_to_mark, number_named}
 use Rattle.lfs_parts.specs.View.{key_of, version_of}
 use Rattle.lfs_segwrite.proofs.CountingLemmas.{mapped, part_count, same_decides, same_laws}
@@ -190,7 +190,7 @@ room_next blocks most before next old mid worth spent fits =
 -- what the next takes
 pub spent_next : (blocks most before next : ℕ) (marks : List BlockInfo) (count : ℕ) (old mid new : Parts)
     → IsWorth blocks most old → Spends before most old mid
-    → MarksSettled marks count mid new → blocks_to_mark marks ≡ next → next + before ≤ blocks → next ≤ most
+    → MarksFlushed marks count mid new → blocks_to_mark marks ≡ next → next + before ≤ blocks → next ≤ most
     → Spends (next + before) most old new
 spent_next blocks most before next marks count old mid new worth spent m is fits narrow =
     let less = worth.0 in
@@ -278,7 +278,7 @@ named_before old new info moves dirty h =
 
 -- a marked one names none any more
 pub marked_gone : (old new : Parts) (marks : List BlockInfo) (count : ℕ) (info : BlockInfo)
-    → MarksSettled marks count old new → Contains marks info
+    → MarksFlushed marks count old new → Contains marks info
     → DirtyIn (log_state old) (info.addr / 64) → IsNamed (log_state new) info → ⊥
 marked_gone old new marks count info m has dirty h =
     let before = named_before (log_state old) (log_state new) info m.log.moves dirty h in
@@ -290,10 +290,10 @@ marked_gone old new marks count info m has dirty h =
     again.outside (subst (DirtyIn (log_state old)) seg dirty)
 
 -- ---- blocks that moved
-pub moves_none : (p : Parts) → IsStore p → IsSettled p → MovesBlocks p p
-moves_none p store settled = record {
+pub moves_none : (p : Parts) → IsStore p → IsFlushed p → MovesBlocks p p
+moves_none p store flushed = record {
   store = store;
-  settled = settled;
+  flushed = flushed;
   content = refl;
   segments = refl;
   serials = refl;
@@ -308,9 +308,9 @@ moves_none p store settled = record {
 }
 
 pub moves_more : (old mid new : Parts) (marks : List BlockInfo) (count : ℕ) → MovesBlocks old mid → IsStore new
-    → IsSettled new → content_of new ≡ content_of mid
-    → MarksSettled marks count mid new → MovesBlocks old new
-moves_more old mid new marks count h store settled content m =
+    → IsFlushed new → content_of new ≡ content_of mid
+    → MarksFlushed marks count mid new → MovesBlocks old new
+moves_more old mid new marks count h store flushed content m =
     let still : (s : ℕ) → s < old.log.memory.segments → DirtyIn (log_state old) s
     → DirtyIn (log_state mid) s = h.dirty.dirty in
     let all : new.log.memory.segments ≡ old.log.memory.segments = m.log.segments ∙ h.segments in
@@ -318,7 +318,7 @@ moves_more old mid new marks count h store settled content m =
     = λ n c there. let place = (store.log.keys n c there).in_volume in omega arith in
     record {
       store = store;
-      settled = settled;
+      flushed = flushed;
       content = content ∙ h.content;
       segments = all;
       serials = m.log.serials ∙ h.serials;
@@ -362,10 +362,10 @@ eight_part infos k info has =
 -- one eight more
 pub eights_more : (infos : List BlockInfo) (k count : ℕ) (old mid new : Parts)
     → IsWorth (blocks_by_eights infos) (widest_eight infos) old → All (LiesDirty old) infos
-    → k < eights infos → MovesEights infos k old mid → IsStore new → IsSettled new → content_of new ≡ content_of mid
-    → MarksSettled (eight infos k) count mid new
+    → k < eights infos → MovesEights infos k old mid → IsStore new → IsFlushed new → content_of new ≡ content_of mid
+    → MarksFlushed (eight infos k) count mid new
     → MovesEights infos (k + 1) old new
-eights_more infos k count old mid new worth lie low h store settled content m =
+eights_more infos k count old mid new worth lie low h store flushed content m =
     let dirty : (info : BlockInfo) → LiesDirty old info
     → DirtyIn (log_state mid) (info.addr / 64) = λ info l. h.moved.dirty.dirty (info.addr / 64) l.1 l.0 in
     let first : All (λ (info : BlockInfo). IsNamed (log_state new) info → ⊥) (take (8 * k) infos) =
@@ -379,7 +379,7 @@ eights_more infos k count old mid new worth lie low h store settled content m =
     marked_gone mid new (eight infos k) count info m (Contains-get_or (eight infos k) j d less)
     (dirty info (part_of_eight (LiesDirty old) infos k lie j d less)) named in
     record {
-      moved = moves_more old mid new (eight infos k) count h.moved store settled content m;
+      moved = moves_more old mid new (eight infos k) count h.moved store flushed content m;
       gone =
           subst (All (λ (info : BlockInfo). IsNamed (log_state new) info → ⊥)) (sym (take_eights infos k))
           (All-append (λ (info : BlockInfo). IsNamed (log_state new) info → ⊥) (take (8 * k) infos)

@@ -135,7 +135,7 @@ module _ (p q : Parts) (v : Inode) (block : FileBlock) (a : ℕ) (h : LandsKey p
   same_waits n = waits_numbers p.waiting q.waiting n h.stays.numbers
 
   pub landed_gone : IsLocked (key_of v.number v.version (code_of block)) q.cache → ⊥
-  landed_gone locked = false≢true (sym (ap is_some h.landed.settled) ∙ locked)
+  landed_gone locked = false≢true (sym (ap is_some h.landed.flushed) ∙ locked)
 
   -- what holds the address of a block that waits still does
   holders_stay : (key : Key) → IsLocked key q.cache → (i : ℕ) (up : List ℕ) → way_of key.lbn.0 ≡ i ∷ up

@@ -150,7 +150,7 @@ module _ (p r s q : Parts) (v : Inode) (block : FileBlock) (a i : ℕ) (up : Lis
     room = room_at p v block h.is h.can h.other i up h.way;
     parent = parent_set r s q v block a i up unstages ∙ ap (λ ys. slice_set ys i a) (table_before waited);
     root = λ some. ap root_in (record_here r s q v block a i up unstages some ∙ h.put.records v.number);
-    settled = waits_none r s q v block a i up unstages;
+    flushed = waits_none r s q v block a i up unstages;
     waits = λ way there ne far. waits_rest r s q v block a i up unstages way there ne far ∙ waits_put v.number way;
     written = ap (λ (m : SegmentMemory). block_at m a) h.memory ∙ h.put.written;
     blocks = λ b other. block_other b other;

@@ -16,7 +16,7 @@ pub mod ListedLemmas
 pub mod StagesLemmas
 pub mod AlikeLemmas
 pub mod AdvanceLemmas
-pub mod SettleLemmas
+pub mod NotedLemmas
 pub mod AppendedLemmas
 pub mod RecordsLemmas
 pub mod LandedKeyLemmas

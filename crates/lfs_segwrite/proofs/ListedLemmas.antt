@@ -1,4 +1,7 @@
--- The infos that name a block, collected from a list.
+-- The infos that name a block, collected from a list: `AreNamed-none`, `named_more` and `named_length`, for the loop of
+-- `marking::named`. Each info of the list that names a block stands in what was collected, all that stands there is of
+-- the list and names one, and no block is there twice. A further info is left out, where it names none or a block that
+-- is there already, or put behind; two that name one block are the same info, so none that names a block is missed.
 use Rattle.std.proofs.Common.{◌≡◌, ℕ, ◌+◌, ◌<◌, ◌≤◌, List, [], ◌∷◌, ◌++◌, get_or, length, take, sym, ap, ◌∙◌, subst}
 use Rattle.std.proofs.Common.{inl, inr, arith}
 use Rattle.std.specs.Prelude.{Contains}

@@ -1,5 +1,5 @@
 -- The blocks that some infos name were written again, and keys that are on no way to them stayed: `marks_again` for
--- `marking::mark_settled`, `marks_after` for `mark`. They were staged with the bytes that they had and then flushed: so
+-- `marking::mark_flushed`, `marks_after` for `mark`. They were staged with the bytes that they had and then flush_moves: so
 -- the content is the same, and a key that waited lies behind the old end of the log, elsewhere than before
 -- (`elsewhere`) and in no dirty segment (`outside`). Where nothing waited before, what waits is on those ways
 -- (`on_way`); a mark over waiting changes would move other keys too.
@@ -28,10 +28,10 @@ use Rattle.lfs_parts.specs.Files.{content_of}
 use Rattle.lfs_segwrite.specs.Flushing.{Flushes, Waits}
 use Rattle.lfs_parts.specs.Keys.{log_state}
 use Rattle.lfs_segwrite.specs.Finishing.{HasRoomToMark, MarksAgain}
-use Rattle.lfs_segwrite.specs.Marking.{AreNamed, IsOnWay, IsRewritten, MarksSettled}
+use Rattle.lfs_segwrite.specs.Marking.{AreNamed, IsOnWay, IsRewritten, MarksFlushed}
 use Rattle.lfs_segwrite.specs.Marking.{SameShown, StagesNamed, blocks_to_mark, code_named, keys_to_mark}
 use Rattle.lfs_segwrite.specs.Room.{KeepsFiles}
-use Rattle.lfs_parts.specs.Store.{IsSettled, IsStore}
+use Rattle.lfs_parts.specs.Store.{IsFlushed, IsStore}
 use Rattle.lfs_parts.specs.View.{key_of, version_of}
 use Rattle.lfs_segwrite.proofs.CollectingLemmas.{entries_of-length}
 use Rattle.lfs_staging.specs.Changing.{StaysInLog}
@@ -58,10 +58,10 @@ stays_shown old new h = record {
 }
 
 -- nothing waits still where a segment was opened
-pub settled_still : (old new : Parts) → KeepsFiles old new → IsSettled old → IsSettled new
-settled_still old new h settled = record {
-  no_record = h.waiting ∙ settled.no_record;
-  no_frame = ap (λ (s : Contents). s.locked) h.cache ∙ settled.no_frame;
+pub flushed_still : (old new : Parts) → KeepsFiles old new → IsFlushed old → IsFlushed new
+flushed_still old new h flushed = record {
+  no_record = h.waiting ∙ flushed.no_record;
+  no_frame = ap (λ (s : Contents). s.locked) h.cache ∙ flushed.no_frame;
 }
 
 -- what was staged fits into the room that was made
@@ -181,7 +181,7 @@ module _ (old mid staged new : Parts) (marks named : List BlockInfo) (keeps : Ke
   pub marks_again : 0 < length named → (blocks_to_mark named ≤ room_of old.log.memory → mid ≡ old)
       → (room_of old.log.memory < blocks_to_mark named → mid.log.clean + 1 ≡ old.log.clean)
       → (room_of old.log.memory < blocks_to_mark named → 64 ≤ room_of mid.log.memory + 1)
-      → MarksSettled marks (length named) old new
+      → MarksFlushed marks (length named) old new
   marks_again some enough opened fresh = record {
     named = named;
     are_named = are;
@@ -235,7 +235,7 @@ module _ (old mid staged new : Parts) (marks named : List BlockInfo) (keeps : Ke
 
 -- what waits was written, and then the blocks were
 pub marks_after : (marks : List BlockInfo) (count : ℕ) (old mid new : Parts) → IsStore old → IsStore mid → IsStore new
-    → WritesWaiting old mid → MarksSettled marks count mid new
+    → WritesWaiting old mid → MarksFlushed marks count mid new
     → (old.log.clean ≤ 1 → 0 < count → HasRoomToMark marks mid) → MarksAgain marks count old new
 marks_after marks count old mid new first before store w m last =
     let still : (s : ℕ) → s < old.log.memory.segments → DirtyIn (log_state old) s

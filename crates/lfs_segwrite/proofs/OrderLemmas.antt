@@ -1,8 +1,8 @@
 -- The order of writing has each key that waits, once (`in_order-locked`, for `collecting::to_land`), and behind a key
--- none of a lower rank (`in_order-after`, for FlushLemmas). The passes filter one list by rank: keys of two passes
--- differ (`lacks_pass`), each key comes in the pass of its rank (`passes_have`), and no key is twice in what isn't
+-- none of a lower rank (`in_order-after`, for FlushLemmas). The turns filter one list by rank: keys of two turns
+-- differ (`lacks_turn`), each key comes in the turn of its rank (`turns_have`), and no key is twice in what isn't
 -- twice in the list. `in_order-after` is why an indirect block is written with all its addresses; a fourth rank would
--- need a fourth pass.
+-- need a fourth turn.
 use Rattle.std.proofs.Common.{◌<◌, ◌≤◌, refl, ◌-◌, length-append, get_or, sym, ◌≡◌, ◌≢◌, ℕ, zero, suc, List, [], ◌∷◌}
 use Rattle.std.proofs.Common.{◌++◌, All, map, replicate, Bool, true, false, cond, length, Some, IsSome, ap, ◌∙◌, subst}
 use Rattle.std.proofs.Common.{inl, inr, arith}
@@ -19,10 +19,10 @@ use Rattle.lfs_inodes.specs.declared.inode.Inode.{Inode}
 use Rattle.lfs_bmap.specs.Tables.{rank_of}
 use Rattle.lfs_bmap.proofs.TableLemmas.{rank_of-few}
 use Rattle.lfs_parts.specs.declared.parts.Parts.{Parts}
-use Rattle.lfs_segwrite.specs.Collecting.{AreLocked, entries_of, entry_of, in_order, in_passes, inode_blocks, is_of}
+use Rattle.lfs_segwrite.specs.Collecting.{AreLocked, entries_of, entry_of, in_order, in_turns, inode_blocks, is_of}
 use Rattle.lfs_parts.specs.Opening.{inodes_entry}
 use Rattle.lfs_segwrite.proofs.CollectingLemmas.{filter_no, filter_yes, in_order-length}
-use Rattle.lfs_segwrite.proofs.CollectingLemmas.{in_passes-each, in_passes-more, in_passes-none}
+use Rattle.lfs_segwrite.proofs.CollectingLemmas.{in_turns-each, in_turns-more, in_turns-none}
 use Rattle.lfs_segments.specs.declared.entry.SummaryEntry.{SummaryEntry}
 
 -- a key that a list lacks is lacked by a part of it, and by it and another one that lacks it
@@ -44,22 +44,22 @@ apart_filter p (n ∷ ns) h = elim (cases_Bool (p n)) [
   | inr fails ↦ subst AreApart (sym (filter_no p n ns fails)) (apart_filter p ns h.1)
 ]
 
--- each key of a filtered list passes
-first_passes : (p : Key → Bool) (n : Key) (l : List Key) (d : Key) → p n ≡ true
+-- each key of a filtered list turns
+first_turns : (p : Key → Bool) (n : Key) (l : List Key) (d : Key) → p n ≡ true
     → ((k : ℕ) → k < length l → p (get_or l k d) ≡ true)
     → (k : ℕ) → k < length (n ∷ l) → p (get_or (n ∷ l) k d) ≡ true
-first_passes p n l d holds rest zero low = holds
-first_passes p n l d holds rest (suc k) low = rest k (omega arith)
+first_turns p n l d holds rest zero low = holds
+first_turns p n l d holds rest (suc k) low = rest k (omega arith)
 
-each_passes : (p : Key → Bool) (ns : List Key) (d : Key) (k : ℕ) → k < length (filter p ns)
+each_turns : (p : Key → Bool) (ns : List Key) (d : Key) (k : ℕ) → k < length (filter p ns)
     → p (get_or (filter p ns) k d) ≡ true
-each_passes p [] d = λ k low. absurd (omega arith)
-each_passes p (n ∷ ns) d = elim (cases_Bool (p n)) [
+each_turns p [] d = λ k low. absurd (omega arith)
+each_turns p (n ∷ ns) d = elim (cases_Bool (p n)) [
   | inl holds ↦
       subst (λ (l : List Key). (k : ℕ) → k < length l → p (get_or l k d) ≡ true) (sym (filter_yes p n ns holds))
-      (first_passes p n (filter p ns) d holds (each_passes p ns d))
+      (first_turns p n (filter p ns) d holds (each_turns p ns d))
   | inr fails ↦ subst (λ (l : List Key). (k : ℕ) → k < length l → p (get_or l k d) ≡ true)
-      (sym (filter_no p n ns fails)) (each_passes p ns d)
+      (sym (filter_no p n ns fails)) (each_turns p ns d)
 ]
 
 -- two lists whose keys are apart from one another
@@ -70,44 +70,44 @@ lists_apart (x ∷ xs) ys h g each = (
   lists_apart xs ys h.1 g (λ k d low. each (suc k) d (omega arith)),
 )
 
--- a key of another pass
-lacks_pass : (n : ℕ) (k : Key) (ns : List Key) → rank_of k.lbn.0 ≢ n → Lacks k (filter (is_of n) ns)
-lacks_pass n k [] other = tt
-lacks_pass n k (m ∷ ns) other = elim (cases_eq (rank_of m.lbn.0) n) [
+-- a key of another turn
+lacks_turn : (n : ℕ) (k : Key) (ns : List Key) → rank_of k.lbn.0 ≢ n → Lacks k (filter (is_of n) ns)
+lacks_turn n k [] other = tt
+lacks_turn n k (m ∷ ns) other = elim (cases_eq (rank_of m.lbn.0) n) [
   | inl is ↦
       let apart : same_key m k ≡ false = elim (same_cases m k) [
         | inl same ↦ absurd (other (ap (λ (x : Key). rank_of x.lbn.0) (sym (same_is m k same)) ∙ is))
         | inr fails ↦ fails
       ] in
-      subst (Lacks k) (sym (filter_yes (is_of n) m ns (eq-eqb (rank_of m.lbn.0) n is))) (apart, lacks_pass n k ns other)
-  | inr ne ↦ subst (Lacks k) (sym (filter_no (is_of n) m ns (ne_eqb (rank_of m.lbn.0) n ne))) (lacks_pass n k ns other)
+      subst (Lacks k) (sym (filter_yes (is_of n) m ns (eq-eqb (rank_of m.lbn.0) n is))) (apart, lacks_turn n k ns other)
+  | inr ne ↦ subst (Lacks k) (sym (filter_no (is_of n) m ns (ne_eqb (rank_of m.lbn.0) n ne))) (lacks_turn n k ns other)
 ]
 
-pass_is : (n : ℕ) (ks : List Key) (k : ℕ) (d : Key) → k < length (filter (is_of n) ks)
+turn_is : (n : ℕ) (ks : List Key) (k : ℕ) (d : Key) → k < length (filter (is_of n) ks)
     → rank_of (get_or (filter (is_of n) ks) k d).lbn.0 ≡ n
-pass_is n ks k d low = eqb-true (rank_of (get_or (filter (is_of n) ks) k d).lbn.0) n (each_passes (is_of n) ks d k low)
+turn_is n ks k d low = eqb-true (rank_of (get_or (filter (is_of n) ks) k d).lbn.0) n (each_turns (is_of n) ks d k low)
 
--- in the passes below one there are keys of those alone
-pub passes_below : (n : ℕ) (keys : List Key) → All (λ (k : Key). rank_of k.lbn.0 < n) (in_passes n keys)
-passes_below zero keys = subst (All (λ (k : Key). rank_of k.lbn.0 < 0)) (sym (in_passes-none keys))
+-- in the turns below one there are keys of those alone
+pub turns_below : (n : ℕ) (keys : List Key) → All (λ (k : Key). rank_of k.lbn.0 < n) (in_turns n keys)
+turns_below zero keys = subst (All (λ (k : Key). rank_of k.lbn.0 < 0)) (sym (in_turns-none keys))
     (λ k d low. absurd (omega arith))
-passes_below (suc n) keys =
-    subst (All (λ (k : Key). rank_of k.lbn.0 < suc n)) (sym (in_passes-more n keys))
-    (All-append (λ (k : Key). rank_of k.lbn.0 < suc n) (in_passes n keys) (filter (is_of n) keys)
-    (λ k d low. let less = passes_below n keys k d low in omega arith)
-    (λ k d low. let is = pass_is n keys k d low in omega arith))
+turns_below (suc n) keys =
+    subst (All (λ (k : Key). rank_of k.lbn.0 < suc n)) (sym (in_turns-more n keys))
+    (All-append (λ (k : Key). rank_of k.lbn.0 < suc n) (in_turns n keys) (filter (is_of n) keys)
+    (λ k d low. let less = turns_below n keys k d low in omega arith)
+    (λ k d low. let is = turn_is n keys k d low in omega arith))
 
 -- in order, no key comes twice
-passes_apart : (n : ℕ) (keys : List Key) → AreApart keys → AreApart (in_passes n keys)
-passes_apart zero keys h = subst AreApart (sym (in_passes-none keys)) tt
-passes_apart (suc n) keys h =
-    subst AreApart (sym (in_passes-more n keys))
-    (lists_apart (in_passes n keys) (filter (is_of n) keys) (passes_apart n keys h) (apart_filter (is_of n) keys h)
-    (λ k d low. lacks_pass n (get_or (in_passes n keys) k d) keys
-    (λ e. let less = passes_below n keys k d low in omega arith)))
+turns_apart : (n : ℕ) (keys : List Key) → AreApart keys → AreApart (in_turns n keys)
+turns_apart zero keys h = subst AreApart (sym (in_turns-none keys)) tt
+turns_apart (suc n) keys h =
+    subst AreApart (sym (in_turns-more n keys))
+    (lists_apart (in_turns n keys) (filter (is_of n) keys) (turns_apart n keys h) (apart_filter (is_of n) keys h)
+    (λ k d low. lacks_turn n (get_or (in_turns n keys) k d) keys
+    (λ e. let less = turns_below n keys k d low in omega arith)))
 
 pub in_order-apart : (keys : List Key) → AreApart keys → AreApart (in_order keys)
-in_order-apart keys h = passes_apart 3 keys h
+in_order-apart keys h = turns_apart 3 keys h
 
 -- and each comes
 filter_has : (n : ℕ) (key : Key) (ks : List Key) → rank_of key.lbn.0 ≡ n → Contains ks key
@@ -127,14 +127,14 @@ filter_has n key (k ∷ ks) is (suc i, low, e) =
       | inr fails ↦ subst (λ xs. Contains xs key) (sym (filter_no (is_of n) k ks fails)) rest
     ]
 
-passes_have : (n : ℕ) (keys : List Key) (key : Key) → rank_of key.lbn.0 < n → Contains keys key
-    → Contains (in_passes n keys) key
-passes_have zero keys key low has = absurd (omega arith)
-passes_have (suc n) keys key low has =
-    subst (λ xs. Contains xs key) (sym (in_passes-more n keys)) (elim (cases_eq (rank_of key.lbn.0) n) [
-      | inl is ↦ Contains-append_right (in_passes n keys) (filter (is_of n) keys) key (filter_has n key keys is has)
-      | inr other ↦ Contains-append_left (in_passes n keys) (filter (is_of n) keys) key
-          (passes_have n keys key (omega arith) has)
+turns_have : (n : ℕ) (keys : List Key) (key : Key) → rank_of key.lbn.0 < n → Contains keys key
+    → Contains (in_turns n keys) key
+turns_have zero keys key low has = absurd (omega arith)
+turns_have (suc n) keys key low has =
+    subst (λ xs. Contains xs key) (sym (in_turns-more n keys)) (elim (cases_eq (rank_of key.lbn.0) n) [
+      | inl is ↦ Contains-append_right (in_turns n keys) (filter (is_of n) keys) key (filter_has n key keys is has)
+      | inr other ↦ Contains-append_left (in_turns n keys) (filter (is_of n) keys) key
+          (turns_have n keys key (omega arith) has)
     ])
 
 -- what waits is listed
@@ -157,8 +157,8 @@ pub in_order-locked : (c : Contents) → AreApart (keys_of c.locked) → AreLock
 in_order-locked c apart =
     let keys = keys_of c.locked in
     record {
-      each = λ key waits. passes_have 3 keys key (rank_of-few key.lbn.0) (waits_listed c.locked key waits);
-      only = in_passes-each (λ (key : Key). IsLocked key c) 3 keys (listed_waits c);
+      each = λ key waits. turns_have 3 keys key (rank_of-few key.lbn.0) (waits_listed c.locked key waits);
+      only = in_turns-each (λ (key : Key). IsLocked key c) 3 keys (listed_waits c);
       once = in_order-apart keys apart;
     }
 
@@ -173,35 +173,35 @@ entries_of-same old new cache waiting =
     ++ replicate (inode_blocks (length vs)) inodes_entry) waiting
 
 -- ---- places in the order
--- behind a block of a pass there is none of one before: when an indirect block is written, the blocks are whose
+-- behind a block of a turn there is none of one before: when an indirect block is written, the blocks are whose
 -- addresses it holds
-passes_after : (n : ℕ) (keys : List Key) (j i : ℕ) (d : Key) → j ≤ i → i < length (in_passes n keys)
-    → rank_of (get_or (in_passes n keys) j d).lbn.0 ≤ rank_of (get_or (in_passes n keys) i d).lbn.0
-passes_after zero keys j i d before low = let none = ap (λ (ks : List Key). length ks) (in_passes-none keys) in
+turns_after : (n : ℕ) (keys : List Key) (j i : ℕ) (d : Key) → j ≤ i → i < length (in_turns n keys)
+    → rank_of (get_or (in_turns n keys) j d).lbn.0 ≤ rank_of (get_or (in_turns n keys) i d).lbn.0
+turns_after zero keys j i d before low = let none = ap (λ (ks : List Key). length ks) (in_turns-none keys) in
     absurd (omega arith)
-passes_after (suc n) keys j i d before low =
-    let xs = in_passes n keys in
+turns_after (suc n) keys j i d before low =
+    let xs = in_turns n keys in
     let ys = filter (is_of n) keys in
     let long = length-append xs ys in
-    let split = ap (λ (ks : List Key). length ks) (in_passes-more n keys) in
-    subst (λ ks. rank_of (get_or ks j d).lbn.0 ≤ rank_of (get_or ks i d).lbn.0) (sym (in_passes-more n keys))
+    let split = ap (λ (ks : List Key). length ks) (in_turns-more n keys) in
+    subst (λ ks. rank_of (get_or ks j d).lbn.0 ≤ rank_of (get_or ks i d).lbn.0) (sym (in_turns-more n keys))
     (elim (cases_lt i (length xs)) [
       | inl first ↦
           let at_i = ap (λ (k : Key). rank_of k.lbn.0) (get_or_append_left xs ys d i first) in
           let at_j = ap (λ (k : Key). rank_of k.lbn.0) (get_or_append_left xs ys d j (omega arith)) in
-          let less = passes_after n keys j i d before first in
+          let less = turns_after n keys j i d before first in
           omega arith
       | inr last ↦
-          let there = passes_below (suc n) keys j d (omega arith) in
-          let same = ap (λ ks. rank_of (get_or ks j d).lbn.0) (in_passes-more n keys) in
+          let there = turns_below (suc n) keys j d (omega arith) in
+          let same = ap (λ ks. rank_of (get_or ks j d).lbn.0) (in_turns-more n keys) in
           let at_i = ap (λ (k : Key). rank_of k.lbn.0) (get_or-append_right xs ys (length xs) i d refl last) in
-          let own = pass_is n keys (i - length xs) d (omega arith) in
+          let own = turn_is n keys (i - length xs) d (omega arith) in
           omega arith
     ])
 
 pub in_order-after : (keys : List Key) (j i : ℕ) (d : Key) → j ≤ i → i < length (in_order keys)
     → rank_of (get_or (in_order keys) j d).lbn.0 ≤ rank_of (get_or (in_order keys) i d).lbn.0
-in_order-after keys j i d before low = passes_after 3 keys j i d before low
+in_order-after keys j i d before low = turns_after 3 keys j i d before low
 
 -- the entries by place: those of the keys in order, and behind them those of inode blocks
 pub entries_of-block : (p : Parts) (k : ℕ) (d : Key) (e : SummaryEntry) → k < length p.cache.locked

@@ -22,7 +22,7 @@ use Rattle.lfs_parts.specs.Keys.{log_state}
 use Rattle.lfs_segwrite.specs.Marking.{IsNamed, StagesAgain, StagesNamed, code_named, codes_to_mark, keys_to_mark}
 use Rattle.lfs_segwrite.specs.Marking.{number_named}
 use Rattle.lfs_staging.specs.Staging.{IsStaged}
-use Rattle.lfs_parts.specs.Store.{IsSettled}
+use Rattle.lfs_parts.specs.Store.{IsFlushed}
 use Rattle.lfs_parts.specs.View.{key_of, version_of, waiting_in}
 use Rattle.lfs_segwrite.proofs.AgainLemmas.{SameShown-refl, SameShown-trans}
 use Rattle.lfs_segwrite.proofs.CountingLemmas.{frames_counted, keys_few, keys_more, mapped, numbers_more}
@@ -45,16 +45,16 @@ none_locked es key none some = false≢true (sym (ap (λ xs. is_some (block_in k
 none_waits : (vs : List Inode) (n : ℕ) → vs ≡ [] → IsSome (waiting_in vs n) → ⊥
 none_waits vs n none some = false≢true (sym (ap (λ xs. is_some (waiting_in xs n)) none) ∙ some)
 
-pub stages_none : (p : Parts) → IsStaged p 0 → IsSettled p → StagesNamed [] p p
-stages_none p staged settled =
-    let free : length p.cache.locked ≡ 0 = ap length settled.no_frame in
-    let none : length p.waiting ≡ 0 = ap (λ (vs : List Inode). length vs) settled.no_record in
+pub stages_none : (p : Parts) → IsStaged p 0 → IsFlushed p → StagesNamed [] p p
+stages_none p staged flushed =
+    let free : length p.cache.locked ≡ 0 = ap length flushed.no_frame in
+    let none : length p.waiting ≡ 0 = ap (λ (vs : List Inode). length vs) flushed.no_record in
     record {
       same = SameShown-refl p;
       staged = staged;
       waits = λ k d low. absurd (omega arith);
-      only_frames = λ key locked. absurd (none_locked p.cache.locked key settled.no_frame locked);
-      only_records = λ n waits. absurd (none_waits p.waiting n settled.no_record waits);
+      only_frames = λ key locked. absurd (none_locked p.cache.locked key flushed.no_frame locked);
+      only_records = λ n waits. absurd (none_waits p.waiting n flushed.no_record waits);
       frames = omega arith;
       records = omega arith;
     }

@@ -1,4 +1,6 @@
--- The next of some changes, and those behind it.
+-- The next of some changes, and those behind it, for the loop of `stage_changes`. The list of those that are left is
+-- the next one and the list behind it (`next_first`), so what is defined over the list splits so: the content that they
+-- make, whether they may be made, the versions behind them, their sum and their peak.
 use Rattle.std.proofs.Common.{◌≡◌, ℕ, ◌+◌, ◌<◌, List, ◌∷◌, length, max, get_or, drop, sym, ap, ◌∙◌, subst}
 use Rattle.std.specs.Prelude.{sum_by}
 use Rattle.std.proofs.lemmas.List.{drop_more}

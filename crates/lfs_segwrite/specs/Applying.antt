@@ -32,7 +32,7 @@ use Rattle.lfs_staging.specs.Frames.{KeepsFrames}
 use Rattle.lfs_parts.specs.Files.{content_of}
 use Rattle.lfs_parts.specs.Keys.{log_state}
 use Rattle.lfs_staging.specs.Staging.{IsStaged}
-use Rattle.lfs_parts.specs.Store.{IsSettled, IsStore}
+use Rattle.lfs_parts.specs.Store.{IsFlushed, IsStore}
 use Rattle.lfs_staging.specs.Putting.{LeadsToPut, frames_of_put}
 
 -- a change ends within the limit of a file, and puts no more bytes than one call brings
@@ -172,7 +172,7 @@ pub record HasRoom (p : Parts) : Type 0 where
 -- that it had. The cache holds each block that it held, clean now.
 pub record WritesWaiting (old new : Parts) : Type 0 where
   pub store : IsStore new
-  pub settled : IsSettled new
+  pub flushed : IsFlushed new
   pub content : content_of new ≡ content_of old
   pub log : WritesAhead old new
   pub used : (number : ℕ) → (row_of new.log.tables number).used

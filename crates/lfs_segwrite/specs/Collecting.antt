@@ -12,23 +12,23 @@ use Rattle.lfs_bmap.specs.Tables.{rank_of}
 use Rattle.lfs_parts.specs.declared.parts.Parts.{Parts}
 use Rattle.lfs_parts.specs.Opening.{inodes_entry}
 
--- the block of a key is written in a pass
+-- the block of a key is written in a turn
 abbrev pub is_of : ℕ → Key → Bool
-is_of pass key = rank_of key.lbn.0 == pass
+is_of turn key = rank_of key.lbn.0 == turn
 
 -- what a summary says of the block of a key
 abbrev pub entry_of : Key → SummaryEntry
 entry_of key =
     record { number = key.ino; version = key.version; block = logical_of (block_with key.lbn.0) }
 
--- the keys of the passes below one, pass by pass
-unfoldable pub in_passes : ℕ → List Key → List Key
-in_passes zero keys = []
-in_passes (suc pass) keys = in_passes pass keys ++ filter (is_of pass) keys
+-- the keys of the turns below one, turn by turn
+unfoldable pub in_turns : ℕ → List Key → List Key
+in_turns zero keys = []
+in_turns (suc turn) keys = in_turns turn keys ++ filter (is_of turn) keys
 
--- All passes: an indirect block gets the addresses of the blocks before it, and is written itself then.
+-- All turns: an indirect block gets the addresses of the blocks before it, and is written itself then.
 abbrev pub in_order : List Key → List Key
-in_order keys = in_passes RANKS keys
+in_order keys = in_turns RANKS keys
 
 -- A list of keys has each key that waits, once, and no other.
 pub record AreLocked (keys : List Key) (c : Contents) : Type 0 where

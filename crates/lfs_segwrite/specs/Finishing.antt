@@ -9,7 +9,7 @@ use Rattle.lfs_parts.specs.Keys.{log_state}
 use Rattle.lfs_segwrite.specs.Applying.{WritesWaiting}
 use Rattle.lfs_segwrite.specs.Gaining.{pass_blocks, widest}
 use Rattle.lfs_segwrite.specs.Giving.{HaveRoom}
-use Rattle.lfs_segwrite.specs.Marking.{AreNamed, MarksSettled, blocks_to_mark}
+use Rattle.lfs_segwrite.specs.Marking.{AreNamed, MarksFlushed, blocks_to_mark}
 
 -- the blocks of all these infos lie in a segment
 abbrev pub LieIn : ℕ → List BlockInfo → Type 0
@@ -57,7 +57,7 @@ pub record LacksRoomFor (marks : List BlockInfo) (p : Parts) : Type 0 where
 pub record MarksAgain (marks : List BlockInfo) (count : ℕ) (old new : Parts) : Type 0 where
   pub between : Parts
   pub written : WritesWaiting old between
-  pub again : MarksSettled marks count between new
+  pub again : MarksFlushed marks count between new
   pub opened : old.log.clean ≤ new.log.clean + 2
   pub last : old.log.clean ≤ 1 → 0 < count → HasRoomToMark marks between
   pub moves : Moves (DirtyIn (log_state old)) (log_state old) (log_state new)

@@ -15,7 +15,7 @@ use Rattle.lfs_segwrite.specs.Collecting.{blocks_of_entries, entries_of}
 use Rattle.lfs_staging.specs.Frames.{KeepsFrames}
 use Rattle.lfs_parts.specs.Files.{content_of}
 use Rattle.lfs_parts.specs.Keys.{log_state}
-use Rattle.lfs_parts.specs.Store.{IsSettled, IsStore}
+use Rattle.lfs_parts.specs.Store.{IsFlushed, IsStore}
 use Rattle.lfs_parts.specs.View.{key_of, version_of, waiting_in}
 
 -- Blocks were written at the log's end, perhaps in a clean segment that was opened for them. No key came to lie in a
@@ -45,7 +45,7 @@ Waits p number (suc code) = IsLocked (key_of number (version_of p number) (suc c
 -- Where summaries have serials, recovery finds the partial segment whole, and what it found before (`written`, `whole`).
 pub record Flushes (old new : Parts) : Type 0 where
   pub store : IsStore new
-  pub settled : IsSettled new
+  pub flushed : IsFlushed new
   pub content : content_of new ≡ content_of old
   pub segments : new.log.memory.segments ≡ old.log.memory.segments
   pub serials : has_serials new.log.memory ≡ has_serials old.log.memory

@@ -19,7 +19,7 @@ use Rattle.lfs_bmap.specs.Moves.{DirtyIn, Moves, StaysDirty, present_address}
 use Rattle.lfs_parts.specs.declared.parts.Parts.{Parts}
 use Rattle.lfs_parts.specs.Files.{content_of}
 use Rattle.lfs_parts.specs.Keys.{log_state}
-use Rattle.lfs_parts.specs.Store.{IsSettled, IsStore}
+use Rattle.lfs_parts.specs.Store.{IsFlushed, IsStore}
 use Rattle.lfs_parts.specs.View.{version_of}
 use Rattle.lfs_segwrite.specs.Marking.{AreNamed, IsNamed, IsOnWay, blocks_to_mark, code_named}
 use Rattle.lfs_segwrite.specs.declared.room.TheConstants.{WHOLE}
@@ -109,7 +109,7 @@ Spends blocks most old new =
 -- and their blocks are what they were.
 pub record MovesBlocks (old new : Parts) : Type 0 where
   pub store : IsStore new
-  pub settled : IsSettled new
+  pub flushed : IsFlushed new
   pub content : content_of new ≡ content_of old
   pub segments : new.log.memory.segments ≡ old.log.memory.segments
   pub serials : has_serials new.log.memory ≡ has_serials old.log.memory

@@ -74,7 +74,7 @@ pub record LandsBlock (old new : Parts) (v : Inode) (block : FileBlock) (a : ℕ
   pub file_data : (number n : ℕ) → number < length old.log.tables.rows
       → data_block (tree_of new number) n ≡ data_block (tree_of old number) n
   pub rows : new.log.tables.rows ≡ old.log.tables.rows
-  pub settled : block_in (key_of v.number v.version (code_of block)) new.cache.locked ≡ None
+  pub flushed : block_in (key_of v.number v.version (code_of block)) new.cache.locked ≡ None
   pub cached : block_in (key_of v.number v.version (code_of block)) new.cache.lru
       ≡ block_in (key_of v.number v.version (code_of block)) old.cache.locked
   pub held : KeepsFrames old.cache new.cache

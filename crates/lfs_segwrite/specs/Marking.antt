@@ -123,7 +123,7 @@ pub record IsRewritten (old new : LogState) (info : BlockInfo) : Type 0 where
 -- The blocks that some infos name were written again, so many, and nothing was done where none is named. Each key that
 -- is on no way to one of them has the place that it had, and the log grew by no more than the blocks that they take:
 -- where it ended, or from the start of a segment that was opened for them, where they had no room.
-pub record MarksSettled (marks : List BlockInfo) (count : ℕ) (old new : Parts) : Type 0 where
+pub record MarksFlushed (marks : List BlockInfo) (count : ℕ) (old new : Parts) : Type 0 where
   pub named : List BlockInfo
   pub are_named : AreNamed (log_state old) marks named
   pub counted : count ≡ length named

@@ -18,7 +18,7 @@ ghost use Rattle.lfs_segwrite.specs.declared.applying.TheConstants.{APPLIED_FRAM
 
 use crate::collecting::{blocks_to_write, inode_blocks};
 use crate::giving::leaves_some;
-use crate::room::{NoRoom, SPARE, USERS_SPARE};
+use crate::room::{RoomFault, SPARE, USERS_SPARE};
 use crate::writing::write_waiting;
 use lfs_bmap::blocks::FileBlock;
 use lfs_bmap::pieces::blocks_touched;
@@ -341,7 +341,7 @@ fn has_room_for(parts: &Parts, changes: &[Change<'_>], by: Reserve, blocks: u32)
 }
 
 /// Whether there is room for what waits and for changes.
-fn check_room(parts: &Parts, changes: &[Change<'_>], by: Reserve) -> Result<(), NoRoom>
+fn check_room(parts: &Parts, changes: &[Change<'_>], by: Reserve) -> Result<(), RoomFault>
     requires store { IsStore parts.now }
     requires reach { All IsInReach changes.now }
     requires frames { frames_of_all changes.now ≤ APPLIED_FRAMES }
@@ -354,7 +354,7 @@ fn check_room(parts: &Parts, changes: &[Change<'_>], by: Reserve) -> Result<(), 
     if has_room_for(parts, changes, by, blocks) {
         Ok(())
     } else {
-        Err(NoRoom)
+        Err(RoomFault)
     }
 }
 
@@ -374,7 +374,7 @@ fn make_way(parts: &mut Parts, changes: &[Change<'_>])
 
 /// Makes changes, in order: all of them, or none where there is no room. They wait; where more would
 /// wait than may, what waits is written first.
-pub fn apply(parts: &mut Parts, changes: &[Change<'_>], by: Reserve) -> Result<(), NoRoom>
+pub fn apply(parts: &mut Parts, changes: &[Change<'_>], by: Reserve) -> Result<(), RoomFault>
     requires store { IsStore parts.old }
     requires room { HasRoom parts.old }
     requires can { CanApply (length parts.old.log.tables.rows) changes.now

@@ -7,7 +7,7 @@ ghost use Rattle.lfs_segments.specs.Entry.{IsEntry};
 ghost use Rattle.lfs_segments.specs.declared.summary.TheConstants.{ENTRY_LIMIT};
 ghost use Rattle.lfs_segwrite.specs.Collecting.{AreLocked, blocks_of_entries, entries_of, entry_of, in_order, inode_blocks, is_of};
 ghost use Rattle.lfs_parts.specs.Opening.{inodes_entry};
-ghost use Rattle.lfs_parts.specs.Store.{AreFiles, IsBlockCode, IsSettled};
+ghost use Rattle.lfs_parts.specs.Store.{AreFiles, IsBlockCode, IsFlushed};
 ghost use Rattle.lfs_cache.specs.declared.key.Key.{Key};
 ghost use Rattle.lfs_parts.specs.declared.records.TheConstants.{WAITING_LIMIT};
 
@@ -23,14 +23,14 @@ use lfs_segments::summary::ENTRY_LIMIT;
 /// At most 40 entries, which lie in the value itself.
 pub type EntryList = ArrayVec<SummaryEntry, ENTRY_LIMIT>;
 
-/// Adds the entries of the blocks among some keys that are written in a pass.
-fn push_keys(list: &mut EntryList, keys: &[Key], pass: u32)
+/// Adds the entries of the blocks among some keys that are written in a turn.
+fn push_keys(list: &mut EntryList, keys: &[Key], turn: u32)
     requires coded { All (λ (key : Key). IsBlockCode key.lbn.0) keys.now }
-    requires room { length list.old.items + length (filter (is_of pass) keys.now) ≤ ENTRY_LIMIT }
-    ensures { list.new.items ≡ list.old.items ++ map entry_of (filter (is_of pass) keys.now) }
+    requires room { length list.old.items + length (filter (is_of turn) keys.now) ≤ ENTRY_LIMIT }
+    ensures { list.new.items ≡ list.old.items ++ map entry_of (filter (is_of turn) keys.now) }
 {
     for key in keys {
-        if rank(key.lbn.0) == pass {
+        if rank(key.lbn.0) == turn {
             list.push(entry_of(key));
         }
     }
@@ -88,8 +88,8 @@ pub fn to_land(parts: &Parts) -> EntryList
 {
     let keys = parts.cache.locked();
     let mut list = EntryList::new();
-    for pass in 0..RANKS {
-        push_keys(&mut list, keys, pass);
+    for turn in 0..RANKS {
+        push_keys(&mut list, keys, turn);
     }
     push_inodes(&mut list, inode_blocks(parts.waiting.len()));
     list
@@ -100,7 +100,7 @@ pub fn blocks_to_write(parts: &Parts) -> u32
     requires few { length parts.now.waiting ≤ WAITING_LIMIT }
     ensures blocks { result ≡ blocks_of_entries (entries_of parts.now) }
     ensures at_most { result ≤ ENTRY_LIMIT + 1 }
-    ensures none { (result ≡ 0) ↔ IsSettled parts.now }
+    ensures none { (result ≡ 0) ↔ IsFlushed parts.now }
 {
     let blocks = parts.cache.locked_count() + inode_blocks(parts.waiting.len());
     if blocks == 0 { 0 } else { blocks as u32 + 1 }

@@ -19,7 +19,7 @@ ghost use Rattle.lfs_segwrite.specs.Landing.{ExpectsBlock};
 ghost use Rattle.lfs_parts.specs.Opening.{inodes_entry};
 ghost use Rattle.lfs_segwrite.specs.Recording.{Advances, entry_at_version};
 ghost use Rattle.lfs_staging.specs.Staging.{IsStaged};
-ghost use Rattle.lfs_parts.specs.Store.{IsSettled};
+ghost use Rattle.lfs_parts.specs.Store.{IsFlushed};
 ghost use Rattle.lfs_parts.specs.View.{key_of, version_of};
 
 use crate::collecting::{blocks_to_write, to_land};
@@ -132,7 +132,7 @@ fn land_all_records(parts: &mut Parts)
     requires expected { Expects parts.old.log.memory
         (replicate (inode_blocks (length parts.old.waiting)) inodes_entry) }
     ensures staged { IsStaged parts.new 0 }
-    ensures settled { IsSettled parts.new }
+    ensures flushed { IsFlushed parts.new }
     ensures advances { (from : ℕ) → from ≤ next_address parts.old.log.memory
         → Advances from parts.old parts.new }
     ensures ready { Expects parts.new.log.memory [] }

@@ -7,13 +7,13 @@ ghost use Rattle.lfs_types.specs.declared.limits.TheConstants.{SEGMENT_BLOCKS};
 ghost use Rattle.lfs_segments.specs.Memory.{room_of};
 ghost use Rattle.lfs_bmap.specs.Moves.{DirtyIn};
 ghost use Rattle.lfs_segwrite.specs.Gaining.{Empties, IsGainful, IsWorth, MovesEights, NoneIsGainful, blocks_by_eights, eight, eights, live_infos, pass_blocks, widest, widest_eight};
-ghost use Rattle.lfs_segwrite.specs.Marking.{MarksSettled, blocks_to_mark};
+ghost use Rattle.lfs_segwrite.specs.Marking.{MarksFlushed, blocks_to_mark};
 ghost use Rattle.lfs_parts.specs.Files.{content_of};
 ghost use Rattle.lfs_parts.specs.Keys.{log_state};
-ghost use Rattle.lfs_parts.specs.Store.{IsSettled, IsStore};
+ghost use Rattle.lfs_parts.specs.Store.{IsFlushed, IsStore};
 
 use crate::counting::blocks_to_mark;
-use crate::marking::{is_named, mark_settled};
+use crate::marking::{is_named, mark_flushed};
 use crate::room::WHOLE;
 use lfs_ifile::SegState;
 use lfs_parts::parts::Parts;
@@ -145,16 +145,16 @@ pub fn gainful(parts: &Parts) -> Option<u32>
 /// Writes again the blocks that some infos name, for which there is room.
 fn mark_eight(parts: &mut Parts, marks: &[BlockInfo])
     requires store { IsStore parts.old }
-    requires settled { IsSettled parts.old }
+    requires flushed { IsFlushed parts.old }
     requires few { length marks.now ≤ MARK_LIMIT }
     requires room { (0 < parts.old.log.clean)
         ⊎ (blocks_to_mark marks.now ≤ room_of parts.old.log.memory) }
     ensures store { IsStore parts.new }
-    ensures settled { IsSettled parts.new }
+    ensures flushed { IsFlushed parts.new }
     ensures content { content_of parts.new ≡ content_of parts.old }
-    ensures marked { (count : ℕ) × MarksSettled marks.now count parts.old parts.new }
+    ensures marked { (count : ℕ) × MarksFlushed marks.now count parts.old parts.new }
 {
-    match mark_settled(parts, marks, false) {
+    match mark_flushed(parts, marks, false) {
         Ok(_) => {}
         // Never: there is room, as is required.
         Err(_) => unreachable!(),
@@ -164,7 +164,7 @@ fn mark_eight(parts: &mut Parts, marks: &[BlockInfo])
 /// Writes again, eight by eight, the blocks that some infos of dirty segments name, which is worth it.
 fn mark_by_eights(parts: &mut Parts, infos: &[BlockInfo])
     requires store { IsStore parts.old }
-    requires settled { IsSettled parts.old }
+    requires flushed { IsFlushed parts.old }
     requires few { length infos.now ≤ INFO_LIMIT }
     requires dirty { All (λ (info : BlockInfo). DirtyIn (log_state parts.old)
         (info.addr / SEGMENT_BLOCKS)
@@ -181,7 +181,7 @@ fn mark_by_eights(parts: &mut Parts, infos: &[BlockInfo])
 /// Empties a gainful segment: writes its live blocks again, eight by eight, elsewhere.
 pub fn empty_segment(parts: &mut Parts, segment: u32)
     requires store { IsStore parts.old }
-    requires settled { IsSettled parts.old }
+    requires flushed { IsFlushed parts.old }
     requires gainful { IsGainful parts.old segment }
     ensures { Empties segment parts.old parts.new }
 {

@@ -18,16 +18,16 @@ ghost use Rattle.lfs_segwrite.specs.Applying.{HasRoom, WritesWaiting};
 ghost use Rattle.lfs_parts.specs.Files.{content_of};
 ghost use Rattle.lfs_parts.specs.Keys.{log_state};
 ghost use Rattle.lfs_segwrite.specs.Finishing.{HasRoomToMark, LacksRoomFor, LacksRoomToMark, MarksAgain, SomeIsFinishable};
-ghost use Rattle.lfs_segwrite.specs.Marking.{AddsNamed, AreNamed, IsNamed, MarksSettled, StagesAgain, StagesNamed, code_named};
+ghost use Rattle.lfs_segwrite.specs.Marking.{AddsNamed, AreNamed, IsNamed, MarksFlushed, StagesAgain, StagesNamed, code_named};
 ghost use Rattle.lfs_staging.specs.Staging.{HasFrames, IsStaged, MayStage, StagesTable};
-ghost use Rattle.lfs_parts.specs.Store.{IsSettled, IsStore, IsWithin};
+ghost use Rattle.lfs_parts.specs.Store.{IsFlushed, IsStore, IsWithin};
 ghost use Rattle.lfs_parts.specs.View.{blocks_of, tree_from, tree_of};
 ghost use Rattle.lfs_parts.specs.declared.records.TheConstants.{WAITING_LIMIT};
 
 use crate::counting::{blocks_to_mark, code_named};
 use crate::finishing::has_finishable;
 use crate::flushing::flush;
-use crate::room::{NoRoom, make_room};
+use crate::room::{RoomFault, make_room};
 use crate::writing::write_waiting;
 use lfs_bmap::blocks::FileBlock;
 use lfs_bmap::tables::MOST_DEPTH;
@@ -56,12 +56,12 @@ fn has_few_clean(parts: &Parts) -> bool
 /// most 8 names. Says how many these are. Where at most one segment was clean, this is refused unless a
 /// dirty segment can be finished behind these blocks: what each takes is counted then, until one can. With
 /// more clean segments nothing is counted.
-pub fn mark(parts: &mut Parts, marks: &[BlockInfo]) -> Result<u32, NoRoom>
+pub fn mark(parts: &mut Parts, marks: &[BlockInfo]) -> Result<u32, RoomFault>
     requires store { IsStore parts.old }
     requires room { HasRoom parts.old }
     requires few { length marks.now ≤ MARK_LIMIT }
     ensures store { IsStore parts.new }
-    ensures settled { IsSettled parts.new }
+    ensures flushed { IsFlushed parts.new }
     ensures content { content_of parts.new ≡ content_of parts.old }
     ensures marked { IfOk result (λ count. MarksAgain marks.now count parts.old parts.new) }
     ensures few { IfOk result (λ count. count ≤ length marks.now) }
@@ -73,24 +73,24 @@ pub fn mark(parts: &mut Parts, marks: &[BlockInfo]) -> Result<u32, NoRoom>
 {
     let careful = has_few_clean(parts);
     write_waiting(parts);
-    mark_settled(parts, marks, careful)
+    mark_flushed(parts, marks, careful)
 }
 
 /// Writes again, at the log's end, each block that an info of a list of at most 8 names: its
 /// address is not 0, and is the block's present one. Says how many these are; an info that stands
 /// twice counts once. With care nothing is written where no dirty segment could be finished behind it.
-pub(crate) fn mark_settled(
+pub(crate) fn mark_flushed(
     parts: &mut Parts,
     marks: &[BlockInfo],
     careful: bool,
-) -> Result<u32, NoRoom>
+) -> Result<u32, RoomFault>
     requires store { IsStore parts.old }
-    requires settled { IsSettled parts.old }
+    requires flushed { IsFlushed parts.old }
     requires few { length marks.now ≤ MARK_LIMIT }
     ensures store { IsStore parts.new }
-    ensures settled { IsSettled parts.new }
+    ensures flushed { IsFlushed parts.new }
     ensures content { content_of parts.new ≡ content_of parts.old }
-    ensures marked { IfOk result (λ count. MarksSettled marks.now count parts.old parts.new) }
+    ensures marked { IfOk result (λ count. MarksFlushed marks.now count parts.old parts.new) }
     ensures last { IfOk result (λ count. careful ≡ true → 0 < count
         → HasRoomToMark marks.now parts.old) }
     ensures few { IfOk result (λ count. count ≤ length marks.now) }
@@ -117,7 +117,7 @@ fn make_room_to_mark(
     infos: &[BlockInfo],
     blocks: u32,
     careful: bool,
-) -> Result<(), NoRoom>
+) -> Result<(), RoomFault>
     requires store { IsStore parts.old }
     requires few { blocks ≤ 27 }
     ensures store { IsStore parts.new }
@@ -136,7 +136,7 @@ fn make_room_to_mark(
     ensures short { OnErr result (careful ≡ false → room_of parts.old.log.memory < blocks) }
 {
     if careful && !has_finishable(parts, infos, blocks) {
-        return Err(NoRoom);
+        return Err(RoomFault);
     }
     make_room(parts, blocks)
 }
@@ -177,7 +177,7 @@ pub(crate) fn is_named(parts: &Parts, info: &BlockInfo) -> bool
 /// Has the blocks that some infos name wait with what they have.
 fn stage_named(parts: &mut Parts, named: &[BlockInfo])
     requires staged { IsStaged parts.old 0 }
-    requires settled { IsSettled parts.old }
+    requires flushed { IsFlushed parts.old }
     requires named { All (IsNamed (log_state parts.old)) named.now }
     requires few { length named.now ≤ MARK_LIMIT }
     ensures { StagesNamed named.now parts.old parts.new }

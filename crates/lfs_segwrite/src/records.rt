@@ -17,7 +17,7 @@ use lfs_parts::parts::Parts;
 
 /// Takes the last record that waits off the list. The log has it in a slot of the block at an
 /// address, and that is its place now.
-fn settle_record(parts: &mut Parts, address: u32, slot: u16)
+fn note_landed(parts: &mut Parts, address: u32, slot: u16)
     requires staged { IsStaged parts.old 128 }
     requires no_frame { parts.old.cache.locked ≡ [] }
     requires some { 0 < length parts.old.waiting }
@@ -57,6 +57,6 @@ pub(crate) fn land_records(parts: &mut Parts)
     let address = append_block(parts, &block);
     while parts.waiting.len() > first {
         let slot = parts.waiting.len() - 1 - first;
-        settle_record(parts, address, slot as u16);
+        note_landed(parts, address, slot as u16);
     }
 }

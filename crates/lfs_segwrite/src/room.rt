@@ -22,11 +22,11 @@ pub const USERS_SPARE: u32 = 32;
 
 /// The log has no room: too few blocks are left in the active segment, and no segment may be opened.
 #[derive(Clone, Copy, PartialEq, Eq, Debug)]
-pub struct NoRoom;
+pub struct RoomFault;
 
 /// Makes room in the active segment for so many blocks, at most 63. Where it has fewer left, a
 /// clean segment is opened; where none is clean, nothing changes.
-pub fn make_room(parts: &mut Parts, blocks: u32) -> Result<(), NoRoom>
+pub fn make_room(parts: &mut Parts, blocks: u32) -> Result<(), RoomFault>
     requires store { IsStore parts.old }
     requires at_most { blocks < SEGMENT_BLOCKS }
     ensures store { IsStore parts.new }
@@ -46,7 +46,7 @@ pub fn make_room(parts: &mut Parts, blocks: u32) -> Result<(), NoRoom>
         return Ok(());
     }
     if parts.log.clean() == 0 {
-        return Err(NoRoom);
+        return Err(RoomFault);
     }
     open_segment(parts);
     Ok(())

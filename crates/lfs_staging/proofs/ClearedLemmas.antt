@@ -106,7 +106,7 @@ module _ (p s q : Parts) (v : Inode) (block : FileBlock) (i : ℕ) (up : List �
     room = room_at p v block h.is h.can h.other i up h.way;
     parent = parent_set p s q v block 0 i up unstages;
     root = λ some. ap root_in (record_here p s q v block 0 i up unstages some);
-    settled = waits_none p s q v block 0 i up unstages;
+    flushed = waits_none p s q v block 0 i up unstages;
     waits = waits_rest p s q v block 0 i up unstages;
     blocks = blocks_same;
     beneath = h.beneath;

@@ -1,5 +1,5 @@
 -- No frame is given up where an indirect block that waits gets other bytes (`overwritten_frames`, for `set_entry`) or a
--- block is settled (`settled_frames`, for `land_block`); and so in steps, one behind the other (`KeepsFrames-trans`).
+-- block is flushed (`flushed_frames`, for `land_block`); and so in steps, one behind the other (`KeepsFrames-trans`).
 -- Neither of the two calls takes a frame, as the key has one.
 use Rattle.std.proofs.Common.{◌≡◌, ℕ, ◌<◌, List, Option, None, Some, IsSome, is_some, false, refl, sym, ap, ap₂}
 use Rattle.std.proofs.Common.{◌∙◌, subst, inl, inr, arith}
@@ -26,10 +26,10 @@ pub KeepsFrames-trans : (a b c : Contents) → KeepsFrames a b → KeepsFrames b
 KeepsFrames-trans a b c h g =
     record { keys = λ key. g.keys key ∙ h.keys key; bytes = λ key far. g.bytes key far ∙ h.bytes key far }
 
--- where a block was settled
-pub settled_frames : (old new : Contents) (k : Key) → block_of k new ≡ block_of k old → KeepsOthers k old new
+-- where a block was flushed
+pub flushed_frames : (old new : Contents) (k : Key) → block_of k new ≡ block_of k old → KeepsOthers k old new
     → KeepsFrames old new
-settled_frames old new k kept keeps = frames_blocks old new
+flushed_frames old new k kept keeps = frames_blocks old new
     (λ key. elim (same_cases k key) [
       | inl same ↦ subst (λ x. block_of x new ≡ block_of x old) (same_is k key same) kept
       | inr apart ↦ keeps.blocks key apart

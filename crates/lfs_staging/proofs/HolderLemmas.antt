@@ -1,4 +1,7 @@
--- What holds the address of a block that waits.
+-- What holds the address of a block that waits: `holder_at`, `holder_code` and `holder_coded`. The address of a block
+-- stands in the record or in an indirect block, that of its way without the first step; where this is no record it is a
+-- block of the file with a code other than 0 (`table_of-way`), so that it waits just where its key is locked.
+-- `block_gone` and `gone_free` say the same of a block that is gone, as its way and its code tell of each other.
 use Rattle.std.proofs.Common.{List, [], ap, subst, sym, ℕ, ◌∙◌, ◌∷◌, ◌≡◌, ◌≢◌}
 use Rattle.lfs_cache.specs.Contents.{Contents, IsLocked}
 use Rattle.lfs_bmap.specs.Ways.{code_at, way_of}

@@ -6,4 +6,4 @@ use Rattle.lfs_segwrite.proofs.collecting.push_keys.Given as goal
 -- the entries of the keys so far
 abbrev pub invariant-loop-key : goal.invariant-loop-key
 invariant-loop-key l = l.list.items ≡ l.initial.list.items
-    ++ map entry_of (filter (is_of l.pass) (take l.key-index l.keys))
+    ++ map entry_of (filter (is_of l.turn) (take l.key-index l.keys))

@@ -4,14 +4,14 @@ use Rattle.lfs_cache.specs.declared.key.Key.{Key}
 use Rattle.lfs_cache.specs.Contents.{AreApart}
 use Rattle.lfs_segments.specs.Entry.{IsEntry}
 use Rattle.lfs_parts.specs.Store.{IsBlockCode}
-use Rattle.lfs_segwrite.specs.Collecting.{entry_of, in_passes}
+use Rattle.lfs_segwrite.specs.Collecting.{entry_of, in_turns}
 use Rattle.lfs_segwrite.proofs.CollectingLemmas.{all_entries, collected, collected_more, collected_none, collected_room}
 use Rattle.lfs_segwrite.proofs.CollectingLemmas.{entries_of-length, in_order-length}
 use Rattle.lfs_segwrite.proofs.OrderLemmas.{in_order-locked, listed_waits}
 use Rattle.lfs_segwrite.proofs.collecting.to_land.Goals as goal
 
-pub loop-pass-init : goal.loop-pass-init
-loop-pass-init c = c.new-list.ensures ∙ sym (collected_none c.locked-keys.result.now)
+pub loop-turn-init : goal.loop-turn-init
+loop-turn-init c = c.new-list.ensures ∙ sym (collected_none c.locked-keys.result.now)
 
 pub push_keys-requires-clause-coded : goal.push_keys-requires-clause-coded
 push_keys-requires-clause-coded c =
@@ -23,26 +23,26 @@ push_keys-requires-clause-room c =
     let keys = ap length c.locked-keys.ensures.keys in
     let locked = length-map c.args.parts.now.cache.locked (λ e. e.0) in
     let limit = c.requires.files.cache.limit in
-    collected_room c.loop-pass.list.items c.loop-pass.pass c.locked-keys.result.now c.loop-pass.invariant
-    c.loop-pass-test.true (omega arith)
+    collected_room c.loop-turn.list.items c.loop-turn.turn c.locked-keys.result.now c.loop-turn.invariant
+    c.loop-turn-test.true (omega arith)
 
-pub loop-pass-preserved : goal.loop-pass-preserved
-loop-pass-preserved c = collected_more c.loop-pass.list.items c.push_keys.new.list.items c.loop-pass.pass
-    c.locked-keys.result.now c.loop-pass.invariant c.push_keys.ensures
+pub loop-turn-preserved : goal.loop-turn-preserved
+loop-turn-preserved c = collected_more c.loop-turn.list.items c.push_keys.new.list.items c.loop-turn.turn
+    c.locked-keys.result.now c.loop-turn.invariant c.push_keys.ensures
 
--- all passes are done
-whole : (c : goal.After-push_inodes) → c.loop-pass.list.items ≡ map entry_of (in_passes 3 c.locked-keys.result.now)
+-- all turns are done
+whole : (c : goal.After-push_inodes) → c.loop-turn.list.items ≡ map entry_of (in_turns 3 c.locked-keys.result.now)
 whole c =
-    let end : c.loop-pass.pass ≡ 3 = omega (arith, c.loop-pass-test.false, c.loop-pass.auto.pass-end) in
-    subst (λ n. c.loop-pass.list.items ≡ map entry_of (in_passes n c.locked-keys.result.now)) end c.loop-pass.invariant
+    let end : c.loop-turn.turn ≡ 3 = omega (arith, c.loop-turn-test.false, c.loop-turn.auto.turn-end) in
+    subst (λ n. c.loop-turn.list.items ≡ map entry_of (in_turns n c.locked-keys.result.now)) end c.loop-turn.invariant
 
 pub push_inodes-requires : goal.push_inodes-requires
 push_inodes-requires c =
-    let end : c.loop-pass.pass ≡ 3 = omega (arith, c.loop-pass-test.false, c.loop-pass.auto.pass-end) in
-    let all = subst (λ n. c.loop-pass.list.items
-    ≡ map entry_of (in_passes n c.locked-keys.result.now)) end c.loop-pass.invariant in
+    let end : c.loop-turn.turn ≡ 3 = omega (arith, c.loop-turn-test.false, c.loop-turn.auto.turn-end) in
+    let all = subst (λ n. c.loop-turn.list.items
+    ≡ map entry_of (in_turns n c.locked-keys.result.now)) end c.loop-turn.invariant in
     let many = ap length all in
-    let mapped = length-map (in_passes 3 c.locked-keys.result.now) entry_of in
+    let mapped = length-map (in_turns 3 c.locked-keys.result.now) entry_of in
     let whole = in_order-length c.locked-keys.result.now in
     let keys = ap length c.locked-keys.ensures.keys in
     let locked = length-map c.args.parts.now.cache.locked (λ e. e.0) in
@@ -52,7 +52,7 @@ push_inodes-requires c =
 
 pub returns-clause-entries : goal.returns-clause-entries
 returns-clause-entries c =
-    collected c.args.parts.now c.loop-pass.list.items c.push_inodes.new.list.items c.locked-keys.result.now
+    collected c.args.parts.now c.loop-turn.list.items c.push_inodes.new.list.items c.locked-keys.result.now
     c.inode_blocks.result (whole c) c.push_inodes.ensures
     c.locked-keys.ensures.keys (omega (arith, c.inode_blocks.ensures, c.len.ensures))
 

@@ -11,7 +11,7 @@ use Rattle.lfs_found.proofs.RecoverableLemmas.{partial_entries, recoverable_rise
 use Rattle.lfs_segwrite.specs.Collecting.{blocks_of_entries, entries_of}
 use Rattle.lfs_segwrite.proofs.AdvanceLemmas.{Advances-refl, Advances-trans}
 use Rattle.lfs_segwrite.proofs.CollectingLemmas.{entries_of-length}
-use Rattle.lfs_segwrite.proofs.FlushLemmas.{advanced_extends, blocks_some, entries_more, flushed, records_last, records_some}
+use Rattle.lfs_segwrite.proofs.FlushLemmas.{advanced_extends, blocks_some, entries_more, flush_moves, records_last, records_some}
 use Rattle.lfs_segwrite.proofs.OrderLemmas.{entries_of-same}
 use Rattle.lfs_segwrite.proofs.flushing.flush.Goals as goal
 
@@ -96,7 +96,7 @@ returns c =
     let recorded = c.land_all_records.ensures.advances from (both.next) in
     let all = Advances-trans from p c.land_blocks.new.parts q both recorded in
     let waits : 0 < length p.waiting = records_some p c.requires.staged (entries_some c) in
-    flushed p q c.land_all_records.ensures.staged c.land_all_records.ensures.ready c.land_all_records.ensures.settled all
+    flush_moves p q c.land_all_records.ensures.staged c.land_all_records.ensures.ready c.land_all_records.ensures.flushed all
     (grown_is c) (written_whole c)
     (λ was. writes_recoverable p.log.memory q.log.memory (entries_of p) c.requires.staged.whole.parts.laid_out.begun
     c.land_all_records.ensures.staged.whole.parts.laid_out all.serials (all.rising (recoverable_rises p.log.memory was))
@@ -106,11 +106,11 @@ returns c =
 pub returns-then-blocks_to_write-eq0 : goal.returns-then-blocks_to_write-eq0
 returns-then-blocks_to_write-eq0 c =
     let p = c.args.parts.now in
-    let settled = c.blocks_to_write.ensures.none.0 c.if-blocks_to_write-eq0.true in
-    let none : length p.waiting ≡ 0 = ap (λ (w : List Inode). length w) settled.no_record in
+    let flushed = c.blocks_to_write.ensures.none.0 c.if-blocks_to_write-eq0.true in
+    let none : length p.waiting ≡ 0 = ap (λ (w : List Inode). length w) flushed.no_record in
     let blocks = c.blocks_to_write.ensures.blocks in
     let zero_blocks = c.if-blocks_to_write-eq0.true in
-    flushed p p c.requires.staged c.requires.ready settled (Advances-refl (next_address p.log.memory) p) (omega arith)
+    flush_moves p p c.requires.staged c.requires.ready flushed (Advances-refl (next_address p.log.memory) p) (omega arith)
     (λ some. absurd (omega arith)) (λ was. was)
 
 pub begin_partial-requires-clause-some : goal.begin_partial-requires-clause-some

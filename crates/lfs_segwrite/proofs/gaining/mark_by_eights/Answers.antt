@@ -2,14 +2,14 @@ use Rattle.std.proofs.Common.{refl, ◌⊎◌, ◌<◌, ◌≤◌, sym, subst, a
 use Rattle.lfs_bmap.specs.Counting.{total}
 use Rattle.lfs_segments.specs.Memory.{room_of}
 use Rattle.lfs_segwrite.specs.Gaining.{blocks_by_eights, eight_blocks, widest_eight}
-use Rattle.lfs_segwrite.specs.Marking.{MarksSettled, blocks_to_mark}
+use Rattle.lfs_segwrite.specs.Marking.{MarksFlushed, blocks_to_mark}
 use Rattle.lfs_segwrite.proofs.GainLemmas.{eights_more, moves_none, room_next, spent_none, total_part}
 use Rattle.lfs_segwrite.proofs.gaining.mark_by_eights.Goals as goal
 
 pub loop-k-init : goal.loop-k-init
 unfolding total
 loop-k-init c = record {
-  moved = moves_none c.args.parts.now c.requires.store c.requires.settled;
+  moved = moves_none c.args.parts.now c.requires.store c.requires.flushed;
   gone = λ j d low. absurd (omega arith);
   still = λ n code low below other. refl;
   spent = spent_none (widest_eight c.args.infos.now) c.args.parts.now;
@@ -32,6 +32,6 @@ loop-k-preserved c =
     let e = c.mark_eight.ensures in
     eights_more infos k e.marked.0 c.args.parts.now c.loop-k.parts c.mark_eight.new.parts c.requires.worth
     c.requires.dirty (omega (arith, c.eights-count.ensures, c.loop-k-test.true))
-    c.loop-k.invariant e.store e.settled e.content
-    (subst (λ marks. MarksSettled marks e.marked.0 c.loop-k.parts c.mark_eight.new.parts) c.eight.ensures.eight
+    c.loop-k.invariant e.store e.flushed e.content
+    (subst (λ marks. MarksFlushed marks e.marked.0 c.loop-k.parts c.mark_eight.new.parts) c.eight.ensures.eight
     e.marked.1)

@@ -23,8 +23,8 @@ use Rattle.lfs_parts.specs.Keys.{log_state}
 use Rattle.lfs_segwrite.specs.Landing.{AppendsBlock, MayLand, entry_of}
 use Rattle.lfs_parts.specs.View.{LiesIn, blocks_of, key_of, tree_of}
 use Rattle.lfs_parts.proofs.FileLemmas.{tree_from-of}
-use Rattle.lfs_staging.proofs.HeldFrames.{KeepsFrames-same, KeepsFrames-trans, settled_frames}
-use Rattle.lfs_parts.proofs.HeldLemmas.{clean_was, keeps_gains, settled_own}
+use Rattle.lfs_staging.proofs.HeldFrames.{KeepsFrames-same, KeepsFrames-trans, flushed_frames}
+use Rattle.lfs_parts.proofs.HeldLemmas.{clean_was, keeps_gains, flushed_own}
 use Rattle.lfs_parts.proofs.KeyLemmas.{lies_in, place-block}
 use Rattle.lfs_segwrite.proofs.KeepingLemmas.{content_kept, files_kept, frames_kept, frames_only}
 use Rattle.lfs_staging.proofs.ForgettingLemmas.{live_had, stays_landed, waited_parent, way_some}
@@ -157,7 +157,7 @@ steps c i up way =
           let held = subst (λ n. block_of (key_of v.number v.version n) c.settle.new.self
           ≡ block_of (key_of v.number v.version n) c.set_address.new.parts.cache) c.code.ensures
           c.settle.ensures.kept in
-          settled_own c.set_address.new.parts.cache c.settle.new.self k waits.0 bytes c.settle.ensures.formed held
+          flushed_own c.set_address.new.parts.cache c.settle.new.self k waits.0 bytes c.settle.ensures.formed held
           (set_waits ∙ waits.1) there
           ∙ waits_read p v c.args.block i up waits.0 may.is way waits.1;
     }
@@ -197,12 +197,12 @@ returns-clause-landed c =
       file_data = λ number n low. data_same p r s q v b a w.0 w.1 st
           (waited_parent p v may.is w.1 (may.parent w.0 w.1 w.2)) number n low;
       rows = st.rows ∙ ap (λ (t : Tables). t.rows) st.put.tables;
-      settled = st.gone;
+      flushed = st.gone;
       cached = own_clean c w.0 w.1 w.2;
       held = KeepsFrames-trans p.cache s.cache q.cache
           (KeepsFrames-trans p.cache r.cache s.cache (KeepsFrames-same p.cache r.cache st.put.cache)
           c.set_address.ensures.held)
-          (settled_frames s.cache q.cache (key_of v.number v.version c.code.result) c.settle.ensures.kept
+          (flushed_frames s.cache q.cache (key_of v.number v.version c.code.result) c.settle.ensures.kept
           c.settle.ensures.others);
     }
 

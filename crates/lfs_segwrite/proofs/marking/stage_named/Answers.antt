@@ -5,7 +5,7 @@ use Rattle.lfs_segwrite.proofs.StagesLemmas.{stages_frames, stages_more, stages_
 use Rattle.lfs_segwrite.proofs.marking.stage_named.Goals as goal
 
 pub loop-info-init : goal.loop-info-init
-loop-info-init c = stages_none c.args.parts.now c.requires.staged c.requires.settled
+loop-info-init c = stages_none c.args.parts.now c.requires.staged c.requires.flushed
 
 pub stage_info-requires-clause-staged : goal.stage_info-requires-clause-staged
 stage_info-requires-clause-staged c = c.loop-info.invariant.staged

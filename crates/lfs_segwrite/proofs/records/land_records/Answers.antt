@@ -16,8 +16,8 @@ loop-parts-init c =
     c.append_block-address.result _ c.append_block-address.ensures.kept
     c.requires.staged c.append_block-address.ensures.put (omega arith) (omega arith)
 
-pub settle_record-requires-clause-stands : goal.settle_record-requires-clause-stands
-settle_record-requires-clause-stands c = λ front v items.
+pub note_landed-requires-clause-stands : goal.note_landed-requires-clause-stands
+note_landed-requires-clause-stands c = λ front v items.
     let first = c.saturating_sub-first.result in
     let waiting = c.args.parts.now.waiting in
     let begins : length waiting - 4 ≡ first = omega arith in
@@ -33,11 +33,11 @@ settle_record-requires-clause-stands c = λ front v items.
 
 pub loop-parts-preserved : goal.loop-parts-preserved
 loop-parts-preserved c =
-    recording_more c.args.parts.now c.append_block-address.new.parts c.loop-parts.parts c.settle_record.new.parts
+    recording_more c.args.parts.now c.append_block-address.new.parts c.loop-parts.parts c.note_landed.new.parts
     c.saturating_sub-first.result c.append_block-address.result
-    c.loop-parts.invariant (omega arith) c.settle_record.ensures.staged c.settle_record.ensures.advances
-    c.settle_record.ensures.waiting c.settle_record.ensures.cache
-    c.settle_record.ensures.memory
+    c.loop-parts.invariant (omega arith) c.note_landed.ensures.staged c.note_landed.ensures.advances
+    c.note_landed.ensures.waiting c.note_landed.ensures.cache
+    c.note_landed.ensures.memory
 
 pub returns-clause-advances : goal.returns-clause-advances
 returns-clause-advances c = λ from low. c.loop-parts.invariant.advances from

@@ -1,19 +1,19 @@
 use Rattle.std.proofs.Common.{subst, sym}
 use Rattle.lfs_found.specs.Written.{IsRecoverable}
 use Rattle.lfs_parts.specs.declared.parts.Parts.{Parts}
-use Rattle.lfs_logstore.proofs.RoomLemmas.{settled_room}
+use Rattle.lfs_logstore.proofs.RoomLemmas.{flushed_room}
 use Rattle.lfs_logstore.proofs.store.LogStore.gain.Goals as goal
 
 pub invariant_of-self : goal.invariant_of-self
 invariant_of-self c = (
   c.empty_segment.ensures.moved.store,
-  settled_room c.empty_segment.new.parts c.empty_segment.ensures.moved.settled,
+  flushed_room c.empty_segment.new.parts c.empty_segment.ensures.moved.flushed,
 )
 
 pub invariant_of-self-in-None : goal.invariant_of-self-in-None
 invariant_of-self-in-None c = (
   c.write_waiting.ensures.store,
-  settled_room c.write_waiting.new.parts c.write_waiting.ensures.settled,
+  flushed_room c.write_waiting.new.parts c.write_waiting.ensures.flushed,
 )
 
 pub returns-in-Some-clause-whole : goal.returns-in-Some-clause-whole

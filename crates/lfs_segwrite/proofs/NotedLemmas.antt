@@ -1,5 +1,5 @@
--- A record that stands in a slot of the log waits no more, and all files are what they were: `settled_staged`,
--- `settled_advances`, for `records::settle_record`. Read at its new place it is the one that waited (`record_here`);
+-- A record that stands in a slot of the log waits no more, and all files are what they were: `flushed_staged`,
+-- `flushed_advances`, for `records::note_landed`. Read at its new place it is the one that waited (`record_here`);
 -- its key takes the place and with it 128 of the spare bytes that the inode block brought (`taken_log`). The last
 -- record is popped, and as no number waits twice none of its number is left (`last_once`); nothing else may wait by
 -- then, which `no_frame` says.
@@ -121,7 +121,7 @@ module _ (p : Parts) (v : Inode) (front : List Inode) (address slot spare : ℕ)
       (let low = stands.in_block in omega arith)
 
 -- ---- what settling makes
-pub record Settles (p q : Parts) (v : Inode) (front : List Inode) (address slot : ℕ) : Type 0 where
+pub record Flushes (p q : Parts) (v : Inode) (front : List Inode) (address slot : ℕ) : Type 0 where
   pub staged : IsStaged p 128
   pub no_frame : p.cache.locked ≡ []
   pub items : p.waiting ≡ front ++ v ∷ []
@@ -139,7 +139,7 @@ pub record Settles (p q : Parts) (v : Inode) (front : List Inode) (address slot 
       → Assigns (log.log_state p.log at) (log.log_state q.log
       (placed at v.number 0 (record_place q.log.tables v.number))) v.number 0 (record_place q.log.tables v.number)
 
-module _ (p q : Parts) (v : Inode) (front : List Inode) (address slot : ℕ) (h : Settles p q v front address slot) where
+module _ (p q : Parts) (v : Inode) (front : List Inode) (address slot : ℕ) (h : Flushes p q v front address slot) where
   present : IsPresent p v.number v.version
   present = last_present p v front address slot 0 h.staged h.items h.stands
 
@@ -242,8 +242,8 @@ module _ (p q : Parts) (v : Inode) (front : List Inode) (address slot : ℕ) (h 
         owners = taken.owners;
       }
 
-  pub settled_staged : (spare : ℕ) → IsStaged p (spare + 128) → IsStaged q spare
-  settled_staged spare staged =
+  pub flushed_staged : (spare : ℕ) → IsStaged p (spare + 128) → IsStaged q spare
+  flushed_staged spare staged =
       let may = last_may p v front address slot spare staged h.items h.stands in
       let log = taken_log (log_state p) (log_state q) (spare + 128) v.number 0 (4 * address
       + slot) staged.log may assigns in
@@ -290,8 +290,8 @@ module _ (p q : Parts) (v : Inode) (front : List Inode) (address slot : ℕ) (h 
       absurd (none (subst (IsLocked (key_of n (version_of q n) (suc c))) (sym h.cache)
       (subst (λ m. IsLocked (key_of n m (suc c)) p.cache) (sym (version_kept n)) waits)))
 
-  pub settled_advances : (from : ℕ) → from ≤ address → Advances from p q
-  settled_advances from first = record {
+  pub flushed_advances : (from : ℕ) → from ≤ address → Advances from p q
+  flushed_advances from first = record {
     content = alike_content p q alike;
     segments = ap (λ (m : SegmentMemory). m.segments) h.memory;
     serials = ap has_serials h.memory;

@@ -7,18 +7,18 @@ use Rattle.lfs_parts.specs.Keys.{log_state}
 use Rattle.lfs_segwrite.specs.Finishing.{LacksRoomToMark, SomeIsFinishable}
 use Rattle.lfs_segwrite.specs.Marking.{AreNamed}
 use Rattle.lfs_staging.proofs.KeptLemmas.{store_staged}
-use Rattle.lfs_segwrite.proofs.MarkedLemmas.{marked_content, marks_again, settled_still, staged_fits}
+use Rattle.lfs_segwrite.proofs.MarkedLemmas.{marked_content, marks_again, flushed_still, staged_fits}
 use Rattle.lfs_segwrite.proofs.NamedLemmas.{named_kept}
-use Rattle.lfs_segwrite.proofs.marking.mark_settled.Goals as goal
+use Rattle.lfs_segwrite.proofs.marking.mark_flushed.Goals as goal
 
 are_named : (c : goal.After-stage_named-arg-1)
     → AreNamed (log_state c.args.parts.now) c.args.marks.now c.items-infos.result.now
 are_named c = subst (AreNamed (log_state c.args.parts.now) c.args.marks.now)
     (sym c.items-infos.ensures.items) c.named-named.ensures.named
 
-pub stage_named-requires-clause-settled : goal.stage_named-requires-clause-settled
-stage_named-requires-clause-settled c = settled_still c.args.parts.now c.make_room_to_mark.new.parts
-    c.in_ok-make_room_to_mark.ensures.files c.requires.settled
+pub stage_named-requires-clause-flushed : goal.stage_named-requires-clause-flushed
+stage_named-requires-clause-flushed c = flushed_still c.args.parts.now c.make_room_to_mark.new.parts
+    c.in_ok-make_room_to_mark.ensures.files c.requires.flushed
 
 pub stage_named-requires-clause-staged : goal.stage_named-requires-clause-staged
 stage_named-requires-clause-staged c =

@@ -1,8 +1,8 @@
 use Rattle.std.proofs.Common.{◌≡◌, ◌++◌, ◌∷◌, [], refl}
 use Rattle.lfs_parts.specs.declared.parts.Parts.{Parts}
-use Rattle.lfs_segwrite.proofs.SettleLemmas.{Settles, last_low, last_move, last_present, settled_advances}
-use Rattle.lfs_segwrite.proofs.SettleLemmas.{settled_staged}
-use Rattle.lfs_segwrite.proofs.records.settle_record.Goals as goal
+use Rattle.lfs_segwrite.proofs.NotedLemmas.{Flushes, last_low, last_move, last_present, flushed_advances}
+use Rattle.lfs_segwrite.proofs.NotedLemmas.{flushed_staged}
+use Rattle.lfs_segwrite.proofs.records.note_landed.Goals as goal
 
 pub place_record-requires-clause-in_range : goal.place_record-requires-clause-in_range
 place_record-requires-clause-in_range c =
@@ -30,7 +30,7 @@ returns-clause-staged c =
       cache = c.args.parts.now.cache;
       waiting = c.pop-inode.new.self;
     } in
-    let h : Settles c.args.parts.now q c.pop-inode.result c.pop-inode.new.self c.args.address c.args.slot = record {
+    let h : Flushes c.args.parts.now q c.pop-inode.result c.pop-inode.new.self c.args.address c.args.slot = record {
       staged = c.requires.staged;
       no_frame = c.requires.no_frame;
       items = items;
@@ -46,7 +46,7 @@ returns-clause-staged c =
       kept = c.place_record.ensures.kept;
       step = c.place_record.ensures.step;
     } in
-    settled_staged c.args.parts.now q c.pop-inode.result c.pop-inode.new.self c.args.address c.args.slot h
+    flushed_staged c.args.parts.now q c.pop-inode.result c.pop-inode.new.self c.args.address c.args.slot h
 
 pub returns-clause-advances : goal.returns-clause-advances
 returns-clause-advances c =
@@ -56,7 +56,7 @@ returns-clause-advances c =
       cache = c.args.parts.now.cache;
       waiting = c.pop-inode.new.self;
     } in
-    let h : Settles c.args.parts.now q c.pop-inode.result c.pop-inode.new.self c.args.address c.args.slot = record {
+    let h : Flushes c.args.parts.now q c.pop-inode.result c.pop-inode.new.self c.args.address c.args.slot = record {
       staged = c.requires.staged;
       no_frame = c.requires.no_frame;
       items = items;
@@ -72,4 +72,4 @@ returns-clause-advances c =
       kept = c.place_record.ensures.kept;
       step = c.place_record.ensures.step;
     } in
-    settled_advances c.args.parts.now q c.pop-inode.result c.pop-inode.new.self c.args.address c.args.slot h
+    flushed_advances c.args.parts.now q c.pop-inode.result c.pop-inode.new.self c.args.address c.args.slot h
