@@ -15,12 +15,6 @@ use Rattle.lfs_dirs.proofs.Laws.{bytes_of, length-bytes_of, Spells-bytes, Spells
 use Rattle.lfs_dirs.proofs.Changes.{AreEntries-added}
 use borrow.Rule.Slice.PartMut.{put_mid, mid_of, post_of}
 
-mid_is : (a k : ℕ) (xs : List ℕ) → mid_of a k xs ≡ take k (drop a xs)
-mid_is a k xs = refl
-
-post_is : (a k : ℕ) (xs : List ℕ) → post_of a k xs ≡ drop k (drop a xs)
-post_is a k xs = refl
-
 -- the bytes of the block, once the bytes of the entry stand at the front of the zeros
 written : (block front : List ℕ) (n end : ℕ) (e : Entry) (out : List ℕ)
     → block ≡ front ++ replicate n 0 → length front ≡ end → end + n ≡ 512 → 5 + length e.1 ≤ n

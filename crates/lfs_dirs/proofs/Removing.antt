@@ -4,7 +4,7 @@
 use Rattle.std.proofs.Common.{◌≡◌, ℕ, ◌+◌, ◌≤◌, false, List, [], ◌∷◌, ◌++◌, length, take, replicate, None}
 use Rattle.std.proofs.Common.{refl, sym, ap, ◌∙◌, subst, arith, append_assoc, length-append}
 use Rattle.std.proofs.lemmas.Grind.{flat_map-append}
-use Rattle.std.proofs.lemmas.List.{append-nil, append_cancel_left, length-replicate, replicate-append-replicate, take_at}
+use Rattle.std.proofs.lemmas.List.{append_cancel_left, length-replicate, replicate-append-replicate, take_at}
 use Rattle.lfs_dirs.specs.Directory.{Entry, entry_bytes, used_of, has_name, number_in, without, IsEntry, AreEntries}
 use Rattle.lfs_dirs.specs.Directory.{IsDirectoryBlock, Spells}
 use Rattle.lfs_dirs.specs.Reading.{StandsBehind, StandsFirst, entries_of}
@@ -55,23 +55,6 @@ module _ (bytes name rest others : List ℕ) (e : Entry) (front : IsFront bytes 
         ∙ sym (append_assoc (bytes_of front.before) (entry_bytes e) others)
         ∙ ap (λ bs. bs ++ others) (bytes_of-added front.before e);
   }
-
-  -- and one of the name
-  pub front_found : e.1 ≡ name → StandsBehind bytes name others
-  front_found named = record {
-    before = front.before;
-    entry = e;
-    absent = front.absent;
-    named = named;
-    read = front.read ∙ ap (λ es. front.before ++ es) first.read;
-    spelled = front.spelled ∙ ap (λ bs. bytes_of front.before ++ bs) first.spelled;
-  }
-
--- where no more are left, none has the name
-pub front_last : (bytes name rest : List ℕ) → IsFront bytes name rest → entries_of rest ≡ []
-    → number_in name (entries_of bytes) ≡ None
-front_last bytes name rest front none =
-    ap (number_in name) (front.read ∙ ap (λ es. front.before ++ es) none ∙ append-nil front.before) ∙ front.absent
 
 -- ---- the block without the name
 

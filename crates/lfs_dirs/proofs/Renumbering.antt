@@ -1,4 +1,7 @@
--- The entries of a block written again, one of them with another number.
+-- The entries of a block written again, one of them with another number: `may_be_next`, `given_next` and
+-- `all_renumbered`, for the loop of `replaced`. What is written and what is left, renumbered, are together the block's
+-- entries renumbered. A number takes as many bytes as any other, so each entry still has room behind those that are
+-- written, and as no two entries have one name before, none have after.
 use Rattle.std.proofs.Common.{◌≡◌, ℕ, ◌<◌, ◌^◌, List, [], ◌∷◌, ◌++◌, sym, ap, ◌∙◌, subst, arith}
 use Rattle.std.proofs.lemmas.List.{append-nil}
 use Rattle.lfs_dirs.specs.Directory.{Entry, used_of, renumbered, with_number, AreEntries, IsDirectoryBlock}

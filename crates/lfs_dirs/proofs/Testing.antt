@@ -1,4 +1,8 @@
--- The test of the grammar, from the first entry on.
+-- The test of the grammar, from the first entry on: `lists_behind`, `lists_before`, `lists_end` and `zeros_at_end`, for
+-- the loop of `is_directory_block`. Bytes are a block of entries just where the first entry is one, no later one has
+-- its name, and the bytes behind it are such a block again; at the end of the entries there must be zeros. Bytes that
+-- spell a list spell its first entry at their front, so what is behind is the same however it is read
+-- (`append_cancel_left`).
 use Rattle.std.proofs.Common.{◌≡◌, ℕ, List, [], ◌∷◌, length, replicate, false, Option, None, Some, refl, sym, ◌∙◌}
 use Rattle.std.proofs.Common.{subst}
 use Rattle.std.specs.Prelude.{All, is_some}

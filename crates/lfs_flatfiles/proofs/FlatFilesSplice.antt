@@ -1,4 +1,6 @@
--- Bytes that are filled up with zeros and then written over are spliced.
+-- Bytes that are filled up with zeros and then written over are spliced: `splice_filled`, for the splices of this crate
+-- and of lfs_opens. The bytes are filled up as far as the new ones reach. Before these stand the old bytes and zeros up
+-- to them, and behind them stand old bytes only, as no zeros were added past their end (`take_filled`, `drop_filled`).
 use Rattle.std.proofs.Common.{◌≡◌, ℕ, zero, suc, ◌+◌, ◌-◌, ◌<◌, ◌≤◌, List, [], ◌∷◌, ◌++◌, length, take, drop, replicate}
 use Rattle.std.proofs.Common.{refl, sym, ap, ◌∙◌, arith}
 use Rattle.std.proofs.lemmas.List.{append-nil, take-replicate, drop-replicate}

@@ -211,7 +211,7 @@ impl FileStore for FlatFiles {
     ghost use Rattle.lfs_types.specs.StoreStates.{Applies};
     ghost use Rattle.lfs_flatfiles.specs.FlatFiles.{state_of};
 
-    ghost is_settled = { λ _. ⊤ };
+    ghost is_flushed = { λ _. ⊤ };
 
     ghost state = { λ store. state_of (vec_len store.places) store.places.items };
 

@@ -1,4 +1,7 @@
--- What a table says after the slot of a number was put, and what changes of a content leave.
+-- What a table says after the slot of a number was put, and what changes of a content leave: `true_put`,
+-- `changed-others` and `applied_next`, for each table that follows changes. A change touches the file of one number,
+-- and the put the slot of that number, so what is said of another number was said before, of a file that is the same.
+-- So only what is put has to be true, and what is said of the number then is what was put (`kept_only`), or nothing.
 use Rattle.std.proofs.Common.{◌≡◌, ◌≢◌, ℕ, ◌+◌, ◌<◌, Bool, true, false, cond, List, [], ◌∷◌, ◌++◌, length, take, Option}
 use Rattle.std.proofs.Common.{None, Some, refl, sym, ap, subst, ◌∙◌, ⊎_elim}
 use Rattle.std.specs.Prelude.{get_or, nat_lt}

@@ -161,17 +161,6 @@ placed_wider old new c same keeps was d blocks said =
     placed_more old.spots.items new.spots.items d (bytes_of c d) blocks keeps
     (was d blocks (ap (λ (w : Slots ℕ). says w d) (sym same) ∙ said))
 
--- a directory was entered, whose names are placed
-pub placed_known : (old new : NameTable) (dir blocks : ℕ) (c : Content) → SaysTheSame old.whole new.whole dir
-    → Keeps old.spots.items new.spots.items
-    → says new.whole dir ≡ kept_of dir (Some blocks)
-    → IsPlaced new.spots.items dir (bytes_of c dir) blocks → ArePlaced old c → ArePlaced new c
-placed_known old new dir blocks c others keeps entered is = placed_at old new dir c c others keeps (λ q apart. refl)
-    (λ b said.
-    let same : Some blocks ≡ Some b = kept_only dir (Some blocks) b (sym entered ∙ said) in
-    let one : blocks ≡ b = cc in
-    subst (IsPlaced new.spots.items dir (bytes_of c dir)) one is)
-
 -- attributes leave bytes
 pub placed_attrs : (table : NameTable) (ino : ℕ) (attrs : Attrs) (c : Content) → ArePlaced table c
     → ArePlaced table (changed_at (map.get c ino) ino (λ f. file_of attrs f.bytes) c)

@@ -1,4 +1,7 @@
--- The cases of `bytes_at`, `file_address` and `record_of`, for the functions of those names.
+-- The cases of `bytes_at`, `file_address` and `record_of`, for the functions of those names. Each lemma has the tests
+-- that led there: an address 0 or past the volume reads as zeros, a block below 12 has its address in the record, one
+-- below 140 in the single indirect block, and each other in a child of the double one, by quotient and rest of 128. As
+-- the functions test in the order of the definitions, each is a rewriting by these tests.
 use Rattle.std.proofs.Common.{◌≡◌, ℕ, ◌-◌, ◌*◌, ◌/◌, ◌%◌, ◌<◌, ◌≤◌, List}
 use Rattle.std.proofs.Common.{Option, Some, None, option_map, replicate, slice_index, refl, sym, ap, ◌∙◌}
 use Rattle.std.proofs.lemmas.Bool.{eq-eqb, le-ltb, lt-ltb, ne_eqb}

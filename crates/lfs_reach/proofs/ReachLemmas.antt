@@ -6,7 +6,7 @@ use Rattle.std.specs.List.{Contains}
 use Rattle.std.proofs.lemmas.Bool.{cases_lt}
 use Rattle.std.proofs.lemmas.List.{get_or_append_left, get_or_default, length-append}
 use Rattle.std.proofs.lemmas.List.Elements.{Contains-append_cases}
-use Rattle.std.proofs.lemmas.Option.{none-some, same_Some}
+use Rattle.std.proofs.lemmas.Option.{same_Some}
 use Rattle.lfs_types.specs.declared.attrs.Kind.{Kind}
 use Rattle.lfs_types.specs.declared.attrs.Kind.TheVariants.{File, Directory}
 use Rattle.lfs_types.specs.Kinds.{is_directory_kind}
@@ -73,18 +73,6 @@ named_all m place f blocks a b read kind counted added =
       listed = subst (λ (g : Fields). IsListed (entries_of (bytes_at m (file_address m g named.index))) n) same named.listed;
     })
     added
-
--- what is no directory's record names nothing
-pub named_nothing : (m : SegmentMemory) (place : Option RecordPlace) (order : List ℕ) → record_of m place ≡ None
-    → Adds (IsNamedBy m place) order order
-named_nothing m place order none =
-    adds_none (IsNamedBy m place) order (λ n named. absurd (none-some named.fields (sym none ∙ named.read)))
-
-pub named_file : (m : SegmentMemory) (place : Option RecordPlace) (f : Fields) (order : List ℕ) → record_of m place ≡ Some f
-    → (f.attributes.kind ≡ Directory → ⊥) → Adds (IsNamedBy m place) order order
-named_file m place f order read file =
-    adds_none (IsNamedBy m place) order (λ n named. absurd (file
-    (ap (λ (g : Fields). g.attributes.kind) (same_Some f named.fields (sym read ∙ named.read)) ∙ named.directory)))
 
 -- ---- the walk
 

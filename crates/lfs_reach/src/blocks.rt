@@ -9,8 +9,9 @@ use lfs_inodes::addresses::{entry, root_address};
 use lfs_inodes::inode::{DIRECT_COUNT, DOUBLE_PLACE, ENTRY_COUNT, Inode, SINGLE_END};
 use lfs_inodes::slots::slot;
 use lfs_recovery::RecordPlace;
-use lfs_segments::segments::{SEGMENT_BLOCKS, Segments};
+use lfs_segments::segments::Segments;
 use lfs_types::block::{Block, ZERO_BLOCK};
+use lfs_types::limits::SEGMENT_BLOCKS;
 
 /// The bytes of a block, zeros where the address is 0 or past the end.
 pub fn bytes_at(memory: &Segments, address: u32) -> &Block
