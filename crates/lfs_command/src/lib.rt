@@ -1,7 +1,10 @@
-//! The words of a command line: read, their numbers judged, and what is told of words that ask for no run.
+//! The words of a command line: read, their numbers judged, and what is told of words that ask for no run. And what a
+//! program works with.
 #![tactic(auto)]
 
 pub mod flags;
+pub mod means;
 pub mod numbers;
 pub mod refusing;
+pub mod streams;
 pub mod words;

@@ -8,7 +8,6 @@ use clap::error::ErrorKind;
 use clap::{Command, Error};
 use lfs_io::output::{WriteFault, flush};
 use lfs_io::tell::end;
-use std::alloc::AllocError;
 use std::io::Write;
 use thiserror::Error as Fault;
 
@@ -17,9 +16,9 @@ use thiserror::Error as Fault;
 #[error("no memory")]
 struct NoMemory;
 
-/// Tells what was asked for in place of a run, which is the help or the version, on standard output, and of words that were
-/// refused why, on standard error. Gives the status with which the program of this name ends: 0 for what was asked for, 2 for
-/// words that were refused, 1 where memory was wanting or the text was not written.
+/// Tells what was asked for in place of a run, which is the help or the version, on standard output, and of words that
+/// were refused why, on standard error. Gives the status with which the program of this name ends: 0 for what was asked
+/// for, 2 for words that were refused, 1 where memory was wanting or the text was not written.
 pub fn refuse<W: Write, D: Write>(
     stdout: &mut W,
     stderr: &mut D,
@@ -53,16 +52,6 @@ pub fn wrong_value(command: &mut Command<'_>, message: &str) -> Error
 {
     match command.error(ErrorKind::ValueValidation, message) {
         Ok(error) => error,
-        Err(error) => Error::from(error),
-    }
-}
-
-/// The error of a command whose words are no text, with exit code 2; or want of memory.
-pub fn not_utf8(command: Result<Command<'_>, AllocError>) -> Error
-    ensures { IsRefusal (kind_of result) }
-{
-    match command {
-        Ok(mut command) => wrong_value(&mut command, "the arguments must be UTF-8"),
         Err(error) => Error::from(error),
     }
 }

@@ -1,4 +1,7 @@
--- What the cleaner asked is read back.
+-- What the cleaner asked is read back: `tells_act`, for BackLine. An entry's line has this as a field of words, so
+-- first each operand has to be a word without bar or percent sign: segments and infos are, as their bytes are digits
+-- and colons (`act_operands`). So none is escaped, the field is the line of a script, and lfs_script reads that back as
+-- the call, kind by kind (`said`); a call of an act is that act (`same_act`).
 use Rattle.std.proofs.Common.{◌≡◌, ℕ, ◌^◌, ◌<◌, false, List, [], ◌∷◌, ◌++◌, length, map, Ok, refl, ap, arith}
 use Rattle.std.specs.Prelude.{decimal}
 use Rattle.std.specs.List.{All}

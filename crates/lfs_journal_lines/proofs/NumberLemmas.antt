@@ -1,4 +1,7 @@
--- A line is found behind its number.
+-- A line is found behind its number: `marked_read`, `unmarked_read` and `none_read` for `unnumbered`, `line_found` and
+-- `entry_stays` for the law `finds_line`. A number is a `#`, its digits and a space, which are taken off byte by byte
+-- (`mark_found`). The text of an entry begins with its session's digits, and no digit is a `#`; so a line without a
+-- number is the line itself, and the two can't be mixed up.
 use Rattle.std.proofs.Common.{◌≡◌, ℕ, ◌-◌, ◌<◌, ◌≤◌, ◌==◌, true, false, List, [], ◌∷◌, ◌++◌, length, take, drop, get_or}
 use Rattle.std.proofs.Common.{Option, Some}
 use Rattle.std.proofs.Common.{refl, ap, sym, ◌∙◌, arith, rules, tests}

@@ -1,4 +1,7 @@
--- The lines of entries, one after another.
+-- The lines of entries, one after another: `entry_more` and `entries_all` for `push_entries`, `entry_added` for
+-- `push_entry`, `who_added` for `push_who`. The code pushes who called, a bar, what was asked, a bar, what came of it
+-- and a line feed, and each push adds to what is there; so the line is these parts in order. Of the first i + 1 entries
+-- the lines are those of the first i and one more.
 use Rattle.std.proofs.Common.{◌≡◌, ℕ, ◌+◌, ◌<◌, ◌≤◌, List, [], ◌∷◌, ◌++◌, length, take, get_or, codes, ap, ◌∙◌}
 use Rattle.std.proofs.Common.{append_assoc}
 use Rattle.std.proofs.lemmas.List.{flat_map_more, take_all, take_more}

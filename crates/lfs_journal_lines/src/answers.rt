@@ -60,59 +60,67 @@ fn bytes_told(alloc: Global, words: &[&str]) -> Result<Served, FaultKind>
     Ok(Served::Bytes(Bytes::from(bytes.into_vec())))
 }
 
+/// The words of a file's attributes, in the order in which they stand.
+#[derive(Clone, Copy)]
+struct AttrWords<'a> {
+    /// The kind of file.
+    kind: &'a str,
+    /// Its owner.
+    uid: &'a str,
+    /// Its group.
+    gid: &'a str,
+    /// Its mode.
+    mode: &'a str,
+    /// Its flags.
+    flags: &'a str,
+    /// Its size.
+    size: &'a str,
+}
+
 /// A file's number and attributes.
 fn stat_told(words: &[&str]) -> Result<Served, FaultKind>
     ensures { result ≡ stat_told (map (λ x. x.now) words.now) }
 {
     match words {
-        [number, kind, uid, gid, bits, locks, size] => {
-            stat_of(number, kind, uid, gid, bits, locks, size)
+        [number, kind, uid, gid, mode, flags, size] => {
+            let words = AttrWords {
+                kind,
+                uid,
+                gid,
+                mode,
+                flags,
+                size,
+            };
+            stat_of(number, words)
         }
         _ => Err(FaultKind::Words),
     }
 }
 
-/// A file's number and attributes, each as a word.
-fn stat_of(
-    number: &str,
-    kind: &str,
-    uid: &str,
-    gid: &str,
-    bits: &str,
-    locks: &str,
-    size: &str,
-) -> Result<Served, FaultKind>
-    ensures { result ≡ stat_of number.now kind.now uid.now gid.now bits.now locks.now size.now }
+/// A file's number, told by a word, and its attributes.
+fn stat_of(number: &str, words: AttrWords<'_>) -> Result<Served, FaultKind>
+    ensures { result ≡ stat_of number.now
+        words.entry.kind.now words.entry.uid.now words.entry.gid.now
+        words.entry.mode.now words.entry.flags.now words.entry.size.now }
 {
     let number = short_decimal(number)?;
-    let attrs = attrs_told(kind, uid, gid, bits, locks, size)?;
+    let attrs = attrs_told(words)?;
     Ok(Served::Stat(number, attrs))
 }
 
 /// The attributes of a file.
-fn attrs_told(
-    kind: &str,
-    uid: &str,
-    gid: &str,
-    bits: &str,
-    locks: &str,
-    size: &str,
-) -> Result<Attrs, FaultKind>
-    ensures { result ≡ attrs_told kind.now uid.now gid.now bits.now locks.now size.now }
+fn attrs_told(words: AttrWords<'_>) -> Result<Attrs, FaultKind>
+    ensures { result ≡ attrs_told
+        words.entry.kind.now words.entry.uid.now words.entry.gid.now
+        words.entry.mode.now words.entry.flags.now words.entry.size.now }
 {
-    let kind = kind_named(kind).ok_or(FaultKind::Words)?;
-    let uid = short_decimal(uid)?;
-    let gid = short_decimal(gid)?;
-    let mode = mode(bits)?;
-    let flags = flags(locks)?;
-    let size = decimal(size)?;
     Ok(Attrs {
-        kind,
-        uid,
-        gid,
-        mode,
-        flags,
-        size,
+        kind: kind_named(words.kind).ok_or(FaultKind::Words)?,
+        uid: short_decimal(words.uid)?,
+        gid: short_decimal(words.gid)?,
+        mode: mode(words.mode)?,
+        flags: flags(words.flags)?,
+        size: decimal(words.size)?,
     })
 }
 

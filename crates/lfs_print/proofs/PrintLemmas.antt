@@ -1,4 +1,7 @@
--- Lines grow by their words.
+-- Lines grow by their words: `cleaner_added` for `append_cleaner`, `denial_added` for `push_denial`, `name_more` and
+-- `names_all` for `push_names`. The code pushes a space and a word at a time, and the line is a list of words with a
+-- space before each, so the pushes are put together by associativity; a denial's words are its rule's code, the error
+-- of that, the path and the place.
 use Rattle.std.proofs.Common.{◌≡◌, ℕ, ◌+◌, ◌<◌, ◌≤◌, List, [], ◌∷◌, ◌++◌, length, map, take, get_or, codes, ap, ◌∙◌}
 use Rattle.std.proofs.Common.{append_assoc}
 use Rattle.std.proofs.lemmas.List.{append-nil, flat_map_more, map-append, take_all, take_more}

@@ -1,4 +1,7 @@
--- A line of a call of the cleaner says this call.
+-- A line of a call of the cleaner says this call: `act_back` for `push_act`, and `segment_listed`, `segment_cleaned`,
+-- `infos_located` and `infos_marked` for `push_handed_in`. What is handed in is read back word by word, numerals and
+-- infos, and there are no more infos than the call takes (`within`). The six names of calls are words, are found as
+-- verbs of the cleaner and begin no comment (`is_cleaner_verb`), so the line's words are read as this call.
 use Rattle.std.proofs.Common.{◌≡◌, ℕ, ◌≤◌, true, false, List, ◌∷◌, ◌++◌, length, map, Some, Ok, refl, ◌∙◌}
 use Rattle.std.specs.Prelude.{decimal}
 use Rattle.std.proofs.lemmas.Bool.{le-ltb}

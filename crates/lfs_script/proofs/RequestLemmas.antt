@@ -1,4 +1,7 @@
--- What words ask, once they are read.
+-- What words ask, once they are read: `place_there` for `place_of`, `end_there`, `at_there`, `end_missed` and
+-- `at_missed` for `write_words`, `mkdir_there` for `mkdir`, `infos_there` for `cleaner_call`. The code counts the words
+-- before it looks at one, so each lemma takes lists of other lengths apart and leaves the one that has this length;
+-- there the definition looks at the same word.
 use Rattle.std.proofs.Common.{◌≡◌, ℕ, ◌<◌, ◌≤◌, true, false, List, [], ◌∷◌, length, map, get_or, codes, None, Some, Ok}
 use Rattle.std.proofs.Common.{Err, refl, arith}
 use Rattle.std.specs.Str.{bytes_eq}

@@ -1,6 +1,6 @@
 //! Why a script is refused.
 
-pub use lfs_words::fault::FaultKind;
+use lfs_words::fault::FaultKind;
 use thiserror::Error;
 
 /// The first fault of a script.

@@ -13,5 +13,3 @@ pub mod script;
 pub mod spelling;
 pub mod split;
 mod verb;
-
-pub use lfs_print::{print, report};

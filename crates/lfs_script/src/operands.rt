@@ -6,6 +6,7 @@ ghost use Rattle.lfs_words.specs.BytesText.{bytes_of};
 ghost use Rattle.lfs_words.specs.Callers.{caller_said};
 ghost use Rattle.lfs_words.specs.Infos.{infos_within};
 ghost use Rattle.lfs_words.specs.PathText.{path_of};
+ghost use Rattle.lfs_script.specs.declared.operands.Operand.TheVariants.{Fixed};
 ghost use Rattle.lfs_script.specs.Operands.{fits, operand_at, operand_text, in_order, operands_of, operands_of_call, operands_of_cleaning, operands_of_write};
 
 use crate::verb::{RequestKind, Verb};
@@ -68,31 +69,44 @@ fn in_order(first: Operand, second: Operand, third: Operand, rest: Operand) -> O
     }
 }
 
+/// No operand: the words are fixed.
+fn none() -> Operands
+    ensures { result ≡ in_order Fixed Fixed Fixed Fixed }
+{
+    one(Operand::Fixed)
+}
+
+/// This operand, and fixed words behind it.
+fn one(first: Operand) -> Operands
+    ensures { result ≡ in_order first Fixed Fixed Fixed }
+{
+    two(first, Operand::Fixed)
+}
+
+/// These two, and fixed words behind them.
+fn two(first: Operand, second: Operand) -> Operands
+    ensures { result ≡ in_order first second Fixed Fixed }
+{
+    three(first, second, Operand::Fixed)
+}
+
+/// These three, and fixed words behind them.
+fn three(first: Operand, second: Operand, third: Operand) -> Operands
+    ensures { result ≡ in_order first second third Fixed }
+{
+    in_order(first, second, third, Operand::Fixed)
+}
+
 /// What the words behind a verb are read as, of which there are so many.
 pub fn operands_of(verb: Verb, count: usize) -> Operands
     ensures { result ≡ operands_of verb count }
 {
     match verb {
-        Verb::Session => in_order(
-            Operand::Session,
-            Operand::Fixed,
-            Operand::Fixed,
-            Operand::Fixed,
-        ),
-        Verb::As => in_order(
-            Operand::Short,
-            Operand::Groups,
-            Operand::Init,
-            Operand::Fixed,
-        ),
+        Verb::Session => one(Operand::Session),
+        Verb::As => three(Operand::Short, Operand::Groups, Operand::Init),
         Verb::User(kind) => operands_of_call(kind, count),
         Verb::Cleaner(kind) => operands_of_cleaning(kind),
-        Verb::Pass => in_order(
-            Operand::Fixed,
-            Operand::Fixed,
-            Operand::Fixed,
-            Operand::Fixed,
-        ),
+        Verb::Pass => none(),
     }
 }
 
@@ -101,86 +115,21 @@ fn operands_of_call(kind: RequestKind, count: usize) -> Operands
     ensures { result ≡ operands_of_call kind count }
 {
     match kind {
-        RequestKind::Stat => in_order(
-            Operand::Path,
-            Operand::Fixed,
-            Operand::Fixed,
-            Operand::Fixed,
-        ),
-        RequestKind::Read => in_order(Operand::Path, Operand::Long, Operand::Short, Operand::Fixed),
+        RequestKind::Stat => one(Operand::Path),
+        RequestKind::Read => three(Operand::Path, Operand::Long, Operand::Short),
         RequestKind::Write => operands_of_write(count),
-        RequestKind::List => in_order(
-            Operand::Path,
-            Operand::Fixed,
-            Operand::Fixed,
-            Operand::Fixed,
-        ),
-        RequestKind::SetLength => in_order(
-            Operand::Path,
-            Operand::Long,
-            Operand::Fixed,
-            Operand::Fixed,
-        ),
-        RequestKind::Create => in_order(
-            Operand::Path,
-            Operand::Mode,
-            Operand::Fixed,
-            Operand::Fixed,
-        ),
-        RequestKind::Mkdir => in_order(
-            Operand::Path,
-            Operand::Mode,
-            Operand::Fixed,
-            Operand::Fixed,
-        ),
-        RequestKind::Unlink => in_order(
-            Operand::Path,
-            Operand::Fixed,
-            Operand::Fixed,
-            Operand::Fixed,
-        ),
-        RequestKind::Rmdir => in_order(
-            Operand::Path,
-            Operand::Fixed,
-            Operand::Fixed,
-            Operand::Fixed,
-        ),
-        RequestKind::Rename => in_order(
-            Operand::Path,
-            Operand::Path,
-            Operand::Fixed,
-            Operand::Fixed,
-        ),
-        RequestKind::Chmod => in_order(
-            Operand::Path,
-            Operand::Mode,
-            Operand::Fixed,
-            Operand::Fixed,
-        ),
-        RequestKind::Chown => in_order(
-            Operand::Path,
-            Operand::Short,
-            Operand::Short,
-            Operand::Fixed,
-        ),
-        RequestKind::Chflags => in_order(
-            Operand::Path,
-            Operand::Flags,
-            Operand::Fixed,
-            Operand::Fixed,
-        ),
-        RequestKind::SetLevel => in_order(
-            Operand::Level,
-            Operand::Fixed,
-            Operand::Fixed,
-            Operand::Fixed,
-        ),
-        RequestKind::Sync => in_order(
-            Operand::Fixed,
-            Operand::Fixed,
-            Operand::Fixed,
-            Operand::Fixed,
-        ),
+        RequestKind::List => one(Operand::Path),
+        RequestKind::SetLength => two(Operand::Path, Operand::Long),
+        RequestKind::Create => two(Operand::Path, Operand::Mode),
+        RequestKind::Mkdir => two(Operand::Path, Operand::Mode),
+        RequestKind::Unlink => one(Operand::Path),
+        RequestKind::Rmdir => one(Operand::Path),
+        RequestKind::Rename => two(Operand::Path, Operand::Path),
+        RequestKind::Chmod => two(Operand::Path, Operand::Mode),
+        RequestKind::Chown => three(Operand::Path, Operand::Short, Operand::Short),
+        RequestKind::Chflags => two(Operand::Path, Operand::Flags),
+        RequestKind::SetLevel => one(Operand::Level),
+        RequestKind::Sync => none(),
     }
 }
 
@@ -189,12 +138,7 @@ fn operands_of_write(count: usize) -> Operands
     ensures { result ≡ operands_of_write count }
 {
     if count == 3 {
-        in_order(
-            Operand::Path,
-            Operand::Fixed,
-            Operand::Payload,
-            Operand::Fixed,
-        )
+        three(Operand::Path, Operand::Fixed, Operand::Payload)
     } else {
         in_order(
             Operand::Path,
@@ -210,26 +154,11 @@ fn operands_of_cleaning(kind: CleanerKind) -> Operands
     ensures { result ≡ operands_of_cleaning kind }
 {
     match kind {
-        CleanerKind::Ifile | CleanerKind::Gain => in_order(
-            Operand::Fixed,
-            Operand::Fixed,
-            Operand::Fixed,
-            Operand::Fixed,
-        ),
-        CleanerKind::Infos => in_order(
-            Operand::Short,
-            Operand::Fixed,
-            Operand::Fixed,
-            Operand::Fixed,
-        ),
+        CleanerKind::Ifile | CleanerKind::Gain => none(),
+        CleanerKind::Infos => one(Operand::Short),
         CleanerKind::Bmapv => in_order(Operand::Info, Operand::Info, Operand::Info, Operand::Info),
         CleanerKind::Markv => in_order(Operand::Info, Operand::Info, Operand::Info, Operand::Info),
-        CleanerKind::Segclean => in_order(
-            Operand::Short,
-            Operand::Fixed,
-            Operand::Fixed,
-            Operand::Fixed,
-        ),
+        CleanerKind::Segclean => one(Operand::Short),
     }
 }
 

@@ -1,7 +1,7 @@
 //! Where the fault of a line stands, and what was expected there.
 
-ghost use Rattle.std.specs.Prelude.{◌≡◌, ◌++◌, Some, OnOk, map};
-ghost use Rattle.lfs_script.specs.Places.{bare_place, behind_place, beyond, byte_name, byte_place, byte_text, caller_place, found_place, is_printable_byte, place_text, shown, text_place, unread_place, verb_place, word_text, words_place};
+ghost use Rattle.std.specs.Prelude.{◌≡◌, ◌++◌, OnOk, map};
+ghost use Rattle.lfs_script.specs.Places.{bare_place, behind_place, beyond, byte_name, byte_place, byte_text, caller_place, is_printable_byte, place_text, shown, text_place, unread_place, verb_place, word_text, words_place};
 
 use crate::forms::{form_text, is_formed};
 use crate::operands::{Operands, fits, operand_at, operand_text, operands_of};
@@ -155,27 +155,11 @@ fn push_verb_place(
         return Ok(());
     };
     match Verb::of(first) {
-        Some(verb) => push_found_place(alloc, out, column, first, verb, rest),
+        Some(verb) if is_formed(verb, rest) => {
+            push_behind_place(alloc, out, beyond(column, first), verb, rest)
+        }
+        Some(verb) => push_word_text(out, column, first, form_text(verb)),
         None => push_word_text(out, column, first, "no line begins so"),
-    }
-}
-
-/// Appends where the fault of a verb and the words behind it stands.
-fn push_found_place(
-    alloc: Global,
-    out: &mut Vec<u8>,
-    column: u64,
-    first: &str,
-    verb: Verb,
-    words: &[&str],
-) -> Result<(), AllocError>
-    ensures { OnOk result (out.new.items ≡ out.old.items
-        ++ found_place column first.now (Some verb) (map (λ x. x.now) words.now)) }
-{
-    if is_formed(verb, words) {
-        push_behind_place(alloc, out, beyond(column, first), verb, words)
-    } else {
-        push_word_text(out, column, first, form_text(verb))
     }
 }
 

@@ -1,4 +1,5 @@
--- Lines of entries, numbered one behind another.
+-- Lines of entries, numbered one behind another: `numbered-joined`, for all who hand entries out in turns. Further
+-- entries' lines go on counting behind as many as there were.
 use Rattle.std.proofs.Common.{◌≡◌, ℕ, ◌+◌, List, [], ◌∷◌, ◌++◌, length, sym, ap, ◌∙◌, arith, append_assoc}
 use Rattle.lfs_model.specs.declared.journal.Entry.{Entry}
 use Rattle.lfs_sinks.specs.Numbered.{numbered_line, numbered_text}

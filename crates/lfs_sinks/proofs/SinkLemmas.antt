@@ -1,4 +1,6 @@
--- The lines of entries are collected, and written piece by piece.
+-- The lines of entries are collected, and written piece by piece: `lines_more`, for `write_entries`. What is known to
+-- be written and what is collected are together the lines so far; a further entry's line has the next number and is put
+-- behind what is collected (`numbered-more`, `collected`), and a piece that is written goes from the one to the other.
 use Rattle.std.proofs.Common.{◌≡◌, ℕ, ◌+◌, ◌<◌, List, [], ◌∷◌, ◌++◌, length, take, get_or, Option, None, Some, sym}
 use Rattle.std.proofs.Common.{ap, subst, ◌∙◌, append_assoc, append-nil, arith}
 use Rattle.std.specs.Io.KnownBytes.{Appends, Keeps, append_known}

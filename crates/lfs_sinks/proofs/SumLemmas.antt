@@ -1,4 +1,8 @@
--- Counts of two journals, added, are those of both.
+-- Counts of two journals, added, are those of both: `counts_joined` for lfs_live and lfs_audit, `report_joined` for
+-- RefusalLemmas. Each count is of the entries that pass a test, and of two lists joined that is the sum of both;
+-- denials so rule by rule. `sums_more`, for `added`: the sums of the first i + 1 places are those of the first i, with
+-- place i added. `totals_length`, for `Totals::entries`: each entry passes just one of four tests (`one_each`), so the
+-- four counts together are as many as the entries.
 use Rattle.std.proofs.Common.{◌≡◌, ℕ, zero, suc, ◌+◌, ◌<◌, Bool, List, [], ◌∷◌, ◌++◌, length, take, get_or, map, set}
 use Rattle.std.proofs.Common.{refl, sym, ap, ◌∙◌, arith}
 use Rattle.std.specs.Prelude.{cond, count_by}

@@ -1,4 +1,7 @@
--- What is appended to a text.
+-- What is appended to a text: `added`, `word_added`, `mode_added`, `flags_added`, `name_more` and `name_all`, for
+-- `append`'s functions. Each says that the pieces which the code pushes one by one, a space first, are the text of the
+-- whole: a mode's four octal digits, flags' eight hexadecimal ones, a name's bytes with those escaped that have to be.
+-- Of a push that lacks memory nothing is claimed.
 use Rattle.std.proofs.Common.{◌≡◌, ℕ, ◌+◌, ◌/◌, ◌%◌, ◌<◌, ◌≤◌, ◌==◌, true, List, [], ◌∷◌, ◌++◌, length, take, get_or}
 use Rattle.std.proofs.Common.{codes, Result, Ok, Err, OnOk, refl, ap, subst, ◌∙◌, append_assoc}
 use Rattle.std.specs.List.{flat_map}

@@ -1,4 +1,6 @@
--- Flags are read from their digits.
+-- Flags are read from their digits: `flag_digits`, for `hex::flags`. A word of one to eight hexadecimal digits is a
+-- numeral without a plus, and its value is below 16^8, which is 2^32; so std reads it as this number, and never as too
+-- big.
 use Rattle.std.proofs.Common.{◌≡◌, ℕ, ◌^◌, ◌<◌, ◌≤◌, nat_lt, true, List, [], ◌∷◌, length, arith, rules, tests, lit<}
 use Rattle.std.proofs.Common.{lit≤}
 use Rattle.std.specs.Prelude.{nat_le, ◌&&◌}

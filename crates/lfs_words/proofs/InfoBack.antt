@@ -1,4 +1,7 @@
--- Infos that are spelled are read back.
+-- Infos that are spelled are read back: `info_more`, `infos_spelled` and `infos_back` for `spell_infos`, `info_back`
+-- for lfs_journal_lines. An info is four numerals with colons between them, and a numeral has only digits, so the cut
+-- at colons gives these four (`parts_back`), and each of a number below 2^32 is read as this number. Digits and colons
+-- are bytes of words, so an info is one word (`info_word`), and infos with spaces before them are as many words.
 use Rattle.std.proofs.Common.{◌≡◌, ℕ, zero, suc, ◌+◌, ◌^◌, ◌<◌, ◌≤◌, ◌==◌, true, false, List, [], ◌∷◌, ◌++◌, length}
 use Rattle.std.proofs.Common.{map, take, get_or, Ok, refl, ap, ◌∙◌, arith, length-append, rules, tests}
 use Rattle.std.specs.Prelude.{decimal}

@@ -1,4 +1,6 @@
--- Infos are read one by one.
+-- Infos are read one by one: `infos_more`, `infos_refused`, `infos_all` and `infos_few`, for the loop of `info::infos`.
+-- All infos are those read so far with whatever the rest of the words is read as, or the rest's fault; so a further
+-- info moves from the rest to them, a word that is none is the fault of the whole, and with no word left they are all.
 use Rattle.std.proofs.Common.{◌≡◌, ℕ, suc, ◌+◌, ◌<◌, ◌≤◌, List, [], ◌∷◌, ◌++◌, length, map, drop, get_or, Result, Ok}
 use Rattle.std.proofs.Common.{Err, Bor, refl, ◌∙◌, append_assoc, add-one}
 use Rattle.std.proofs.Math.ListN.{drop_of_length-le}

@@ -1,4 +1,7 @@
--- A text is cut at its first line feed, and printable bytes are text.
+-- A text is cut at its first line feed, and printable bytes are text: `cut_some` and `cut_none` for `cut_line`,
+-- `skipped` for `is_skipped`, `printable_utf8` for `text_of`. A search for a byte finds the first of it, so none stands
+-- before that place, and where nothing is found none stands anywhere. A printable byte is below 128, and such bytes are
+-- UTF-8 as they are.
 use Rattle.std.proofs.Common.{◌≡◌, ℕ, ◌+◌, ◌<◌, ◌≤◌, ◌==◌, nat_lt, Bool, true, false, List, [], ◌∷◌, ◌++◌, length, take}
 use Rattle.std.proofs.Common.{drop, get_or, None, Some, refl, sym, ap, ◌∙◌, inl, inr, arith, length-take}
 use Rattle.std.specs.Prelude.{nat_le, ◌&&◌}

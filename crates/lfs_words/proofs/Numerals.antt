@@ -1,4 +1,6 @@
--- What std reads of a word of digits alone.
+-- What std reads of a word of digits alone: `numeral_parts`, `number_past` and `reads_err`, for `number`; FlagDigits
+-- takes `plain`. No digit is a plus, so std takes none off (`no_plus`), and the word is a numeral. So std has only one
+-- reason to refuse it, a value of 2^64 or more, which is past each limit.
 use Rattle.std.proofs.Common.{◌≡◌, ℕ, ◌^◌, ◌<◌, ◌≤◌, nat_lt, true, List, [], ◌∷◌, length, get_or, Err, refl}
 use Rattle.std.proofs.Common.{subst, arith, ◌≢◌, inl, inr}
 use Rattle.std.specs.Prelude.{nat_le, ◌&&◌}

@@ -1,4 +1,7 @@
--- The pieces of a text: the first ends where the separator stands first.
+-- The pieces of a text: the first ends where the separator stands first: `pieces_some`, `pieces_none` and
+-- `behind_separator`, for `words::cut_at`. No separator stands before the place that the search gives (`none_before`),
+-- so the first piece is the text up to there, and the others are the pieces of what is behind; without one the text is
+-- a single piece.
 use Rattle.std.proofs.Common.{◌≡◌, ℕ, ◌+◌, ◌<◌, ◌≤◌, ◌==◌, nat_lt, Bool, true, false, List, [], ◌∷◌, length, take, drop}
 use Rattle.std.proofs.Common.{get_or, None, Some, refl, sym, ap, ◌∙◌, arith, length-take}
 use Rattle.std.specs.List.{All, position, position_or_len, slice_range, slice_split}
