@@ -1,7 +1,10 @@
--- A node that is gone has no names.
-use Rattle.std.proofs.Common.{◌≡◌, ℕ, ◌<◌, List, [], ◌∷◌, length, Option, None, Some, Result, Ok, Err, refl, sym, ap}
-use Rattle.std.proofs.Common.{subst, ◌∙◌, arith}
+-- Why a node has no path. One that is gone has no names, as none leads up from it (`gone_names`). Where the names up from
+-- a node end at one that is lost, or are too long already, a name in the node makes no difference, as it can only add
+-- bytes (`slashed_both`); a path that is found too long in the end is so too as its names are read from the node up.
+use Rattle.std.proofs.Common.{◌≡◌, ℕ, ◌<◌, ◌+◌, List, [], ◌∷◌, ◌++◌, length, Option, None, Some, Result, Ok, Err, refl}
+use Rattle.std.proofs.Common.{sym, ap, subst, ◌∙◌, arith, length-append}
 use Rattle.std.specs.Prelude.{⊤}
+use Rattle.std.specs.Option.{option_to_list}
 use Rattle.lfs_types.specs.Paths.{slashed}
 use Rattle.lfs_nodes.specs.declared.node.Hang.{Hang}
 use Rattle.lfs_nodes.specs.declared.node.Hang.TheVariants.{Root, Gone}
@@ -9,6 +12,9 @@ use Rattle.lfs_nodes.specs.declared.fault.PathFault.{PathFault}
 use Rattle.lfs_nodes.specs.declared.fault.PathFault.TheVariants.{Unknown, Stale, Long, Memory, Name}
 use Rattle.lfs_nodes.specs.Places.{place_of}
 use Rattle.lfs_nodes.specs.Ways.{LeadsUp, NamesDown}
+use Rattle.lfs_nodes.proofs.WayLemmas.{slashed_reversed}
+use Rattle.lfs_fuse_reply.specs.declared.errno.Errno.TheVariants.{ESTALE, ENAMETOOLONG}
+use Rattle.lfs_fuse_calls.specs.Paths.{IsLost, IsPathOf, LacksNames}
 
 -- why names may be wanting of a node that is gone: that, or want of memory
 abbrev pub IsGoneFault : Result (List (List ℕ)) PathFault → Type 0
@@ -42,3 +48,45 @@ gone_names hangs id gone (Err Long) way =
     absurd (omega (arith, long))
 gone_names hangs id gone (Err Memory) way = tt
 gone_names hangs id gone (Err (Name fault)) way = way
+
+-- names take as many bytes as two parts of them
+slashed_both : (names more : List (List ℕ)) → length (slashed (names ++ more))
+    ≡ length (slashed names) + length (slashed more)
+slashed_both [] more = omega arith
+slashed_both (n ∷ names) more =
+    let rest = slashed_both names more in
+    let before = length-append n (slashed names) in
+    let after = length-append n (slashed (names ++ more)) in
+    omega (arith, rest, before, after)
+
+-- ---- why no names lead to a node, as the error that is told
+
+pub unknown_lacks : (hangs : ℕ → Option Hang) (id : ℕ) (name : Option (List ℕ)) → NamesDown hangs id (Err Unknown)
+    → LacksNames hangs id name ESTALE
+unknown_lacks hangs id name way =
+    record { names = way.names; top = way.top; up = way.up; holding = subst IsLost (sym way.holding) tt }
+
+pub stale_lacks : (hangs : ℕ → Option Hang) (id : ℕ) (name : Option (List ℕ)) → NamesDown hangs id (Err Stale)
+    → LacksNames hangs id name ESTALE
+stale_lacks hangs id name way =
+    record { names = way.names; top = way.top; up = way.up; holding = subst IsLost (sym way.holding) tt }
+
+pub long_lacks : (hangs : ℕ → Option Hang) (id : ℕ) (name : Option (List ℕ)) → NamesDown hangs id (Err Long)
+    → LacksNames hangs id name ENAMETOOLONG
+long_lacks hangs id name way =
+    let both = slashed_both way.names (option_to_list name) in
+    let over = way.holding in
+    record { names = way.names; top = way.top; up = way.up; holding = omega (arith, both, over) }
+
+-- a path that is too long
+pub over_lacks : (hangs : ℕ → Option Hang) (id : ℕ) (name : Option (List ℕ)) (path : List (List ℕ))
+    → IsPathOf hangs id name path → 1024 < length (slashed path) → LacksNames hangs id name ENAMETOOLONG
+over_lacks hangs id name path of over =
+    let up = of.down.0 in
+    let more = option_to_list name in
+    let both = slashed_both up.names more in
+    let down = slashed_both of.above more in
+    let all = ap (λ ns. length (slashed ns)) of.all in
+    let turned = slashed_reversed up.names in
+    let same = ap (λ ns. length (slashed ns)) up.holding.0 in
+    record { names = up.names; top = up.top; up = up.up; holding = omega (arith, both, down, all, turned, same, over) }

@@ -1,4 +1,6 @@
--- The calls that are left of those of a message.
+-- The calls that are left of those of a message: `reads_on` and `writes_on`, for the loops that put a message's pieces.
+-- Where some are left the first is that of the next 4,096 bytes, or what is wanted less, and the others are those of a
+-- shorter message further on (`read_next`, `write_next`); so the calls so far and those left are all of them.
 use Rattle.std.proofs.Common.{◌≡◌, ◌<◌, ◌-◌, ℕ, zero, suc, Bool, List, [], ◌∷◌, min, take, drop, ◌++◌, ap, sym}
 use Rattle.std.proofs.Common.{append_assoc, ◌∙◌, arith}
 use Rattle.lfs_types.specs.declared.request.Request.{Request}

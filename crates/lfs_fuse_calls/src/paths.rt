@@ -1,11 +1,22 @@
 //! The paths of nodes, and of names in them.
 
-ghost use Rattle.std.specs.Prelude.{◌≡◌, IfErr, IfOk, Some, option_copied};
+ghost use Rattle.std.specs.Prelude.{◌≡◌, ℕ, Err, IfErr, IfOk, List, Option, Some, option_copied};
+ghost use Rattle.lfs_types.specs.Naming.{ParsesName};
+ghost use Rattle.lfs_nodes.specs.declared.node.Hang.{Hang};
 ghost use Rattle.lfs_nodes.specs.declared.node.Hang.TheVariants.{Gone};
 ghost use Rattle.lfs_nodes.specs.Maps.{node_at};
 ghost use Rattle.lfs_nodes.specs.Nodes.{known};
 ghost use Rattle.lfs_nodes.specs.Reads.{hang_in};
-ghost use Rattle.lfs_fuse_calls.specs.Paths.{IsPathError, IsPathOf, IsStale, LeadsToRow};
+ghost use Rattle.lfs_nodes.specs.Ways.{NamesDown};
+ghost use Rattle.lfs_fuse_calls.specs.Paths.{
+  IsPathError,
+  IsPathOf,
+  IsStale,
+  LacksName,
+  LacksNames,
+  LacksPath,
+  LeadsToRow,
+};
 
 use lfs_fuse_reply::errno::Errno;
 use lfs_nodes::{NodeId, Nodes, PathFault};
@@ -18,6 +29,8 @@ fn error_of_node(fault: PathFault) -> Errno
     ensures error { IsPathError result }
     ensures stale { fault ≡ PathFault.Stale → result ≡ Errno.ESTALE }
     ensures memory { fault ≡ PathFault.Memory → result ≡ Errno.ENOMEM }
+    ensures lacks { (hangs : ℕ → Option Hang) (node : ℕ) (name : Option (List ℕ))
+        → NamesDown hangs node (Err fault) → LacksNames hangs node name result }
 {
     match fault {
         PathFault::Unknown | PathFault::Stale => Errno::ESTALE,
@@ -29,7 +42,9 @@ fn error_of_node(fault: PathFault) -> Errno
 
 /// The error of bytes that are no name.
 fn error_of_name(fault: BadName) -> Errno
-    ensures { IsPathError result }
+    ensures error { IsPathError result }
+    ensures lacks { (bytes : List ℕ) → ParsesName bytes (Err fault)
+        → LacksName (Some bytes) result }
 {
     match fault {
         BadName::Empty => Errno::ENOENT,
@@ -48,6 +63,7 @@ fn error_of_name(fault: BadName) -> Errno
 pub fn name_of(alloc: Global, bytes: &[u8]) -> Result<Name, Errno>
     ensures name { IfOk result (λ name. name ≡ bytes.now) }
     ensures error { IfErr result IsPathError }
+    ensures lacks { IfErr result (LacksName (Some bytes.now)) }
 {
     match Name::parse(alloc, bytes) {
         Ok(name) => Ok(name),
@@ -68,6 +84,8 @@ fn names_of(
     ensures row { IfOk result (λ names. LeadsToRow (known nodes.now) node
         (option_copied name.entry) names.items) }
     ensures error { IfErr result IsPathError }
+    ensures lacks { IfErr result (LacksPath (λ q. hang_in (node_at nodes.now.table q)) node
+        (option_copied name.entry)) }
     ensures gone { hang_in (node_at nodes.now.table node) ≡ Some Gone → IsStale result }
 {
     let mut names = match nodes.names(alloc, NodeId(node)) {
@@ -95,6 +113,8 @@ pub fn path_of(alloc: Global, nodes: &Nodes, node: u64, name: Option<&[u8]>) -> 
     ensures row { IfOk result (λ path. LeadsToRow (known nodes.now) node
         (option_copied name.entry) path) }
     ensures error { IfErr result IsPathError }
+    ensures lacks { IfErr result (LacksPath (λ q. hang_in (node_at nodes.now.table q)) node
+        (option_copied name.entry)) }
     ensures gone { hang_in (node_at nodes.now.table node) ≡ Some Gone → IsStale result }
 {
     match Path::from_names(names_of(alloc, nodes, node, name)?) {

@@ -1,4 +1,7 @@
--- How many bytes replies have.
+-- How many bytes replies have: `length-entry`, `length-attr_body`, `length-init` and so on for `Reply::body_size`,
+-- `length-dirent` and `length-looked_up` for the entries of listings. A body is fields of two, four and eight bytes one
+-- behind the other, so its length is the sum of theirs; a directory's entry is 24 bytes, its name and the padding.
+-- `reply_length`: a reply is as long as its head tells.
 use Rattle.std.proofs.Common.{◌≡◌, ℕ, ◌+◌, [], ◌∷◌, length, replicate, Option, Some, None, arith, length-append, sym}
 use Rattle.std.proofs.Common.{ap, ◌∙◌}
 use Rattle.std.proofs.lemmas.List.{length-replicate}

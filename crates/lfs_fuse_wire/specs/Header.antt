@@ -3,8 +3,8 @@ use Rattle.std.specs.Prelude.{ℕ, List, nat_lt, if◌then◌else◌, is_some, O
 use Rattle.std.specs.Option.{option_and_then}
 use Rattle.lfs_fuse_wire.specs.declared.header.Header.{Header}
 use Rattle.lfs_fuse_wire.specs.declared.header.TheConstants.{HEADER_SIZE}
-use Rattle.lfs_fuse_wire.specs.declared.message.BadMessage.{BadMessage}
-use Rattle.lfs_fuse_wire.specs.declared.message.BadMessage.TheVariants.{Cut, Short}
+use Rattle.lfs_fuse_wire.specs.declared.message.MessageFault.{MessageFault}
+use Rattle.lfs_fuse_wire.specs.declared.message.MessageFault.TheVariants.{Cut, Short}
 use Rattle.lfs_fuse_wire.specs.Names.{first_in}
 use Rattle.lfs_fuse_wire.specs.Numbers.{at_least, number_at}
 
@@ -33,5 +33,5 @@ abbrev pub message_in : List ℕ → Option (List ℕ)
 message_in bytes = option_and_then (told_by bytes) (header_in bytes)
 
 -- why bytes that say nothing do
-abbrev pub bad_message : List ℕ → BadMessage
+abbrev pub bad_message : List ℕ → MessageFault
 bad_message bytes = if is_some (message_in bytes) then Short else Cut

@@ -86,7 +86,7 @@ pub enum Message<'a> {
 
 /// Why bytes are no message.
 #[derive(Clone, Copy, PartialEq, Eq, Debug)]
-pub enum BadMessage {
+pub enum MessageFault {
     /// They are fewer than a header, or than their header tells; or it tells fewer than its own.
     Cut,
     /// The message lacks some of its fields, the end of a name, or data that its fields tell.
@@ -95,17 +95,17 @@ pub enum BadMessage {
 
 impl<'a> Message<'a> {
     /// The message at the front of the bytes. No byte behind it is read.
-    pub fn decode(bytes: &'a [u8]) -> Result<Message<'a>, BadMessage>
+    pub fn decode(bytes: &'a [u8]) -> Result<Message<'a>, MessageFault>
         ensures { MatchResult result
             (λ message. said bytes.now ≡ Some (view message))
             (λ bad. (said bytes.now ≡ None) × (bad ≡ bad_message bytes.now)) }
     {
         let Some(message) = first_message(bytes) else {
-            return Err(BadMessage::Cut);
+            return Err(MessageFault::Cut);
         };
         match whole(message) {
             Some(message) => Ok(message),
-            None => Err(BadMessage::Short),
+            None => Err(MessageFault::Short),
         }
     }
 

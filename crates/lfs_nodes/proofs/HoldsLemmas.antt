@@ -1,4 +1,7 @@
--- What holds a node, and what is left where one that nothing holds is dropped.
+-- What holds a node, and what is left where one that nothing holds is dropped: `step_held`, `step_left`, `none_stays`
+-- and `measured` for the loop of `Parts::release`, `unheld_childless` for `drop_unheld`. A drop leaves each other node,
+-- and drops only one that neither the kernel nor a child holds; so what the kernel holds stays, and what is left was
+-- there. The loop ends as with each turn a node is gone, or there is none to look at next (`measured`).
 use Rattle.std.proofs.Common.{◌≡◌, ◌≢◌, ℕ, Bool, Option, None, Some, true, false, refl, sym, ap, subst, ◌∙◌, ⊎_elim}
 use Rattle.std.proofs.Common.{arith}
 use Rattle.std.specs.Prelude.{◌||◌, nat_lt, ◌+◌, ◌<◌, ◌≤◌, OnSome, is_some, if◌then◌else◌}

@@ -1,4 +1,7 @@
--- How many nodes hang in a directory, after one of them changed its place.
+-- How many nodes hang in a directory, after one of them changed its place: `kids_moved`, `kids_none`, `kids_some` and
+-- others, for WholeLemmas. The number is a sum over ids, in which each counts 1 where its place is in the directory and
+-- else 0. So where one id changes its place, the sums of before and after differ by what it counted and what it counts;
+-- and a sum is more than none just where some id's place is there.
 use Rattle.std.proofs.Common.{◌≡◌, ◌≢◌, ℕ, zero, suc, ◌+◌, ◌<◌, ◌≤◌, Option, None, Some, true, false, refl, sym, ap}
 use Rattle.std.proofs.Common.{◌∙◌, ⊎_elim, arith}
 use Rattle.std.specs.Prelude.{◌==◌}

@@ -1,4 +1,7 @@
--- Nodes stay true of a tree in which no name moves.
+-- Nodes stay true of a tree in which no name moves: `nodes_kept`, and by it `nodes_changed` where a file was changed
+-- and `nodes_grown` where a row was made. Nodes say of a tree only which row hangs under which name, so it is enough
+-- that each name which is there stays with its row. A changed row has its parent and name still, and a new one has a
+-- number that no row had, so each row of before is there.
 use Rattle.std.proofs.Common.{◌≡◌, ◌≢◌, ℕ, List, Option, None, Some, refl, sym, ap, ◌∙◌, ⊎_elim}
 use Rattle.std.specs.FinMap as map
 use Rattle.std.proofs.lemmas.Bool.{cases_eq}

@@ -1,4 +1,7 @@
--- What the names of a node say of a tree.
+-- What the names of a node say of a tree: `names_lead` and `names_turned`, for `Nodes::names`. The names are found from
+-- the node up, place by place, and end at node 1, which is of the root's row; turned round they lead from the root down
+-- to the node's row (`leads_down` of WayLemmas), as nodes are true of the tree. Each node on the way hangs, so it has a
+-- row (`live_there`). Turned round the names are as long.
 use Rattle.std.proofs.Common.{◌≡◌, ◌≢◌, ℕ, ◌≤◌, List, [], ◌∷◌, length, Option, None, Some, Ok, refl, sym, ap, subst}
 use Rattle.std.proofs.Common.{◌∙◌}
 use mathlib.Core.List.{reverse}

@@ -1,4 +1,6 @@
--- When two places are one.
+-- When two places are one: `place_is`, `same_place-true`, `same_place-self` and `same_place-apart`, for the index by
+-- places. A place is a directory's node and a name, so the test compares both, the name by its bytes, and is true of
+-- equal places alone.
 use Rattle.std.proofs.Common.{◌≡◌, ◌≢◌, ◌⊎◌, ℕ, List, true, false, refl, sym, ap, subst, ◌∙◌, inl, inr, ⊎_elim}
 use Rattle.std.specs.Prelude.{◌==◌, bytes_eq, Result, Ok, Err, IsOk, OnOk}
 use Rattle.std.proofs.lemmas.Bool.{and_parts, and_from, eqb-true, eq-eqb, cases_Bool, false_from_ne_true}

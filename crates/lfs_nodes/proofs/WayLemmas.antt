@@ -1,4 +1,7 @@
--- The names up from a node, and down from the root.
+-- The names up from a node, and down from the root: `leads_more` and `slashed_more` for the loop of `names_up`,
+-- `leads_down` and `slashed_reversed` for NamesLemmas. Up from a node stands its name, then its parent's, and so on; a
+-- name more is that of the topmost so far. By induction on them the names above lead from the root to the parent's row,
+-- and there the node's name has its row, since nodes are true of the tree and a name is one row's.
 use Rattle.std.proofs.Common.{◌≡◌, ◌≢◌, ℕ, suc, ◌+◌, List, [], ◌∷◌, ◌++◌, length, Option, None, Some, Ok, refl, sym, ap}
 use Rattle.std.proofs.Common.{subst, ◌∙◌, arith, length-append, append_assoc}
 use Rattle.std.specs.Prelude.{unwrap_or, IsSomeAnd}

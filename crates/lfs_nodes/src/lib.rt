@@ -17,6 +17,7 @@ mod way;
 
 pub use fault::{LookUpFault, PathFault};
 pub use laws::stay_true;
+pub use moving::Renaming;
 pub use node::{Hang, Node};
 pub use nodes::Nodes;
 pub use place::{NodeId, Place};

@@ -8,7 +8,25 @@ ghost use Rattle.lfs_nodes.specs.Moves.{moved_at};
 ghost use Rattle.lfs_nodes.specs.Staying.{IdsStay};
 
 use crate::parts::Parts;
-use crate::place::Place;
+use crate::place::{NodeId, Place};
+use lfs_types::name::Name;
+
+/// A Rename that was served: what had a name in one directory has another in another directory, or in the same. The new
+/// name comes twice, as the node keeps it and the index too.
+#[derive(Drop)]
+pub struct Renaming {
+    /// The directory that it left.
+    pub from: NodeId,
+    /// The name that it had there.
+    pub name: Name,
+    /// The directory in which it is.
+    pub to: NodeId,
+    /// The name that it has there.
+    pub new_name: Name,
+    /// The same name.
+    pub copy: Name,
+    ghost same: { copy ≡ new_name },
+}
 
 impl Parts {
     /// Hangs the node at a place at another, where what hung there is gone. The new place comes twice: for the node, and for the

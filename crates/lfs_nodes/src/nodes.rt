@@ -22,6 +22,7 @@ ghost use Rattle.lfs_nodes.specs.Staying.{IdsStay};
 
 use crate::fault::{LookUpFault, PathFault};
 use crate::index::Index;
+use crate::moving::Renaming;
 use crate::node::{Hang, Node};
 use crate::parts::Parts;
 use crate::place::{NodeId, Place, ROOT_ID};
@@ -238,28 +239,36 @@ impl Nodes {
         self.parts.make_room()
     }
 
-    /// A Rename was served: the node of what it moved hangs at its new name, and the node of what hung there before is gone. The new
-    /// name comes twice, for the node and for the index, and `make_room` was called before: so nothing can be refused once the
-    /// Rename was served.
-    pub fn moved(&mut self, from: NodeId, name: Name, to: NodeId, new_name: Name, copy: Name)
-        requires same { copy ≡ new_name }
-        requires room { 0 < room_in self.old.index }
-        ensures moved { (place_at from.0 name ≢ place_at to.0 new_name)
-            → IsSome (node_at self.old.table to.0) → (q : ℕ)
-            → known self.new q ≡ moved_at (id_at self.old.index (place_at from.0 name))
-            (id_at self.old.index (place_at to.0 new_name)) (place_at to.0 new_name)
-            (known self.old) q }
-        ensures stays { from.0 ≡ to.0 → name ≡ new_name → (q : ℕ)
-            → known self.new q ≡ known self.old q }
+    /// A Rename was served: the node of what it moved hangs at its new name, and the node of what hung there before is gone.
+    /// `make_room` was called before: so nothing can be refused once the Rename was served.
+    pub fn moved(&mut self, renaming: Renaming)
+        requires { 0 < room_in self.old.index }
+        ensures moved { place_at renaming.from.0 renaming.name
+            ≢ place_at renaming.to.0 renaming.new_name
+            → IsSome (node_at self.old.table renaming.to.0) → (q : ℕ) → known self.new q
+            ≡ moved_at (id_at self.old.index (place_at renaming.from.0 renaming.name))
+            (id_at self.old.index (place_at renaming.to.0 renaming.new_name))
+            (place_at renaming.to.0 renaming.new_name) (known self.old) q }
+        ensures stays { renaming.from.0 ≡ renaming.to.0 → renaming.name ≡ renaming.new_name
+            → (q : ℕ) → known self.new q ≡ known self.old q }
         ensures nodes { (w : World) (p t n : ℕ) → IsTree w.rows → AreNodes w.rows (known self.old)
-            → live_row (known self.old from.0) ≡ Some p → live_row (known self.old to.0) ≡ Some t
-            → IsChild w.rows p name n
-            → ((m : ℕ) → child w.rows t new_name ≡ Some m → m ≢ n → children w.rows m ≡ [])
-            → AreNodes (after_rename w n (child w.rows t new_name) t new_name).rows
-            (known self.new) }
+            → live_row (known self.old renaming.from.0) ≡ Some p
+            → live_row (known self.old renaming.to.0) ≡ Some t
+            → IsChild w.rows p renaming.name n
+            → ((m : ℕ) → child w.rows t renaming.new_name ≡ Some m → m ≢ n
+            → children w.rows m ≡ [])
+            → AreNodes (after_rename w n (child w.rows t renaming.new_name) t
+            renaming.new_name).rows (known self.new) }
         ensures next { self.new.next ≡ self.old.next }
         ensures ids { IdsStay self.old self.new }
     {
+        let Renaming {
+            from,
+            name,
+            to,
+            new_name,
+            copy,
+        } = renaming;
         let old = Place {
             parent: from.0,
             name,

@@ -2,7 +2,7 @@
 
 ghost use Rattle.std.specs.Prelude.{◌≡◌};
 
-use crate::{LookUpFault, NodeId, Nodes, PathFault};
+use crate::{LookUpFault, NodeId, Nodes, PathFault, Renaming};
 use lfs_types::name::Name;
 use std::alloc::Global;
 use std::fmt::Debug;
@@ -23,17 +23,25 @@ fn name(rt: &impl Abort, alloc: Global, bytes: &[u8]) -> Name
     Name::parse(alloc, bytes).expect(rt, "a name")
 }
 
+/// A row that has a name in a directory.
+#[derive(Clone, Copy)]
+struct Entry<'a> {
+    name: &'a [u8],
+    row: u32,
+}
+
 /// The node that a look-up gives.
 fn found(
     rt: &impl Abort,
     alloc: Global,
     nodes: &mut Nodes,
     parent: NodeId,
-    bytes: &[u8],
-    row: u32,
+    entry: Entry<'_>,
 ) -> NodeId {
-    let name = name(rt, alloc, bytes);
-    nodes.look_up(alloc, parent, name, row).expect(rt, "a node")
+    let name = name(rt, alloc, entry.name);
+    nodes
+        .look_up(alloc, parent, name, entry.row)
+        .expect(rt, "a node")
 }
 
 /// How many names lead to a node, or why none do.
@@ -49,11 +57,11 @@ fn run_of_changes(rt: HostRuntime) {
     let alloc = rt.alloc();
     let mut nodes = Nodes::new(alloc).expect(&rt, "nodes");
     expect_eq(&rt, nodes.row(ROOT), Some(2));
-    let dir = found(&rt, alloc, &mut nodes, ROOT, b"a", 4);
-    let file = found(&rt, alloc, &mut nodes, dir, b"b", 5);
+    let dir = found(&rt, alloc, &mut nodes, ROOT, Entry { name: b"a", row: 4 });
+    let file = found(&rt, alloc, &mut nodes, dir, Entry { name: b"b", row: 5 });
     expect_eq(&rt, dir, NodeId(2));
     expect_eq(&rt, file, NodeId(3));
-    let again = found(&rt, alloc, &mut nodes, dir, b"b", 5);
+    let again = found(&rt, alloc, &mut nodes, dir, Entry { name: b"b", row: 5 });
     expect_eq(&rt, again, NodeId(3));
     expect_eq(&rt, depth(alloc, &nodes, file), Ok(2));
 
@@ -61,18 +69,18 @@ fn run_of_changes(rt: HostRuntime) {
     nodes.removed(dir, name(&rt, alloc, b"b"));
     expect_eq(&rt, nodes.is_gone(file), true);
     expect_eq(&rt, depth(alloc, &nodes, file), Err(PathFault::Stale));
-    let made = found(&rt, alloc, &mut nodes, dir, b"b", 5);
+    let made = found(&rt, alloc, &mut nodes, dir, Entry { name: b"b", row: 5 });
     expect_eq(&rt, made, NodeId(4));
 
     // The directory is renamed: what hangs in it needs no change.
     nodes.make_room().expect(&rt, "room");
-    nodes.moved(
-        ROOT,
-        name(&rt, alloc, b"a"),
-        ROOT,
-        name(&rt, alloc, b"c"),
-        name(&rt, alloc, b"c"),
-    );
+    nodes.moved(Renaming {
+        from: ROOT,
+        name: name(&rt, alloc, b"a"),
+        to: ROOT,
+        new_name: name(&rt, alloc, b"c"),
+        copy: name(&rt, alloc, b"c"),
+    });
     let names = nodes.names(alloc, made).expect(&rt, "names");
     expect_eq(&rt, names.len(), 2);
     for (at, name) in names.iter().enumerate() {
@@ -113,11 +121,20 @@ fn longest_names(rt: HostRuntime) {
     let long = [b'x'; 255];
     let mut at = ROOT;
     for row in 4..8u32 {
-        at = found(&rt, alloc, &mut nodes, at, &long, row);
+        at = found(
+            &rt,
+            alloc,
+            &mut nodes,
+            at,
+            Entry {
+                name: &long,
+                row: row,
+            },
+        );
     }
     // Four names of 255 bytes take 1,024 bytes with their slashes.
     expect_eq(&rt, depth(alloc, &nodes, at), Ok(4));
-    at = found(&rt, alloc, &mut nodes, at, b"y", 8);
+    at = found(&rt, alloc, &mut nodes, at, Entry { name: b"y", row: 8 });
     expect_eq(&rt, depth(alloc, &nodes, at), Err(PathFault::Long));
 }
 
@@ -127,9 +144,27 @@ fn deepest_path(rt: HostRuntime) {
     let mut nodes = Nodes::new(alloc).expect(&rt, "nodes");
     let mut at = ROOT;
     for row in 4..516u32 {
-        at = found(&rt, alloc, &mut nodes, at, b"d", row);
+        at = found(
+            &rt,
+            alloc,
+            &mut nodes,
+            at,
+            Entry {
+                name: b"d",
+                row: row,
+            },
+        );
     }
     expect_eq(&rt, depth(alloc, &nodes, at), Ok(512));
-    at = found(&rt, alloc, &mut nodes, at, b"d", 516);
+    at = found(
+        &rt,
+        alloc,
+        &mut nodes,
+        at,
+        Entry {
+            name: b"d",
+            row: 516,
+        },
+    );
     expect_eq(&rt, depth(alloc, &nodes, at), Err(PathFault::Long));
 }

@@ -13,7 +13,7 @@ use Rattle.lfs_fuse_calls.specs.declared.told.Told.{Told}
 use Rattle.lfs_fuse_calls.specs.declared.told.Told.TheVariants as told
 use Rattle.lfs_opens.specs.Rewritten.{LacksRoom, TellsCut, TellsWritten, attr_behind, end_of, new_size, part_of}
 use Rattle.lfs_opens.specs.declared.kept.Kept.{Kept}
-use Rattle.lfs_opens.specs.declared.kept.Lack.{Lack}
+use Rattle.lfs_opens.specs.declared.kept.KeepingFault.{KeepingFault}
 use Rattle.lfs_opens.specs.declared.kept.OpenFile.{OpenFile}
 
 -- ---- handles
@@ -109,17 +109,17 @@ opener_of None node = None
 opener_of (Some file) node = if file.node == node then Some file.cred else None
 
 -- a slot, with this kept for its file, or this told of why nothing is
-abbrev pub with_kept : Option Kept → Option Lack → Option OpenFile → Option OpenFile
+abbrev pub with_kept : Option Kept → Option KeepingFault → Option OpenFile → Option OpenFile
 with_kept kept lack None = None
 with_kept kept lack (Some file) = Some (record file { kept = kept; lack = lack })
 
 -- a slot, with what was seen of its file kept, or with why nothing was seen
-abbrev pub with_seen : Result Kept Lack → Option OpenFile → Option OpenFile
+abbrev pub with_seen : Result Kept KeepingFault → Option OpenFile → Option OpenFile
 with_seen (Ok kept) file = with_kept (Some kept) None file
 with_seen (Err lack) file = with_kept None (Some lack) file
 
 -- why nothing is kept of the file of a slot, if a reason was told
-abbrev pub lack_of : Option OpenFile → Option Lack
+abbrev pub lack_of : Option OpenFile → Option KeepingFault
 lack_of None = None
 lack_of (Some file) = file.lack
 
@@ -136,10 +136,10 @@ AreUnkept node before after =
     (slot : ℕ) → slice_index_or after slot None ≡ unkept node (slice_index_or before slot None)
 
 -- what was kept stays where the removal was done, and goes where it wasn't
-abbrev pub AreSettled : Option ℕ → Told → List (Option OpenFile) → List (Option OpenFile) → Type 0
-AreSettled None reply before after = after ≡ before
-AreSettled (Some node) told.Done before after = after ≡ before
-AreSettled (Some node) reply before after = AreUnkept node before after
+abbrev pub AreKeptWhereDone : Option ℕ → Told → List (Option OpenFile) → List (Option OpenFile) → Type 0
+AreKeptWhereDone None reply before after = after ≡ before
+AreKeptWhereDone (Some node) told.Done before after = after ≡ before
+AreKeptWhereDone (Some node) reply before after = AreUnkept node before after
 
 -- the node of a file that was opened
 abbrev pub opened_on : Said → ℕ → Told → Option ℕ
@@ -170,4 +170,4 @@ AreLeft (create fields name) node caller reply left slot before after =
     after ≡ opened_in slot (opened_on (create fields name) node reply) fields.flags.access caller before
 AreLeft (opening fields) node caller reply left slot before after =
     after ≡ opened_in slot (opened_on (opening fields) node reply) fields.flags.access caller before
-AreLeft message node caller reply left slot before after = AreSettled left reply before after
+AreLeft message node caller reply left slot before after = AreKeptWhereDone left reply before after

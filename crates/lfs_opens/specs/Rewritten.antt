@@ -19,7 +19,7 @@ use Rattle.lfs_fuse_calls.specs.Pieces.{put_at}
 use Rattle.lfs_fuse_calls.specs.declared.told.Told.{Told}
 use Rattle.lfs_fuse_calls.specs.declared.told.Told.TheVariants as told
 use Rattle.lfs_opens.specs.declared.kept.Kept.{Kept}
-use Rattle.lfs_opens.specs.declared.kept.Lack.{Lack}
+use Rattle.lfs_opens.specs.declared.kept.KeepingFault.{KeepingFault}
 use Rattle.lfs_opens.specs.declared.kept.OpenFile.{OpenFile}
 
 -- ---- bytes and attributes
@@ -81,7 +81,7 @@ pub record ShownFile : Type 0 where
   pub cred : Caller
   pub access : AccessMode
   pub kept : Option Shown
-  pub lack : Option Lack
+  pub lack : Option KeepingFault
 
 abbrev pub shown_kept : Kept → Shown
 shown_kept kept = record { attr = kept.attr; bytes = kept.bytes.items }

@@ -15,7 +15,7 @@ pub struct Kept {
 
 /// Why nothing is kept of a file that was removed while it was open.
 #[derive(Clone, Copy, PartialEq, Eq, Debug)]
-pub enum Lack {
+pub enum KeepingFault {
     /// The rules didn't let who opened it read it then.
     Denied,
     /// It had more bytes than there was room for.
@@ -38,5 +38,5 @@ pub struct OpenFile {
     /// What is kept of it, once it was removed.
     pub(crate) kept: Option<Kept>,
     /// Why nothing is kept of it, once it was removed.
-    pub(crate) lack: Option<Lack>,
+    pub(crate) lack: Option<KeepingFault>,
 }

@@ -3,10 +3,11 @@
 ghost use Rattle.std.specs.Prelude.{◌≡◌, ◌≢◌, ℕ, ◌-◌, ◌<◌, IfOk, IfSome, IsSome, None, Some, length, option_copied, slice_index_or, slice_set};
 ghost use Rattle.lfs_fuse_wire.specs.Views.{view};
 ghost use Rattle.lfs_fuse_calls.specs.Asked.{reads, writes};
-ghost use Rattle.lfs_opens.specs.Opens.{AreLeft, AreSettled, AreUnkept, IsFree, NoneIsOpen, closed_at, file_at_slot, first_kept, first_to_write, handle_of, is_open_to, kept_of, kept_to, lack_of, node_of, opened_in, opened_on, opener_of, slot_of, unkept, with_kept, with_seen};
+ghost use Rattle.lfs_opens.specs.Opens.{AreLeft, AreKeptWhereDone, AreUnkept, IsFree, NoneIsOpen, closed_at, file_at_slot, first_kept, first_to_write, handle_of, is_open_to, kept_of, kept_to, lack_of, node_of, opened_in, opened_on, opener_of, slot_of, unkept, with_kept, with_seen};
 ghost use Rattle.lfs_opens.specs.Rewritten.{bytes_kept, size_of};
 
-use crate::kept::{Kept, Lack, OpenFile};
+use crate::head::Head;
+use crate::kept::{KeepingFault, Kept, OpenFile};
 use lfs_fuse_calls::told::Told;
 use lfs_fuse_wire::flags::AccessMode;
 use lfs_fuse_wire::message::Message;
@@ -152,7 +153,11 @@ fn opener_of(file: &Option<OpenFile>, node: u64) -> Option<Cred>
 }
 
 /// A slot, with this kept for its file, or this told of why nothing is.
-fn with_kept(file: Option<OpenFile>, kept: Option<Kept>, lack: Option<Lack>) -> Option<OpenFile>
+fn with_kept(
+    file: Option<OpenFile>,
+    kept: Option<Kept>,
+    lack: Option<KeepingFault>,
+) -> Option<OpenFile>
     ensures { result ≡ with_kept kept lack file }
 {
     match file {
@@ -178,7 +183,7 @@ fn with_kept(file: Option<OpenFile>, kept: Option<Kept>, lack: Option<Lack>) -> 
 }
 
 /// Why nothing is kept of the file of a slot, if a reason was told.
-fn lack_of(file: &Option<OpenFile>) -> Option<Lack>
+fn lack_of(file: &Option<OpenFile>) -> Option<KeepingFault>
     ensures { result ≡ lack_of file.now }
 {
     match file {
@@ -304,7 +309,7 @@ impl Opens {
     }
 
     /// Why nothing is kept of the file of a slot, if a reason was told.
-    pub fn lack(&self, slot: usize) -> Option<Lack>
+    pub fn lack(&self, slot: usize) -> Option<KeepingFault>
         ensures { result ≡ lack_of (slice_index_or self.now.files.items slot None) }
     {
         match self.files.as_slice().get(slot) {
@@ -314,7 +319,7 @@ impl Opens {
     }
 
     /// Keeps this for the file of a slot, and tells this reason, in place of what there was.
-    fn replace(&mut self, slot: usize, kept: Option<Kept>, lack: Option<Lack>)
+    fn replace(&mut self, slot: usize, kept: Option<Kept>, lack: Option<KeepingFault>)
         ensures { self.new.files.items ≡ slice_set self.old.files.items slot
             (with_kept kept lack (slice_index_or self.old.files.items slot None)) }
     {
@@ -326,7 +331,7 @@ impl Opens {
     }
 
     /// Keeps what was seen of the file of a slot, in place of what was kept, or else tells why nothing was seen.
-    pub fn keep(&mut self, slot: usize, seen: Result<Kept, Lack>)
+    pub fn keep(&mut self, slot: usize, seen: Result<Kept, KeepingFault>)
         ensures { self.new.files.items ≡ slice_set self.old.files.items slot
             (with_seen seen (slice_index_or self.old.files.items slot None)) }
     {
@@ -400,8 +405,8 @@ impl Opens {
     }
 
     /// What was kept of a node's file stays where its removal was done, and goes where it wasn't.
-    fn settle(&mut self, left: Option<u64>, told: &Told)
-        ensures { AreSettled left told.now self.old.files.items self.new.files.items }
+    fn keep_where_done(&mut self, left: Option<u64>, told: &Told)
+        ensures { AreKeptWhereDone left told.now self.old.files.items self.new.files.items }
     {
         if let Some(node) = left {
             match told {
@@ -414,29 +419,28 @@ impl Opens {
     /// Notes what a message opened, closed or removed, and gives the slot of what it opened, if that has one.
     pub fn note(
         &mut self,
+        head: &Head,
         message: &Message<'_>,
-        node: u64,
         told: &Told,
-        cred: &Cred,
         left: Option<u64>,
     ) -> Option<usize>
         ensures free { IfSome result (λ slot. IsFree self.old.files.items slot
-            × IsSome (opened_on (view message.now) node told.now)) }
+            × IsSome (opened_on (view message.now) head.now.node told.now)) }
         ensures few { IfSome result (λ slot. slot < 256) }
-        ensures files { AreLeft (view message.now) node cred.now told.now left result
+        ensures files { AreLeft (view message.now) head.now.node head.now.cred told.now left result
             self.old.files.items self.new.files.items }
     {
         match message {
             Message::Create(fields, _) => {
                 if let Told::Create(entry, _) = told {
-                    self.open(entry.node, fields.flags.access, cred)
+                    self.open(entry.node, fields.flags.access, &head.cred)
                 } else {
                     None
                 }
             }
             Message::Open(fields) => {
                 if let Told::Open(_) = told {
-                    self.open(node, fields.flags.access, cred)
+                    self.open(head.node, fields.flags.access, &head.cred)
                 } else {
                     None
                 }
@@ -446,7 +450,7 @@ impl Opens {
                 None
             }
             _ => {
-                self.settle(left, told);
+                self.keep_where_done(left, told);
                 None
             }
         }

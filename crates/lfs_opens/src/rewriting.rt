@@ -11,6 +11,7 @@ ghost use Rattle.lfs_fuse_calls.specs.Attrs.{blocks_told};
 ghost use Rattle.lfs_opens.specs.declared.kept.OpenFile.{OpenFile};
 ghost use Rattle.lfs_opens.specs.Rewritten.{AllHaveRoom, AreChanged, AreRewritten, AreSame, HasRoom, HasRoomFor, IsWanting, LacksRoom, TellsCut, TellsWritten, attr_behind, end_of, file_behind, growth_of, is_rewrite, kept_behind, more_of, new_size, part_of, rewritten, shown_kept, shown_slot, start_of};
 
+use crate::head::Head;
 use crate::kept::{Kept, OpenFile};
 use crate::opens::Opens;
 use lfs_fuse_calls::told::Told;
@@ -210,20 +211,15 @@ fn some_behind(now: Time, kept: Option<Kept>, message: &Message<'_>, cred: &Cred
     }
 }
 
-/// A slot, with what is kept of a file on this node changed as a message says, where there is room for that.
-fn file_behind(
-    now: Time,
-    file: Option<OpenFile>,
-    node: u64,
-    message: &Message<'_>,
-    cred: &Cred,
-) -> Option<OpenFile>
-    requires { HasRoom (view message.now) node file }
+/// A slot, with what is kept of a file on a message's node changed as it says, where there is room for that.
+fn file_behind(head: &Head, file: Option<OpenFile>, message: &Message<'_>) -> Option<OpenFile>
+    requires { HasRoom (view message.now) head.now.node file }
     ensures { shown_slot result
-        ≡ file_behind (kept_behind now cred.now (view message.now)) node (shown_slot file) }
+        ≡ file_behind (kept_behind head.now.time head.now.cred (view message.now)) head.now.node
+        (shown_slot file) }
 {
     let file = file?;
-    if file.node != node {
+    if file.node != head.node {
         return Some(file);
     }
     let OpenFile {
@@ -237,7 +233,7 @@ fn file_behind(
         node: own,
         cred: opener,
         access,
-        kept: some_behind(now, kept, message, cred),
+        kept: some_behind(head.time, kept, message, &head.cred),
         lack,
     })
 }
@@ -403,87 +399,74 @@ impl Opens {
         true
     }
 
-    /// Changes what is kept in a slot, as a message says, where there is room for that.
-    fn change_at(&mut self, now: Time, slot: usize, node: u64, message: &Message<'_>, cred: &Cred)
-        requires { HasRoom (view message.now) node (slice_index_or self.old.files.items slot None) }
+    /// Changes what is kept in a slot of a file on a message's node, as it says, where there is room for that.
+    fn change_at(&mut self, head: &Head, slot: usize, message: &Message<'_>)
+        requires { HasRoom (view message.now) head.now.node
+            (slice_index_or self.old.files.items slot None) }
         ensures changed { shown_slot (slice_index_or self.new.files.items slot None)
-            ≡ file_behind (kept_behind now cred.now (view message.now)) node
+            ≡ file_behind (kept_behind head.now.time head.now.cred (view message.now)) head.now.node
             (shown_slot (slice_index_or self.old.files.items slot None)) }
         ensures others { (s : ℕ) → s ≢ slot → slice_index_or self.new.files.items s None
             ≡ slice_index_or self.old.files.items s None }
     {
         let old = self.take(slot);
-        self.put(slot, file_behind(now, old, node, message, cred));
+        self.put(slot, file_behind(head, old, message));
     }
 
-    /// Changes what is kept of each file on a node, as a message says, where there is room for that.
-    fn change(&mut self, now: Time, node: u64, message: &Message<'_>, cred: &Cred)
-        requires { AllHaveRoom (view message.now) node self.old.files.items }
-        ensures { AreChanged (kept_behind now cred.now (view message.now)) node
+    /// Changes what is kept of each file on a message's node, as it says, where there is room for that.
+    fn change(&mut self, head: &Head, message: &Message<'_>)
+        requires { AllHaveRoom (view message.now) head.now.node self.old.files.items }
+        ensures { AreChanged (kept_behind head.now.time head.now.cred (view message.now)) head.now.node
             self.old.files.items self.new.files.items }
     {
         for slot in 0..self.files.len() {
-            self.change_at(now, slot, node, message, cred);
+            self.change_at(head, slot, message);
         }
     }
 
-    /// Changes what is kept of each file on a node, as a message says, where one of them has so many bytes.
+    /// Changes what is kept of each file on a message's node, as it says, where one of them has so many bytes.
     ///
     /// # Errors
     ///
     /// The file would be too large, or there is no room or no memory. Nothing changed.
-    fn rewrite(
-        &mut self,
-        now: Time,
-        node: u64,
-        message: &Message<'_>,
-        cred: &Cred,
-        size: u64,
-    ) -> Result<(), Errno>
-        ensures changed { OnOk result (AreChanged (kept_behind now cred.now (view message.now)) node
+    fn rewrite(&mut self, head: &Head, message: &Message<'_>, size: u64) -> Result<(), Errno>
+        ensures changed { OnOk result (AreChanged
+            (kept_behind head.now.time head.now.cred (view message.now)) head.now.node
             self.old.files.items self.new.files.items) }
         ensures same { OnErr result (AreSame self.old.files.items self.new.files.items) }
         ensures fits { OnOk result (end_of (view message.now) size ≤ file_max) }
         ensures error { IfErr result (IsWanting
-            (LacksRoom (view message.now) node size self.old.files.items)
+            (LacksRoom (view message.now) head.now.node size self.old.files.items)
             (end_of (view message.now) size)) }
     {
         let Some(end) = end_of(message, size) else {
             return Err(Errno::EFBIG);
         };
         let more = end.saturating_sub(size) as usize;
-        if more > 0 && growth_of(self.files.as_slice(), node, more) > self.room() {
+        if more > 0 && growth_of(self.files.as_slice(), head.node, more) > self.room() {
             return Err(Errno::ENOSPC);
         }
-        if !self.make_room(node, message) {
+        if !self.make_room(head.node, message) {
             return Err(Errno::ENOMEM);
         }
-        self.change(now, node, message, cred);
+        self.change(head, message);
         Ok(())
     }
 
     /// Writes into a node's removed file, of which one who has it open for that sees so many bytes.
-    pub fn write(
-        &mut self,
-        now: Time,
-        node: u64,
-        fields: &Write,
-        bytes: &[u8],
-        cred: &Cred,
-        size: u64,
-    ) -> Told
+    pub fn write(&mut self, head: &Head, fields: &Write, bytes: &[u8], size: u64) -> Told
         ensures tells { TellsWritten
-            (LacksRoom (write fields.now bytes.now) node size self.old.files.items)
+            (LacksRoom (write fields.now bytes.now) head.now.node size self.old.files.items)
             (length (part_of bytes.now)) (end_of (write fields.now bytes.now) size) result }
-        ensures files { AreRewritten now cred.now node (write fields.now bytes.now) result
-            self.old.files.items self.new.files.items }
+        ensures files { AreRewritten head.now.time head.now.cred head.now.node
+            (write fields.now bytes.now) result self.old.files.items self.new.files.items }
     {
         let message = Message::Write(*fields, bytes);
         let count = part_of(bytes).len() as u32;
         if count == 0 {
             return nothing_told(&message, size);
         }
-        match self.rewrite(now, node, &message, cred, size) {
+        match self.rewrite(head, &message, size) {
             Ok(()) => Told::Written(count),
             Err(errno) => Told::Error(errno),
         }
@@ -491,26 +474,19 @@ impl Opens {
 
     /// Gives a node's removed file the length that a message tells, of which one who has it open for that sees these
     /// attributes and so many bytes.
-    pub fn cut(
-        &mut self,
-        now: Time,
-        node: u64,
-        fields: &SetAttr,
-        cred: &Cred,
-        attr: Attr,
-        size: u64,
-    ) -> Told
-        ensures tells { TellsCut (LacksRoom (setattr fields.now) node size self.old.files.items)
-            (attr_behind now cred.now (end_of (setattr fields.now) size) attr)
+    pub fn cut(&mut self, head: &Head, fields: &SetAttr, attr: Attr, size: u64) -> Told
+        ensures tells { TellsCut
+            (LacksRoom (setattr fields.now) head.now.node size self.old.files.items)
+            (attr_behind head.now.time head.now.cred (end_of (setattr fields.now) size) attr)
             (end_of (setattr fields.now) size) result }
-        ensures files { AreRewritten now cred.now node (setattr fields.now) result
+        ensures files { AreRewritten head.now.time head.now.cred head.now.node (setattr fields.now) result
             self.old.files.items self.new.files.items }
     {
         let message = Message::SetAttr(*fields);
-        match self.rewrite(now, node, &message, cred, size) {
+        match self.rewrite(head, &message, size) {
             Ok(()) => {
                 let len = new_size(fields).unwrap_or(size);
-                Told::Attr(attr_behind(now, cred, len, attr))
+                Told::Attr(attr_behind(head.time, &head.cred, len, attr))
             }
             Err(errno) => Told::Error(errno),
         }

@@ -10,11 +10,11 @@ use Rattle.lfs_nodes.proofs.nodes.Nodes.moved.Goals as goal
 pub returns-clause-nodes : goal.returns-clause-nodes
 returns-clause-nodes c w p t n tree are up down hangs empty =
     let parts = c.self.inside.parts in
-    let from : Place = record { parent = c.args.from.0; name = c.args.name } in
-    let to : Place = record { parent = c.args.to.0; name = c.args.new_name } in
+    let from : Place = record { parent = c.args.renaming.from.0; name = c.args.renaming.name } in
+    let to : Place = record { parent = c.args.renaming.to.0; name = c.args.renaming.new_name } in
     let are2 = subst (λ x. AreNodes w.rows (known x)) (sym c.self.view_is) are in
-    let up2 = subst (λ x. live_row (known x c.args.from.0) ≡ Some p) (sym c.self.view_is) up in
-    let down2 = subst (λ x. live_row (known x c.args.to.0) ≡ Some t) (sym c.self.view_is) down in
+    let up2 = subst (λ x. live_row (known x c.args.renaming.from.0) ≡ Some p) (sym c.self.view_is) up in
+    let down2 = subst (λ x. live_row (known x c.args.renaming.to.0) ≡ Some t) (sym c.self.view_is) down in
     let L = known c.rehang.new.self in
     ⊎_elim
     (λ same. stayed_nodes parts c.self.invariant w tree are2 from to p t n up2 down2 hangs same L

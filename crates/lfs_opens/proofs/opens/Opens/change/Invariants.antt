@@ -7,7 +7,7 @@ use Rattle.lfs_opens.proofs.opens.Opens.change.Given as goal
 abbrev pub invariant-loop-slot : goal.invariant-loop-slot
 invariant-loop-slot l = record {
   done : (s : ℕ) → s < l.slot → shown_slot (slice_index_or l.self.files.items s None)
-      ≡ file_behind (kept_behind l.now l.cred (view l.message)) l.node
+      ≡ file_behind (kept_behind l.head.time l.head.cred (view l.message)) l.head.node
       (shown_slot (slice_index_or l.fn.self.files.items s None));
   rest : (s : ℕ) → l.slot ≤ s → slice_index_or l.self.files.items s None
       ≡ slice_index_or l.fn.self.files.items s None;

@@ -9,5 +9,5 @@ returns-then-count-eq0-clause-tells c =
     let files = c.args.self.now.files.items in
     let none : length (part_of c.args.bytes.now) ≡ 0 =
     omega (arith, c.if-count-eq0.true, ap length c.part_of.ensures.bytes) in
-    subst (λ n. TellsWritten (LacksRoom said c.args.node c.args.size files) n (end_of said c.args.size)
-    c.nothing_told.result) (sym none) (c.nothing_told.ensures.tells c.args.node files)
+    subst (λ n. TellsWritten (LacksRoom said c.args.head.now.node c.args.size files) n (end_of said c.args.size)
+    c.nothing_told.result) (sym none) (c.nothing_told.ensures.tells c.args.head.now.node files)
