@@ -1,4 +1,7 @@
--- What the judge of a row's new place finds on the way to it.
+-- What the judge of a row's new place finds on the way to it: `arrive_denied`, `arrive_decided` and `arrival_is`, for
+-- `judge_arrival`. The rules ask first that the path has a name, which holds, then the walk to the directory, then two
+-- tests of it (`to_walk`). So a denied walk denies the call, and behind a walk that passes the tests of the directory
+-- decide, with the attributes that the store has at its number, which are those of the row.
 use Rattle.std.proofs.Common.{◌≡◌, ℕ, ◌+◌, ◌==◌, true, false, List, [], ◌∷◌, ◌++◌, length, Option, Some, Err, sym}
 use Rattle.std.proofs.Common.{ap, ◌∙◌, arith}
 use Rattle.std.specs.Prelude.{not}

@@ -23,7 +23,7 @@ use Rattle.lfs_types.specs.declared.store.StoreRefusal.TheVariants.{NoSpace, NoM
 use Rattle.lfs_model.specs.Effects.{answer_of, effect}
 use Rattle.lfs_model.specs.Rules.{decide}
 use Rattle.lfs_model.specs.Steps.{IsChanging, LacksInodes}
-use Rattle.lfs_calls.specs.declared.not_served.NotServed.TheVariants.{Denied, Refused}
+use Rattle.lfs_calls.specs.declared.call_fault.CallFault.TheVariants.{Denied, Refused}
 use Rattle.lfs_calls.specs.Calls.{ChangesTo, IsCallAt, LooksOn, OnUnasked, resource_of}
 use Rattle.lfs_calls.specs.Content.{Shows}
 use Rattle.lfs_calls.specs.Entries.{LeavesEntries}

@@ -21,7 +21,7 @@ use Rattle.lfs_dirs.proofs.Changes.{AreEntries-middle}
 use Rattle.lfs_dirs.specs.Directory.{AreEntries, IsEntry, number_in, used_of}
 use Rattle.lfs_dirs.proofs.Laws.{used_of-block, used_of-append}
 use Rattle.lfs_dirs.specs.Reading.{entries_of}
-use Rattle.lfs_calls.specs.declared.directory.Room.{Room}
+use Rattle.lfs_calls.specs.declared.directory.DirBlock.{DirBlock}
 use Rattle.lfs_calls.specs.declared.walking.Reached.{Reached}
 use Rattle.lfs_model.specs.World.{children, IsTree, file_at}
 use Rattle.lfs_model.specs.Rules.{front, last, reached}
@@ -139,7 +139,7 @@ module _ {c : Content} {w : World} (shows : Shows c w) {path : List (List ℕ)} 
     tree_after = subst (λ (x : World). IsTree x.rows) (sym world_is)
         (IsTree-grown w.rows tree number new_row d.row absent below is.free d.there row_kind refl least.0)
 
-    module _ {room : Room} {k : ℕ} (fits : IsRoom (bytes_of c dir.number) number (last path) room k) where
+    module _ {room : DirBlock} {k : ℕ} (fits : IsRoom (bytes_of c dir.number) number (last path) room k) where
       room_size : length room.block ≡ 512
       room_size = fits.block.size
 
@@ -242,7 +242,7 @@ module _ {c : Content} {w : World} (shows : Shows c w) {path : List (List ℕ)} 
       let there = some.is in
       absurd (cc)
 
-  module _ {number : ℕ} {room : Room} {k : ℕ} (fits : IsRoom (bytes_of c dir.number) number (last path) room k) where
+  module _ {number : ℕ} {room : DirBlock} {k : ℕ} (fits : IsRoom (bytes_of c dir.number) number (last path) room k) where
     -- where there is room, the directory isn't full
     pub roomy : FitsNowhere (bytes_of c (reached w.rows root (front path))) None (last path) → ⊥
     roomy nowhere =

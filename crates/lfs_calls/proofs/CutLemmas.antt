@@ -1,4 +1,7 @@
--- What a SetLength may be answered, and what it leaves.
+-- What a SetLength may be answered, and what it leaves: `can_cut` for `cut`, `cut_volume` for `set_length`. The store
+-- is asked for two changes at one number, the length and a mode, and both may be asked of a file that is no directory
+-- and whose new length fits. Bytes of a new length have that length (`length-resized`), so the store then shows the
+-- file cut as the rules say, and all others as before (ChangeLemmas).
 use Rattle.std.proofs.Common.{◌≡◌, ℕ, ◌≤◌, false, List, [], ◌∷◌, length, Some, refl, subst, arith}
 use Rattle.lfs_types.specs.Caller.{Caller}
 use Rattle.lfs_types.specs.Changes.{CanApply}

@@ -1,4 +1,7 @@
--- What a store has of a directory whose attributes it shows.
+-- What a store has of a directory whose attributes it shows, for searches of it and for calls that change one:
+-- `dir_stored`, `directory_at`, `bytes_listing`, `lists_name` and others. Attributes are shown of a stored file alone,
+-- so there is one, of their kind and with as many bytes as their size says; the store shows a world, so its length is
+-- one that a directory may have, whole blocks within the limit, and its bytes list the rows that hang there.
 use Rattle.std.proofs.Common.{◌≡◌, ℕ, ◌%◌, ◌≤◌, true, List, length, Some, sym, ap, subst, ◌∙◌}
 use Rattle.std.specs.Prelude.{IsSome}
 use Rattle.std.specs.FinMap as map

@@ -1,4 +1,8 @@
--- How calls leave the bytes of directories.
+-- How calls leave the bytes of directories: `attrs_keep` for `chmod`, `chown` and `chflags`, `bytes_keep` for `write`
+-- and `set_length`, `closes_up` for `remove`. Each call changes one file of the store, or a directory's and the removed
+-- file, and leaves all others, so only these numbers are in question. Setting attributes leaves the bytes; a file whose
+-- bytes were changed has not the kind of a directory, so it is none; a file that was removed is not there any more; and
+-- the directory in which it stood got one block, that without its entry.
 use Rattle.std.proofs.Common.{◌≡◌, ℕ, List, false, Ok, sym, ap, subst, ◌∙◌, ⊎_elim}
 use Rattle.std.proofs.lemmas.Bool.{cases_eq}
 use Rattle.std.specs.Prelude.{IsSomeAnd}

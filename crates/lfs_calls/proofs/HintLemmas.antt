@@ -19,7 +19,7 @@ use Rattle.lfs_known.proofs.FullLemmas.{changed-bytes, full_spliced}
 use Rattle.lfs_calls.specs.Content.{AreBlocks, all_entries, block_at}
 use Rattle.lfs_calls.specs.Makes.{IsRoom, IsRoomIn, StandsIn, with_block}
 use Rattle.lfs_calls.specs.Renames.{IsSwap, IsSwapIn, WritesBlocks, block_put}
-use Rattle.lfs_calls.specs.declared.directory.Room.{Room}
+use Rattle.lfs_calls.specs.declared.directory.DirBlock.{DirBlock}
 use Rattle.lfs_calls.proofs.Listings.{absent_in_block}
 use Rattle.lfs_calls.proofs.WithBlock.{length-stood, stood-here, stood-other}
 
@@ -31,7 +31,7 @@ full_before bytes block size long same within full = record { within = omega (ar
 
 -- ---- a block that is read in place of a stored one
 
-module _ (bytes : List ℕ) (room : Room) (stands : StandsIn bytes room) where
+module _ (bytes : List ℕ) (room : DirBlock) (stands : StandsIn bytes room) where
   -- it is the block of its index
   pub block_there : (k : ℕ) → 512 * k ≡ room.off → block_at (splice bytes room.off room.block) k ≡ room.block
   block_there k same = ap (λ n. take 512 (drop n (splice bytes room.off room.block))) same ∙ stood-here bytes room stands
@@ -43,7 +43,7 @@ module _ (bytes : List ℕ) (room : Room) (stands : StandsIn bytes room) where
       (sym (stood-other bytes room stands (512 * j) (omega arith) apart)) (was.full j before)
 
 -- where it has no room either, no block that is seen before one has
-pub full_seen : (bytes : List ℕ) (taken : Option (Bor Room)) (first long : ℕ)
+pub full_seen : (bytes : List ℕ) (taken : Option (Bor DirBlock)) (first long : ℕ)
     → IfSome taken (λ room. StandsIn bytes room.now) → IsFullBefore bytes (record { block = first; length = long })
     → IfSome taken (λ room. room.now.off / 512 < first → 512 < used_of (entries_of room.now.block) + 5 + long)
     → (j : ℕ) → j < first → 512 < used_of (entries_of (block_at (with_block bytes taken) j)) + 5 + long
@@ -55,7 +55,7 @@ full_seen bytes (Some room) first long stands was here j before = ⊎_elim
     (cases_eq (512 * j) room.now.off)
 
 -- it is a directory block
-pub block_seen : (bytes : List ℕ) (taken : Option (Bor Room)) → IfSome taken (λ room. StandsIn bytes room.now)
+pub block_seen : (bytes : List ℕ) (taken : Option (Bor DirBlock)) → IfSome taken (λ room. StandsIn bytes room.now)
     → length bytes % 512 ≡ 0 → AreBlocks (with_block bytes taken)
     → IfSome taken (λ room. IsDirectoryBlock room.now.block (entries_of room.now.block))
 block_seen bytes None stands whole blocks = tt
@@ -73,7 +73,7 @@ block_seen bytes (Some room) stands whole blocks =
     subst (λ b. IsDirectoryBlock b (entries_of b)) is (blocks k within)
 
 -- where it doesn't list a name, and a stored block doesn't, the block that is seen doesn't
-pub absent_seen : (bytes : List ℕ) (taken : Option (Bor Room)) (name : List ℕ)
+pub absent_seen : (bytes : List ℕ) (taken : Option (Bor DirBlock)) (name : List ℕ)
     → IfSome taken (λ room. StandsIn bytes room.now)
     → IfSome taken (λ room. number_in name (entries_of room.now.block) ≡ None)
     → (j : ℕ) → number_in name (entries_of (block_at bytes j)) ≡ None
@@ -86,7 +86,7 @@ absent_seen bytes (Some room) name stands here j absent = ⊎_elim
     (cases_eq (512 * j) room.now.off)
 
 -- with another number for the name it is the block that lists the name
-pub swap_in : (bytes : List ℕ) (taken : Option (Bor Room)) (name : List ℕ) (number : ℕ) (room : Room)
+pub swap_in : (bytes : List ℕ) (taken : Option (Bor DirBlock)) (name : List ℕ) (number : ℕ) (room : DirBlock)
     → IfSome taken (λ room. StandsIn bytes room.now) → length bytes % 512 ≡ 0
     → IsSomeAnd taken (λ block. IsSwapIn block.now name number room)
     → (k : ℕ) × IsSwap (with_block bytes taken) name number room k
@@ -107,7 +107,7 @@ swap_in bytes (Some block) name number room stands whole there =
     )
 
 -- it is a directory block, in which the name is free
-pub free_there : (bytes : List ℕ) (taken : Option (Bor Room)) (name : List ℕ)
+pub free_there : (bytes : List ℕ) (taken : Option (Bor DirBlock)) (name : List ℕ)
     → IfSome taken (λ room. StandsIn bytes room.now) → length bytes % 512 ≡ 0 → AreBlocks (with_block bytes taken)
     → number_in name (all_entries (with_block bytes taken)) ≡ None
     → IfSome taken (λ room. IsDirectoryBlock room.now.block (entries_of room.now.block)
@@ -129,7 +129,7 @@ free_there bytes (Some room) name stands whole blocks free =
     )
 
 -- with an entry more it is the first block where the name fits
-pub room_in : (bytes : List ℕ) (taken : Option (Bor Room)) (first number : ℕ) (name : List ℕ) (room : Room)
+pub room_in : (bytes : List ℕ) (taken : Option (Bor DirBlock)) (first number : ℕ) (name : List ℕ) (room : DirBlock)
     → IfSome taken (λ room. StandsIn bytes room.now) → length bytes % 512 ≡ 0 → length bytes ≤ FILE_BYTES
     → IsFullBefore bytes (record { block = first; length = length name })
     → IsSomeAnd taken (λ block. IsRoomIn block.now first number name room)
@@ -155,9 +155,9 @@ room_in bytes (Some block) first number name room stands whole bounded was there
 -- ---- a Rename
 
 -- once it has written its blocks, the new name fits in none before its own
-pub full_written : (old after : Content) (from : ℕ) (taken : Room) (to : ℕ) (room : Room) (number : ℕ) (name : List ℕ)
+pub full_written : (old after : Content) (from : ℕ) (taken : DirBlock) (to : ℕ) (room : DirBlock) (number : ℕ) (name : List ℕ)
     (k : ℕ) → IsRoom (bytes_of (block_put from taken old) to) number name room k
-    → WritesBlocks old after from taken to room
+    → WritesBlocks old after from taken to room None
     → IsFullBefore (bytes_of after to) (record { block = room.off / 512; length = length name })
 full_written old after from taken to room number name k is writes =
     let mid = block_put from taken old in

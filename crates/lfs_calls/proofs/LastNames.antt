@@ -1,4 +1,6 @@
--- The last of some names, and those before it.
+-- The last of some names, and those before it: `last_stands` for `last_name`, `front_stands` for `parents_of` and
+-- lfs_explain. Some names are those before the last and the last, so the last stands at the index of how many there are
+-- before it.
 use Rattle.std.proofs.Common.{◌≡◌, ℕ, ◌-◌, ◌<◌, List, [], ◌∷◌, ◌++◌, length, take, slice_index_or, sym, ap, ◌∙◌, arith}
 use Rattle.std.proofs.Common.{length-append}
 use Rattle.std.proofs.Math.Seq.{get_or-append_seam, take-append_seam}

@@ -8,6 +8,7 @@ pub mod ChangedStore
 pub mod CreateLemmas
 pub mod Crowded
 pub mod CutLemmas
+pub mod DirBlockLemmas
 pub mod Directories
 pub mod EntryLemmas
 pub mod GrownStore
@@ -47,3 +48,4 @@ pub mod ThereLemmas
 pub mod Visible
 pub mod WithBlock
 pub mod WriteLemmas
+pub mod LevelLemmas

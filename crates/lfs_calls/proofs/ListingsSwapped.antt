@@ -12,7 +12,7 @@ use Rattle.lfs_dirs.proofs.Changes.{number_in-append, number_in-renumbered, numb
 use Rattle.lfs_dirs.proofs.Changes.{renumbered-append, renumbered-absent, AreEntries-renumbered}
 use Rattle.lfs_dirs.specs.Directory.{Entry, AreEntries, number_in, renumbered}
 use Rattle.lfs_dirs.specs.Reading.{entries_of}
-use Rattle.lfs_calls.specs.declared.directory.Room.{Room}
+use Rattle.lfs_calls.specs.declared.directory.DirBlock.{DirBlock}
 use Rattle.lfs_model.specs.World.{Rows, child}
 use Rattle.lfs_calls.specs.Content.{block_at, entries_below, all_entries, AreBlocks, ListsRows}
 use Rattle.lfs_calls.specs.Renames.{IsSwap}
@@ -34,7 +34,7 @@ renumbered-middle name number xs es ys a some =
     (renumbered-absent name number xs before)
     ∙ ap (λ gs. (xs ++ renumbered name number es) ++ gs) (renumbered-absent name number ys behind))
 
-module _ (bytes name : List ℕ) (number : ℕ) (room : Room) (k : ℕ) (swap : IsSwap bytes name number room k) where
+module _ (bytes name : List ℕ) (number : ℕ) (room : DirBlock) (k : ℕ) (swap : IsSwap bytes name number room k) where
   within : k ≤ length bytes / 512
   within = omega (arith, swap.within)
 

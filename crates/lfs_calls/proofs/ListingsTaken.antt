@@ -15,7 +15,7 @@ use Rattle.lfs_dirs.proofs.Changes.{number_in-without_other, has_name-true, with
 use Rattle.lfs_dirs.proofs.Changes.{without-absent, AreEntries-without}
 use Rattle.lfs_dirs.specs.Directory.{Entry, AreEntries, has_name, number_in, without}
 use Rattle.lfs_dirs.specs.Reading.{entries_of}
-use Rattle.lfs_calls.specs.declared.directory.Room.{Room}
+use Rattle.lfs_calls.specs.declared.directory.DirBlock.{DirBlock}
 use Rattle.lfs_model.specs.World.{Rows, child, IsChild}
 use Rattle.lfs_calls.specs.Content.{block_at, entries_below, all_entries, AreBlocks, ListsRows}
 use Rattle.lfs_calls.specs.Removes.{IsTaking}
@@ -77,7 +77,7 @@ without-middle name xs es ys a some =
 
 -- ---- a directory's bytes
 
-module _ (bytes name : List ℕ) (room : Room) (k : ℕ) (taking : IsTaking bytes name room k) where
+module _ (bytes name : List ℕ) (room : DirBlock) (k : ℕ) (taking : IsTaking bytes name room k) where
   taken_within : k ≤ length bytes / 512
   taken_within = omega (arith, taking.within)
 
@@ -95,7 +95,7 @@ module _ (bytes name : List ℕ) (room : Room) (k : ℕ) (taking : IsTaking byte
 
 module _ (rows : Rows) (unique : IsUnique rows) (parent n : ℕ) (name : List ℕ) (hangs : IsChild rows parent name n)
     (bytes : List ℕ) (listing : ListsRows rows parent bytes) (whole : length bytes % 512 ≡ 0)
-    (room : Room) (k : ℕ) (taking : IsTaking bytes name room k) where
+    (room : DirBlock) (k : ℕ) (taking : IsTaking bytes name room k) where
   abbrev within : k ≤ length bytes / 512
   within = taken_within bytes name room k taking
 

@@ -1,10 +1,10 @@
 -- A store may be asked for the two blocks of a Rename, with a removal behind them: `can_put_blocks`, `can_swap_blocks`
--- and `can_put_one`, for `put_blocks` and `put_swapped`. The first block stays within its directory, so all lengths are
+-- and `can_put_one`, for `put_blocks`. The first block stays within its directory, so all lengths are
 -- the same when the second is checked (`same_length`), also where both are of one directory. If both are one block,
 -- only the second is written, which comes to the same (`splice_twice`, `writes_one`); CanApply bounds how many changes
 -- and bytes there may be, so a third block would need new sums.
 use Rattle.std.proofs.Common.{◌≡◌, ℕ, ◌+◌, ◌%◌, ◌<◌, ◌≤◌, List, [], ◌∷◌, ◌++◌, length, take, drop, Option, None, Some}
-use Rattle.std.proofs.Common.{refl, sym, ap, subst, ◌∙◌, ⊎_elim, arith, length-append}
+use Rattle.std.proofs.Common.{sym, ap, subst, ◌∙◌, ⊎_elim, arith, length-append}
 use Rattle.std.proofs.lemmas.Bool.{cases_eq}
 use Rattle.std.specs.Prelude.{IsSome, IsSomeAnd}
 use Rattle.std.specs.Borrow.{Bor}
@@ -16,9 +16,9 @@ use Rattle.lfs_types.specs.Stored.{bytes_of, bytes_of_file}
 use Rattle.lfs_types.specs.Tree.{File, Content}
 use Rattle.lfs_types.specs.declared.attrs.Kind.TheVariants.{Directory}
 use Rattle.lfs_types.specs.declared.store.Change.TheVariants.{Put, Remove}
-use Rattle.lfs_calls.specs.declared.directory.Room.{Room}
+use Rattle.lfs_calls.specs.declared.directory.DirBlock.{DirBlock}
 use Rattle.lfs_calls.specs.Makes.{IsBlockOf}
-use Rattle.lfs_calls.specs.Renames.{block_put, SwapsBlocks, WritesBlocks}
+use Rattle.lfs_calls.specs.Renames.{block_put, WritesBlocks, without_file}
 use Rattle.lfs_calls.proofs.MakeLemmas.{grown_length}
 use Rattle.lfs_calls.proofs.MovedStore.{block_there, block_others}
 use Rattle.lfs_types.proofs.Maps.{get-insert_same, get-insert_other, get-remove_same, get-remove_other}
@@ -71,7 +71,7 @@ remove_alike a b gone same q = ⊎_elim
     (λ apart. get-remove_other a gone q apart ∙ same q ∙ sym (get-remove_other b gone q apart))
     (cases_eq q gone)
 
-module _ (c : Content) (p : ℕ) (taken : Room) (old : IsBlockOf c p taken) where
+module _ (c : Content) (p : ℕ) (taken : DirBlock) (old : IsBlockOf c p taken) where
   abbrev f : Some_and (map.get c p) (λ f. (f.kind ≡ Directory) × (length f.bytes % 512 ≡ 0)
       × (length f.bytes ≤ FILE_BYTES) × (taken.off ≤ length f.bytes))
   f = some_and (map.get c p) _ old.directory
@@ -80,7 +80,7 @@ module _ (c : Content) (p : ℕ) (taken : Room) (old : IsBlockOf c p taken) wher
   long_block = grown_length f.value.kind f.value.bytes taken.off taken.block f.holds.0 f.holds.1 f.holds.3 old.aligned
       old.fits old.size f.holds.2
 
-  module _ (room : Room) (off : taken.off ≡ room.off) (size : length room.block ≡ 512) where
+  module _ (room : DirBlock) (off : taken.off ≡ room.off) (size : length room.block ≡ 512) where
     bytes_once : splice (splice f.value.bytes taken.off taken.block) room.off room.block
         ≡ splice f.value.bytes room.off room.block
     bytes_once = ap (λ n. splice (splice f.value.bytes n taken.block) room.off room.block) off
@@ -88,8 +88,8 @@ module _ (c : Content) (p : ℕ) (taken : Room) (old : IsBlockOf c p taken) wher
         (subst (λ n. n ≤ length f.value.bytes) off f.holds.3) (old.size ∙ sym size) (omega (arith, old.size))
 
     -- a block is written over another as if that had not been
-    pub writes_one : (new : Content) → new ≡ block_put p room c → WritesBlocks c new p taken p room
-    writes_one new is q = ap (λ x. map.get x q) is ∙ ⊎_elim
+    written_once : (q : ℕ) → map.get (block_put p room c) q ≡ map.get (block_put p room (block_put p taken c)) q
+    written_once q = ⊎_elim
         (λ e. ap (map.get (block_put p room c)) e ∙ block_there c p f.value f.is f.holds.0 room
         ∙ ap (λ bs. Some (record f.value { bytes = bs })) (sym bytes_once)
         ∙ sym (block_there (block_put p taken c) p
@@ -103,12 +103,12 @@ module _ (c : Content) (p : ℕ) (taken : Room) (old : IsBlockOf c p taken) wher
         (block_there c p f.value f.is f.holds.0 taken) f.holds.0 room q apart))
         (cases_eq q p)
 
-    -- and so where a file is removed then
-    pub swaps_one : (new : Content) (gone : ℕ) → new ≡ map.remove (block_put p room c) gone
-        → SwapsBlocks c new p taken p room gone
-    swaps_one new gone is q = ap (λ x. map.get x q) is
-        ∙ remove_alike (block_put p room c) (block_put p room (block_put p taken c)) gone
-        (writes_one (block_put p room c) refl) q
+    -- also where a file gives way then
+    pub writes_one : (gone : Option ℕ) (new : Content) → new ≡ without_file gone (block_put p room c)
+        → WritesBlocks c new p taken p room gone
+    writes_one None new is q = ap (λ x. map.get x q) is ∙ written_once q
+    writes_one (Some gone) new is q = ap (λ x. map.get x q) is
+        ∙ remove_alike (block_put p room c) (block_put p room (block_put p taken c)) gone written_once q
 
   -- a store may be asked for a block and a removal
   pub can_put_one : (numbers : ℕ) (pointed : Bor (List ℕ)) → pointed.now ≡ taken.block → (gone : ℕ)
@@ -125,7 +125,7 @@ module _ (c : Content) (p : ℕ) (taken : Room) (old : IsBlockOf c p taken) wher
     );
   }
 
-  module _ (inside : taken.off + 512 ≤ length (bytes_of c p)) (q : ℕ) (room : Room) (new : IsBlockOf c q room) where
+  module _ (inside : taken.off + 512 ≤ length (bytes_of c p)) (q : ℕ) (room : DirBlock) (new : IsBlockOf c q room) where
     abbrev h : Some_and (map.get c q) (λ f. (f.kind ≡ Directory) × (length f.bytes % 512 ≡ 0)
         × (length f.bytes ≤ FILE_BYTES) × (room.off ≤ length f.bytes))
     h = some_and (map.get c q) _ new.directory

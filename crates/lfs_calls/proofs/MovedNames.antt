@@ -1,9 +1,9 @@
--- After a Rename the store shows the moved row, and a cache may say its new name and no more its old one: `moves_free`
--- and `moves_over`, for `move_free` and `move_over`, with `shows_free` and `shows_over` for RenameEffects. A move
+-- After a Rename the store shows the moved row, and a cache may say its new name and no more its old one: `moves_row`,
+-- for `move_row`, with `shows_free` and `shows_over` for RenameEffects, by whether another row gives way. A move
 -- changes where one row hangs and no row's file, so every other name leads where it led (`found_still`), and the two
 -- names of the move are read off the tree after it. Over another row that row's number is gone, and nothing hung in it
 -- (`childless`), so no name that was found in it is lost; a Rename over a filled directory would break this.
-use Rattle.std.proofs.Common.{◌≡◌, ◌≢◌, ℕ, ◌/◌, List, None, Some, sym, ap, subst, ◌∙◌, ⊎_elim}
+use Rattle.std.proofs.Common.{◌≡◌, ◌≢◌, ℕ, ◌/◌, List, Option, None, Some, sym, ap, subst, ◌∙◌, ⊎_elim}
 use Rattle.std.proofs.lemmas.Bool.{cases_eq}
 use Rattle.std.specs.Prelude.{option_map}
 use Rattle.std.specs.FinMap as map
@@ -16,7 +16,7 @@ use Rattle.lfs_calls.specs.Content.{IsDirectoryAt, Shows}
 use Rattle.lfs_calls.specs.Makes.{IsRoom}
 use Rattle.lfs_calls.specs.Names.{MovesName}
 use Rattle.lfs_calls.specs.Removes.{IsChildless}
-use Rattle.lfs_calls.specs.Renames.{ArePlaces, AreSwapped, IsSwap, Leaves, SwapsBlocks, WritesBlocks}
+use Rattle.lfs_calls.specs.Renames.{ArePlaces, GoesTo, IsSwap, Leaves, WritesBlocks}
 use Rattle.lfs_model.proofs.Children.{child-is}
 use Rattle.lfs_model.proofs.MovedRows.{child-moved, child-moved_other}
 use Rattle.lfs_model.proofs.Shrunk.{child-left_elsewhere, child-removed}
@@ -62,8 +62,9 @@ module _ {c : Content} {w : World} (shows : Shows c w) (tree : IsTree w.rows) {m
 
   -- ---- to a place that was free
 
-  module _ {new : List ℕ} (free : child w.rows q new ≡ None) {places : Places} (found : ArePlaces c move old new places)
-      (after : Content) (writes : WritesBlocks c after p places.taken q places.room) where
+  module _ {new : List ℕ} (free : child w.rows q new ≡ None) {places : Places}
+      (found : ArePlaces c move old new None places) (after : Content)
+      (writes : WritesBlocks c after p places.taken q places.room None) where
     abbrev rows_free : Rows
     rows_free = map.insert w.rows n (row new)
 
@@ -84,7 +85,7 @@ module _ {c : Content} {w : World} (shows : Shows c w) (tree : IsTree w.rows) {m
     files_free = same_files w n (hung shows tree leaves).row (hung shows tree leaves).there q new
 
     -- it lists the row under its new name, no more under the old one, and otherwise what it listed
-    pub moves_free : MovesName c after p old q new n (places.room.off / 512)
+    moves_free : MovesName c after p old q new n (places.room.off / 512)
     moves_free =
         let hangs = hung shows tree leaves in
         let moved : World = record w { rows = rows_free } in
@@ -109,8 +110,8 @@ module _ {c : Content} {w : World} (shows : Shows c w) (tree : IsTree w.rows) {m
   -- ---- to that of another row
 
   module _ {new : List ℕ} (m : ℕ) (there : child w.rows q new ≡ Some m) (apart : m ≢ n) {places : Places}
-      (found : AreSwapped c move old new places) (after : Content)
-      (writes : SwapsBlocks c after p places.taken q places.room m) where
+      (found : ArePlaces c move old new (Some m) places) (after : Content)
+      (writes : WritesBlocks c after p places.taken q places.room (Some m)) where
     abbrev rows_over : Rows
     rows_over = swapped w.rows tree.unique n m p q old new apart (hung shows tree leaves)
         (child-is w.rows q new m there)
@@ -127,12 +128,12 @@ module _ {c : Content} {w : World} (shows : Shows c w) (tree : IsTree w.rows) {m
         (kind_old shows tree leaves found.taking.1) places.taken found.taking.0
         (at_file shows tree leaves found.taking.1)
         q new m (child-is w.rows q new m there) apart (above shows tree leaves) (small shows tree leaves)
-        e.value e.is e.holds places.room found.swap.0
-        (subst (λ o. IsSwap (bytes_of_file o) new n places.room found.swap.0) e.is found.swap.1)
+        e.value e.is e.holds places.room found.room.0
+        (subst (λ o. IsSwap (bytes_of_file o) new n places.room found.room.0) e.is found.room.1)
         after writes
 
     -- it lists the row under the other's name, no more under its old one, and otherwise what it listed
-    pub moves_over : IsChildless w.rows m → MovesName c after p old q new n (places.room.off / 512)
+    moves_over : IsChildless w.rows m → MovesName c after p old q new n (places.room.off / 512)
     moves_over childless =
         let hangs = hung shows tree leaves in
         let other = child-is w.rows q new m there in
@@ -158,6 +159,17 @@ module _ {c : Content} {w : World} (shows : Shows c w) (tree : IsTree w.rows) {m
           gives = found_now c after w moved shows shows_over q new (Some n)
               (directory_still c after w moved shows shows_over q (files q holds) into)
               (child-swapped w.rows tree.unique n m p q old new apart hangs other);
-          stands = stands_swapped c after p q n places.taken places.room old new found.taking.0 found.swap.0
-              found.taking.1 m found.swap.1 writes;
+          stands = stands_swapped c after p q n places.taken places.room old new found.taking.0 found.room.0
+              found.taking.1 m found.room.1 writes;
         }
+
+-- whatever has the new name
+pub moves_row : {c : Content} {w : World} (shows : Shows c w) (tree : IsTree w.rows) {move : Move} {old new : List ℕ}
+    (gone : Option ℕ) (goes : GoesTo c w.rows move old new gone) {places : Places}
+    (found : ArePlaces c move old new gone places) (after : Content)
+    → WritesBlocks c after move.removal.dir.number places.taken move.dir.number places.room gone
+    → MovesName c after move.removal.dir.number old move.dir.number new move.removal.file.number (places.room.off / 512)
+moves_row shows tree None goes found after writes =
+    moves_free shows tree goes.leaves goes.there found after writes
+moves_row shows tree (Some m) goes found after writes =
+    moves_over shows tree goes.leaves m goes.there goes.gives_way.0 found after writes goes.gives_way.1

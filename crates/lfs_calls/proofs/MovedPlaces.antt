@@ -1,9 +1,9 @@
 -- In a Rename the room for the new name is looked for in its directory as it's once the old entry is taken away:
--- `seen_through` and `seen_listing`, for `find_places` and `find_swap`, and `nowhere` and `somewhere` for the answer
--- DirectoryFull. Nothing is written yet, so the directory's bytes are read through the block in hand if both
--- directories are one (`seen_same`), and else as they are (`seen_apart`); they list the rows without the moved one. The
--- hard part is that the two agree block by block (`left_in_one`): a block without the old entry is what `without`
--- leaves; a Rename that looked for room first would have another meaning of full.
+-- `seen_through` and `seen_listing`, for `find_places`, and `nowhere` and `has_room` for the answer DirectoryFull.
+-- Nothing is written yet, so the directory's bytes are read through the block in hand if both directories are one
+-- (`seen_same`), and else as they are (`seen_apart`); they list the rows without the moved one. The hard part is that
+-- the two agree block by block (`left_in_one`): a block without the old entry is what `without` leaves; a Rename that
+-- looked for room first would have another meaning of full.
 use Rattle.std.proofs.Common.{◌≡◌, ◌≢◌, ℕ, ◌+◌, ◌*◌, ◌/◌, ◌^◌, ◌<◌, ◌==◌, List, [], ◌∷◌, length, take, drop, Option}
 use Rattle.std.proofs.Common.{None, Some, sym, ap, subst, ◌∙◌, ⊎_elim, arith}
 use Rattle.std.specs.Prelude.{IsSomeAnd}
@@ -20,13 +20,13 @@ use Rattle.lfs_dirs.proofs.Changes.{without-absent, Contains-number_in, AreEntri
 use Rattle.lfs_dirs.specs.Directory.{IsEntry, number_in, used_of}
 use Rattle.lfs_dirs.proofs.Laws.{used_of-block, used_of-append}
 use Rattle.lfs_dirs.specs.Reading.{entries_of}
-use Rattle.lfs_calls.specs.declared.directory.Room.{Room}
+use Rattle.lfs_calls.specs.declared.directory.DirBlock.{DirBlock}
 use Rattle.lfs_calls.specs.declared.renaming.Move.{Move}
 use Rattle.lfs_model.specs.World.{child, IsChild, IsTree}
 use Rattle.lfs_calls.specs.Content.{Shows, ListsRows, FitsNowhere, block_at, left_of, all_entries}
 use Rattle.lfs_calls.specs.Makes.{IsRoom, StandsIn, with_block}
 use Rattle.lfs_calls.specs.Removes.{IsTaking}
-use Rattle.lfs_calls.specs.Renames.{Leaves, block_put, name_left}
+use Rattle.lfs_calls.specs.Renames.{HasNoRoom, IsNewPlace, Leaves, block_put, name_left}
 use Rattle.lfs_model.proofs.Children.{child-answer, child-is}
 use Rattle.lfs_calls.proofs.Directories.{dir_file, file_kind, file_bytes, bytes_length, bytes_listing}
 use Rattle.lfs_calls.proofs.Listings.{absent_in_block}
@@ -86,7 +86,7 @@ module _ {c : Content} {w : World} (shows : Shows c w) (tree : IsTree w.rows) {m
   pub small : n < 2 ^ 32
   small = is_entry.fits
 
-  module _ {taken : Room} {k : ℕ} (taking : IsTaking old_bytes old taken k) where
+  module _ {taken : DirBlock} {k : ℕ} (taking : IsTaking old_bytes old taken k) where
     -- the content with the old entry taken away
     abbrev pub without_old : Content
     without_old = block_put p taken c
@@ -144,15 +144,15 @@ module _ {c : Content} {w : World} (shows : Shows c w) (tree : IsTree w.rows) {m
     seen_apart apart = ap bytes_of_file (sym (block_others c p f.file f.stored kind_old taken q (λ e. apart (sym e))))
 
     -- they are read through the block
-    pub seen_is : (b : Bor Room) → b.now ≡ taken → with_block new_bytes (then_some (p == q) b) ≡ seen
+    pub seen_is : (b : Bor DirBlock) → b.now ≡ taken → with_block new_bytes (then_some (p == q) b) ≡ seen
     seen_is b is = ⊎_elim
         (λ t. ap (λ here. with_block new_bytes (then_some here b)) t
-        ∙ ap (λ (r : Room). splice new_bytes r.off r.block) is ∙ seen_same (eqb-true p q t))
+        ∙ ap (λ (r : DirBlock). splice new_bytes r.off r.block) is ∙ seen_same (eqb-true p q t))
         (λ t. ap (λ here. with_block new_bytes (then_some here b)) t ∙ seen_apart (eqb-false p q t))
         (cases_Bool (p == q))
 
     -- as the store has them when the room is sought
-    pub seen_through : (now : Content) → now ≡ c → (o : Option (Bor Room)) (b : Bor Room) → b.now ≡ taken → o
+    pub seen_through : (now : Content) → now ≡ c → (o : Option (Bor DirBlock)) (b : Bor DirBlock) → b.now ≡ taken → o
         ≡ then_some (p == q) b → with_block (bytes_of now q) o ≡ seen
     seen_through now same o b is chosen = ap (λ x. with_block (bytes_of x q) o) same ∙ ap (with_block new_bytes) chosen
         ∙ seen_is b is
@@ -227,7 +227,7 @@ module _ {c : Content} {w : World} (shows : Shows c w) (tree : IsTree w.rows) {m
         }
 
     -- where there is room for it, the directory isn't full
-    pub somewhere : {new : List ℕ} {room : Room} {j : ℕ} → IsRoom seen n new room j
+    somewhere : {new : List ℕ} {room : DirBlock} {j : ℕ} → IsRoom seen n new room j
         → FitsNowhere new_bytes (name_left move old) new → ⊥
     somewhere {new} {room} {j} fits full =
         let below = fits.fits in
@@ -238,3 +238,9 @@ module _ {c : Content} {w : World} (shows : Shows c w) (tree : IsTree w.rows) {m
         + used_of ((n, new) ∷ []) = ap used_of fits.adds
         ∙ used_of-append (entries_of (block_at seen j)) ((n, new) ∷ []) in
         absurd (omega (arith, left, over, used, sum))
+
+    -- where it has a place, it doesn't lack room
+    pub has_room : (gone : Option ℕ) (new : List ℕ) (room : DirBlock) (j : ℕ) → IsNewPlace seen n new gone room j
+        → HasNoRoom c move old new gone → ⊥
+    has_room None new room j fits full = somewhere fits full
+    has_room (Some gone) new room j fits none = none

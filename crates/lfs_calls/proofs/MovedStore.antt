@@ -15,7 +15,7 @@ use Rattle.lfs_types.specs.declared.attrs.Kind.TheVariants.{Directory}
 use Rattle.lfs_dirs.proofs.Changes.{AreEntries-middle}
 use Rattle.lfs_dirs.specs.Directory.{AreEntries, IsEntry}
 use Rattle.lfs_dirs.specs.Reading.{entries_of}
-use Rattle.lfs_calls.specs.declared.directory.Room.{Room}
+use Rattle.lfs_calls.specs.declared.directory.DirBlock.{DirBlock}
 use Rattle.lfs_model.specs.World.{Rows, child, IsChild, IsTree}
 use Rattle.lfs_calls.specs.Content.{visible, Shows, ListsRows}
 use Rattle.lfs_calls.specs.Makes.{IsRoom}
@@ -53,7 +53,7 @@ same_files w n row there parent name m =
 -- ---- a block of a directory is written
 
 module _ (c : Content) (d : ℕ) (f : File) (stored : map.get c d ≡ Some f) (directory : f.kind ≡ Directory)
-    (room : Room) where
+    (room : DirBlock) where
   abbrev put_file : File
   put_file = record f { bytes = splice f.bytes room.off room.block }
 
@@ -108,7 +108,7 @@ module _ (c : Content) (d : ℕ) (f : File) (stored : map.get c d ≡ Some f) (d
 
 module _ (c : Content) (w : World) (shows : Shows c w) (tree : IsTree w.rows) (n p : ℕ) (old : List ℕ)
     (hangs : IsChild w.rows p old n)
-    (f : File) (stored : map.get c p ≡ Some f) (directory : f.kind ≡ Directory) (taken : Room) (k : ℕ)
+    (f : File) (stored : map.get c p ≡ Some f) (directory : f.kind ≡ Directory) (taken : DirBlock) (k : ℕ)
     (taking : IsTaking f.bytes old taken k) where
   listing : ListsRows w.rows p f.bytes
   listing = shows.listings p f stored directory
@@ -131,7 +131,7 @@ module _ (c : Content) (w : World) (shows : Shows c w) (tree : IsTree w.rows) (n
 
   module _ (q : ℕ) (name : List ℕ) (free : child w.rows q name ≡ None)
       (g : File) (stored_new : map.get (block_put p taken c) q ≡ Some g) (directory_new : g.kind ≡ Directory)
-      (room : Room) (j : ℕ) (fits : IsRoom g.bytes n name room j) where
+      (room : DirBlock) (j : ℕ) (fits : IsRoom g.bytes n name room j) where
     -- the content after both blocks
     abbrev pub c_after : Content
     c_after = block_put q room (block_put p taken c)

@@ -1,4 +1,8 @@
--- What a cache says of names after changes, and after what is found under a name was entered.
+-- What a cache says of names after changes, and after what is found under a name was entered: `true_entered` for
+-- `enter`, `true_kept`, `true_named`, `true_moved` and `after_changes` for `apply`. A cache says of a name what was
+-- entered last, or, of another name, at most what it said before (`entered_is`). So it stays true of a content in which
+-- each other name has what it had; where two names change the argument is made twice, for the name that was lost and
+-- then for the one that was given.
 use Rattle.std.proofs.Common.{◌≡◌, ℕ, Bool, true, false, cond, List, Option, None, Some, Result, Ok, Err, inl, inr, sym}
 use Rattle.std.proofs.Common.{ap, subst, ◌∙◌, ⊎_elim}
 use Rattle.std.specs.Prelude.{◌⊎◌, OnOk, OnErr, bytes_eq, length, nat_le}

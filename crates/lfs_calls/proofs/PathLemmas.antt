@@ -21,7 +21,7 @@ use Rattle.lfs_model.specs.Rules.{Check, first_failing, judged, attrs_at, reache
 use Rattle.lfs_model.specs.Rules.{list_tests, write_tests, length_tests, chmod_tests, chown_tests, chflags_tests}
 use Rattle.lfs_model.specs.Rules.{rule_table, decide}
 use Rattle.lfs_model.proofs.Deciding.{walk_denied, judged_all, judged_none}
-use Rattle.lfs_calls.specs.declared.not_served.NotServed.TheVariants.{Denied}
+use Rattle.lfs_calls.specs.declared.call_fault.CallFault.TheVariants.{Denied}
 use Rattle.lfs_calls.specs.declared.walking.Reached.{Reached}
 use Rattle.lfs_calls.specs.Calls.{IsCallAt}
 use Rattle.lfs_calls.specs.Content.{visible}

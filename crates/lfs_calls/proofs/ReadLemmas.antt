@@ -1,4 +1,7 @@
--- What the calls that change nothing may be answered.
+-- What the calls that change nothing may be answered: `stat_answer` and `read_answer`, for `stat` and `read`;
+-- PathLemmas takes `passed` and `attrs_is`. The walk leads to the number where the path leads in the tree, and the
+-- stored file there is the row's, of which users see all but a directory's bytes. So a Stat's size is 0 for a directory
+-- and else the number of bytes (`size_shown`), and a file's stored bytes are those that a Read shows.
 use Rattle.std.proofs.Common.{◌≡◌, ℕ, true, false, List, ◌++◌, length, min, Some, Ok, refl, sym, ap, ◌∙◌}
 use Rattle.std.specs.FinMap as map
 use Rattle.lfs_types.specs.Caller.{Caller}

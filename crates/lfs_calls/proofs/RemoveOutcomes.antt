@@ -1,4 +1,6 @@
--- What a call that removes a file, or an empty directory, comes to, by what its kinds have in common.
+-- What a call that removes a file, or an empty directory, comes to, for `removing::remove`. An Unlink and a Rmdir
+-- differ in their last tests alone; what is asked of either here (that it changes files, shows no more than that it is
+-- done, and takes the row away) is a case for each kind, which the code doesn't tell apart.
 use Rattle.std.proofs.Common.{◌≡◌, ℕ, List, None, refl}
 use Rattle.lfs_types.specs.Caller.{Caller}
 use Rattle.lfs_types.specs.StoreStates.{StoreState}

@@ -21,12 +21,12 @@ use Rattle.lfs_calls.specs.Content.{Shows, FitsNowhere}
 use Rattle.lfs_calls.specs.Makes.{IsRoom}
 use Rattle.lfs_calls.specs.Removes.{IsTaking}
 use Rattle.lfs_calls.specs.Outcomes.{FillsDirectory, taken_from}
-use Rattle.lfs_calls.specs.Renames.{ArePlaces, AreSwapped, HasNoRoom, IsMove, IsSwap, Leaves, MovesFirst, SwapsBlocks}
+use Rattle.lfs_calls.specs.Renames.{ArePlaces, HasNoRoom, IsMove, IsSwap, Leaves, MovesFirst}
 use Rattle.lfs_calls.specs.Renames.{SwapsInPlace, WritesBlocks, block_put, name_left}
 use Rattle.lfs_model.proofs.Children.{child-is}
 use Rattle.lfs_calls.proofs.Crowded.{crowded}
 use Rattle.lfs_calls.proofs.Directories.{bytes_listing}
-use Rattle.lfs_calls.proofs.MovedPlaces.{hung, somewhere}
+use Rattle.lfs_calls.proofs.MovedPlaces.{has_room, hung}
 use Rattle.lfs_calls.proofs.MovedNames as names
 use Rattle.lfs_calls.proofs.SwappedRows.{swapped}
 use Rattle.lfs_types.specs.declared.limits.TheConstants.{FILE_BLOCKS}
@@ -66,7 +66,7 @@ module _ {c : Content} {w : World} (shows : Shows c w) (tree : IsTree w.rows)
 
   -- a call that fills its directory finds no room in it
   pub filled : FillsDirectory c w (Rename from to) → (child w.rows q (last to) ≡ None)
-      × HasNoRoom c move (last from) (last to)
+      × HasNoRoom c move (last from) (last to) None
   filled full = (
     ap (λ m. child w.rows m (last to)) (sym is.arrival.object) ∙ full.0,
     subst (λ o. FitsNowhere (bytes_of c q) o (last to)) taken_is
@@ -78,7 +78,7 @@ module _ {c : Content} {w : World} (shows : Shows c w) (tree : IsTree w.rows)
     free_at = ap (λ m. child w.rows m (last to)) is.arrival.object ∙ free
 
     -- where the new name fits nowhere, the call fills its directory
-    pub fills : HasNoRoom c move (last from) (last to) → FillsDirectory c w (Rename from to)
+    pub fills : HasNoRoom c move (last from) (last to) None → FillsDirectory c w (Rename from to)
     fills full = (
       free_at,
       subst (λ o. FitsNowhere (bytes_of c (reached w.rows root (front to))) o (last to)) (sym taken_is)
@@ -86,7 +86,7 @@ module _ {c : Content} {w : World} (shows : Shows c w) (tree : IsTree w.rows)
     )
 
     -- a directory where it fits nowhere has at least 140 names
-    pub crowds : HasNoRoom c move (last from) (last to) → length (last to) ≤ 255
+    pub crowds : HasNoRoom c move (last from) (last to) None → length (last to) ≤ 255
         → (child w.rows (reached w.rows root (front to)) (last to) ≡ None)
         × (FILE_BLOCKS ≤ length (children w.rows (reached w.rows root (front to))))
     crowds full short = (
@@ -123,13 +123,14 @@ module _ {c : Content} {w : World} (shows : Shows c w) (tree : IsTree w.rows)
 
   -- ---- the store, with the row in a place that was free
 
-  module _ {places : Places} (found : ArePlaces c move (last from) (last to) places) where
+  module _ {places : Places} (found : ArePlaces c move (last from) (last to) None places) where
     -- where room was found, the directory isn't full
-    pub not_full : HasNoRoom c move (last from) (last to) → ⊥
-    not_full full = somewhere shows tree leaves found.taking.1 found.room.1 full
+    pub not_full : HasNoRoom c move (last from) (last to) None → ⊥
+    not_full full = has_room shows tree leaves found.taking.1 None (last to) places.room found.room.0
+        found.room.1 full
 
     module _ (free : child w.rows q (last to) ≡ None) (after : Content)
-        (writes : WritesBlocks c after p places.taken q places.room) where
+        (writes : WritesBlocks c after p places.taken q places.room None) where
       -- the store with both blocks shows the world after it
       pub shows_after : (numbers : ℕ) → Shows after (effect numbers w caller (Rename from to))
       shows_after numbers = subst (Shows after) (sym (world_free free numbers))
@@ -157,8 +158,8 @@ module _ {c : Content} {w : World} (shows : Shows c w) (tree : IsTree w.rows)
                   (subst (λ k. IsRoom (bytes_of mid q) k (last to) places.room found.room.0)
                   (sym is.removal.row) found.room.1)),
             );
-            written = subst (λ k. WritesBlocks c after k places.taken dir places.room) (sym is.removal.object)
-                (subst (λ k. WritesBlocks c after p places.taken k places.room) (sym is.arrival.object) writes);
+            written = subst (λ k. WritesBlocks c after k places.taken dir places.room None) (sym is.removal.object)
+                (subst (λ k. WritesBlocks c after p places.taken k places.room None) (sym is.arrival.object) writes);
           }
 
   -- ---- the store, with the row in the place of another
@@ -174,8 +175,8 @@ module _ {c : Content} {w : World} (shows : Shows c w) (tree : IsTree w.rows)
         ∙ ap (λ b. cond b w (with_place (map.get w.rows n) n q (last to) (without_row m w))) (ne_eqb m n apart)
         ∙ ap (λ o. with_place o n q (last to) (without_row m w)) (hung shows tree leaves).there
 
-    module _ {places : Places} (found : AreSwapped c move (last from) (last to) places) (after : Content)
-        (writes : SwapsBlocks c after p places.taken q places.room m) where
+    module _ {places : Places} (found : ArePlaces c move (last from) (last to) (Some m) places)
+        (after : Content) (writes : WritesBlocks c after p places.taken q places.room (Some m)) where
       -- the store with both blocks, and without the other's file, shows the world after it
       pub shows_over : (numbers : ℕ) → Shows after (effect numbers w caller (Rename from to))
       shows_over numbers = subst (Shows after) (sym (world_over numbers))
@@ -195,14 +196,15 @@ module _ {c : Content} {w : World} (shows : Shows c w) (tree : IsTree w.rows)
             );
             room = places.room;
             swaps = (
-              found.swap.0,
+              found.room.0,
               subst (λ k. IsSwap (bytes_of (block_put k places.taken c) dir) (last to)
-                  (reached w.rows root from) places.room found.swap.0) (sym is.removal.object)
-                  (subst (λ k. IsSwap (bytes_of mid k) (last to) (reached w.rows root from) places.room found.swap.0)
+                  (reached w.rows root from) places.room found.room.0) (sym is.removal.object)
+                  (subst (λ k. IsSwap (bytes_of mid k) (last to) (reached w.rows root from) places.room found.room.0)
                   (sym is.arrival.object)
-                  (subst (λ k. IsSwap (bytes_of mid q) (last to) k places.room found.swap.0)
-                  (sym is.removal.row) found.swap.1)),
+                  (subst (λ k. IsSwap (bytes_of mid q) (last to) k places.room found.room.0)
+                  (sym is.removal.row) found.room.1)),
             );
-            written = subst (λ k. SwapsBlocks c after k places.taken dir places.room m) (sym is.removal.object)
-                (subst (λ k. SwapsBlocks c after p places.taken k places.room m) (sym is.arrival.object) writes);
+            written = subst (λ k. WritesBlocks c after k places.taken dir places.room (Some m)) (sym is.removal.object)
+                (subst (λ k. WritesBlocks c after p places.taken k places.room (Some m)) (sym is.arrival.object)
+                writes);
           }

@@ -1,4 +1,6 @@
--- What a Rename may be answered.
+-- What a Rename may be answered: `rename_kept`, `rename_not_arrived` and `to_moving`, for `judge_rename`. The rules ask
+-- three lists of tests one behind the other, of the old name, of the way to the new one, and of the new place; the
+-- first list that isn't met denies, and each is asked only if those before it are met.
 use Rattle.std.proofs.Common.{◌≡◌, ℕ, List, None, Some, ◌∙◌}
 use Rattle.lfs_types.specs.Caller.{Caller}
 use Rattle.lfs_types.specs.Tree.{World, root}

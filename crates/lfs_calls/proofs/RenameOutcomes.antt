@@ -13,8 +13,8 @@ use Rattle.lfs_types.specs.declared.answer.Resource.TheVariants as resources
 use Rattle.lfs_types.specs.Shown.{ServesList}
 use Rattle.lfs_types.specs.declared.request.Request.{Request}
 use Rattle.lfs_types.specs.declared.request.Request.TheVariants.{Rename}
-use Rattle.lfs_calls.specs.declared.not_served.NotServed.{NotServed}
-use Rattle.lfs_calls.specs.declared.not_served.NotServed.TheVariants as reasons
+use Rattle.lfs_calls.specs.declared.call_fault.CallFault.{CallFault}
+use Rattle.lfs_calls.specs.declared.call_fault.CallFault.TheVariants as reasons
 use Rattle.lfs_calls.specs.declared.renaming.Move.{Move}
 use Rattle.lfs_calls.specs.declared.renaming.Target.{Target}
 use Rattle.lfs_calls.specs.declared.renaming.Target.TheVariants as targets
@@ -56,7 +56,7 @@ not_roomless NoSpace h = absurd (cc)
 not_roomless NoMemory h = absurd (cc)
 
 -- what holds where there is no room for a name holds where no store was asked
-unasked_by : {P : Type 0} (s : StoreState) (full : Type 0) (why : NotServed) → IsCauseOf s full why
+unasked_by : {P : Type 0} (s : StoreState) (full : Type 0) (why : CallFault) → IsCauseOf s full why
     → (why ≡ reasons.Refused resources.DirectoryFull → P) → OnUnasked (answered (Err why)) P
 unasked_by s full (reasons.Denied denial) cause p = absurd cause
 unasked_by s full (reasons.Refused resources.NoMemory) cause p = tt
@@ -66,18 +66,18 @@ unasked_by s full (reasons.Refused resources.DirectoryFull) cause p = p refl
 unasked_by s full (reasons.Refused resources.JournalFull) cause p = absurd cause
 
 -- nothing changed, for that a row had its place or found none
-pub placed_none : (s : StoreState) (move : Move) (old new : List ℕ) (t : Target) (why : NotServed) (after : StoreState)
+pub placed_none : (s : StoreState) (move : Move) (old new : List ℕ) (t : Target) (why : CallFault) (after : StoreState)
     → PlacesRow s move old new t (Err why) after
     → (after.content ≡ s.content) × OnUnasked (answered (Err why)) (after ≡ s) × Follows s after
 placed_none s move old new targets.Itself why after h = let no = h.0 in absurd (cc)
 placed_none s move old new targets.Free why after h =
-    (h.err, unasked_by s (HasNoRoom s.content move old new) why h.refused h.roomless, h.follows)
+    (h.err, unasked_by s (HasNoRoom s.content move old new None) why h.refused h.roomless, h.follows)
 placed_none s move old new (targets.Taken there) why after h =
     (h.err, unasked_by s ⊥ why h.refused h.roomless, h.follows)
 
 -- such a call leaves the tree as it was
 pub halted_volume : (s : StoreState) {w : World} → IsVolume s w
-    → (caller : Caller) (request : Request) (why : NotServed) (after : StoreState) → after.content ≡ s.content
+    → (caller : Caller) (request : Request) (why : CallFault) (after : StoreState) → after.content ≡ s.content
     → IsVolume after (after_answer s.shape.numbers w caller request (answered (Err why)))
 halted_volume s {w} v caller request (reasons.Denied denial) after same =
     record { shows = subst (λ c. Shows c w) (sym same) v.shows; tree = v.tree }
@@ -85,12 +85,12 @@ halted_volume s {w} v caller request (reasons.Refused resource) after same =
     record { shows = subst (λ c. Shows c w) (sym same) v.shows; tree = v.tree }
 
 -- and serves no list
-pub not_listed : (why : NotServed) → ServesList (answered (Err why)) → ⊥
+pub not_listed : (why : CallFault) → ServesList (answered (Err why)) → ⊥
 not_listed (reasons.Denied denial) h = h
 not_listed (reasons.Refused resource) h = h
 
 -- nor anything else
-pub nothing_served : (P : Type 0) (why : NotServed) → OnServed (answered (Err why)) P
+pub nothing_served : (P : Type 0) (why : CallFault) → OnServed (answered (Err why)) P
 nothing_served P (reasons.Denied denial) = tt
 nothing_served P (reasons.Refused resource) = tt
 
@@ -124,7 +124,7 @@ module _ (s : StoreState) {w : World} (v : IsVolume s w) (caller : Caller) {from
   -- it stays there
   pub stays_so : child w.rows (reached w.rows root (front to)) (last to) ≡ Some (reached w.rows root from)
       → (t : Target) → move.target ≡ t
-      → (result : Result (Unit {0}) NotServed) (after : StoreState)
+      → (result : Result (Unit {0}) CallFault) (after : StoreState)
       → PlacesRow s move (last from) (last to) t result after → (result ≡ Ok tt) × (after ≡ s)
   stays_so there t e result after h = subst (λ x. PlacesRow s move (last from) (last to) x result after)
       (itself there t e) h
@@ -144,20 +144,20 @@ module _ (s : StoreState) {w : World} (v : IsVolume s w) (caller : Caller) {from
     -- the row goes there
     pub goes_with : (t : Target) → move.target ≡ t → GoesWith s.content w.rows move (last from) (last to) t
     goes_with targets.Itself e = tt
-    goes_with targets.Free e = record { leaves = leaves v.shows v.tree caller is; free = found_by targets.Free e }
+    goes_with targets.Free e =
+        record { leaves = leaves v.shows v.tree caller is; there = found_by targets.Free e; gives_way = tt }
     goes_with (targets.Taken there) e =
         let taken = found_by (targets.Taken there) e in
         let other = (other_is (targets.Taken there) e).0 in
         record {
           leaves = leaves v.shows v.tree caller is;
-          taken = taken;
-          other = other;
-          childless = gives_way there.number taken other;
+          there = taken;
+          gives_way = (other, gives_way there.number taken other);
         }
 
     -- ---- a call that isn't served
 
-    lacks : (full : Type 0) (why : NotServed) → IsCauseOf s full why
+    lacks : (full : Type 0) (why : CallFault) → IsCauseOf s full why
         → (FillsDirectory s.content w (Rename from to) → full)
         → (full → IsOutcome s w caller (Rename from to) (answers.Refused resources.DirectoryFull))
         → IsOutcome s w caller (Rename from to) (answered (Err why))
@@ -171,13 +171,13 @@ module _ (s : StoreState) {w : World} (v : IsVolume s w) (caller : Caller) {from
     lacks full (reasons.Refused resources.JournalFull) cause fills no_room = absurd cause
 
     -- its answer has its cause
-    pub halts_so : length (last to) ≤ 255 → (t : Target) → move.target ≡ t → (why : NotServed) (after : StoreState)
+    pub halts_so : length (last to) ≤ 255 → (t : Target) → move.target ≡ t → (why : CallFault) (after : StoreState)
         → PlacesRow s move (last from) (last to) t (Err why) after
         → IsOutcome s w caller (Rename from to) (answered (Err why))
     halts_so short targets.Itself e why after h = let no = h.0 in absurd (cc)
     halts_so short targets.Free e why after h =
         let free = found_by targets.Free e in
-        lacks (HasNoRoom s.content move (last from) (last to)) why h.refused
+        lacks (HasNoRoom s.content move (last from) (last to) None) why h.refused
         (λ x. (filled v.shows v.tree caller is x).1)
         (λ full. (
           (allowed, ((λ none. none), crowds v.shows v.tree caller is free full short)),

@@ -18,7 +18,7 @@ use Rattle.lfs_types.specs.declared.attrs.Kind.TheVariants.{File as Regular, Dir
 use Rattle.lfs_types.specs.declared.rule.Denial.{Denial}
 use Rattle.lfs_dirs.proofs.Changes.{number_in-nil}
 use Rattle.lfs_dirs.specs.Directory.{Entry, number_in}
-use Rattle.lfs_calls.specs.declared.directory.Room.{Room}
+use Rattle.lfs_calls.specs.declared.directory.DirBlock.{DirBlock}
 use Rattle.lfs_calls.specs.declared.removing.Removal.{Removal}
 use Rattle.lfs_calls.specs.declared.walking.Reached.{Reached}
 use Rattle.lfs_model.specs.World.{Rows, child, children, IsTree}
@@ -174,7 +174,7 @@ module _ (c : Content) (w : World) (shows : Shows c w) (tree : IsTree w.rows) (p
       (λ name. child-none w.rows removal.file.number name (is.childless name)))
 
   -- the store without it shows the world without the row
-  pub row_shows : (after : Content) (room : Room) (k : ℕ) → IsTaking (bytes_of c removal.dir.number) (last path) room k
+  pub row_shows : (after : Content) (room : DirBlock) (k : ℕ) → IsTaking (bytes_of c removal.dir.number) (last path) room k
       → TakesFile c after removal.file.number removal.dir.number room.off room.block
       → Shows after (without_row (reached w.rows root path) w)
   row_shows after room k taking takes = subst (λ m. Shows after (without_row m w)) (sym is.is.row)

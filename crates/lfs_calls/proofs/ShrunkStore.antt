@@ -1,4 +1,8 @@
--- The store after a row was removed shows the tree without that row.
+-- The store after a row was removed shows the tree without that row: `Shows-shrunk`, for TakeLemmas. The store lacks
+-- the removed number, has other bytes at the directory's, and is else as it was; so a file that it has is the
+-- directory's or one of before (`left`). Of a directory users see no bytes, so all files look as before; its bytes list
+-- its rows without the removed one, and in each other directory hangs what hung, as a name in it is not that of the
+-- removed row.
 use Rattle.std.proofs.Common.{◌≡◌, ◌≢◌, ℕ, List, length, None, Some, sym, ap, subst, ◌∙◌, ⊎_elim}
 use Rattle.std.proofs.lemmas.Bool.{cases_eq}
 use Rattle.std.specs.Prelude.{option_map}

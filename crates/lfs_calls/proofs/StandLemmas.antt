@@ -22,8 +22,8 @@ use Rattle.lfs_known.proofs.PutLemmas.{stands_put}
 use Rattle.lfs_calls.specs.Content.{block_at}
 use Rattle.lfs_calls.specs.Makes.{IsRoom, MakesFile}
 use Rattle.lfs_calls.specs.Removes.{IsTaking, TakesFile}
-use Rattle.lfs_calls.specs.Renames.{IsSwap, SwapsBlocks, WritesBlocks, block_put}
-use Rattle.lfs_calls.specs.declared.directory.Room.{Room}
+use Rattle.lfs_calls.specs.Renames.{IsSwap, WritesBlocks, block_put}
+use Rattle.lfs_calls.specs.declared.directory.DirBlock.{DirBlock}
 
 -- ---- names of entries
 
@@ -78,11 +78,11 @@ none_stands n j stands = some_none (number_in n (entries_of (take 512 (drop (512
     stands
 
 -- a block that is put over one of a directory's bytes lists the names of that one, and new ones
-abbrev Names : (List ℕ → Type 0) → ℕ → Room → List ℕ → Type 0
+abbrev Names : (List ℕ → Type 0) → ℕ → DirBlock → List ℕ → Type 0
 Names New k room bytes = (n : List ℕ) → IsSome (number_in n (entries_of room.block))
     → IsSome (number_in n (entries_of (block_at bytes k))) ⊎ New n
 
-module _ (New : List ℕ → Type 0) (k : ℕ) (room : Room) (size : length room.block ≡ 512) (at_k : room.off ≡ 512 * k) where
+module _ (New : List ℕ → Type 0) (k : ℕ) (room : DirBlock) (size : length room.block ≡ 512) (at_k : room.off ≡ 512 * k) where
   -- names stand where they stood, or are new
   stands_in : (bytes : List ℕ) → 512 * k ≤ length bytes → Names New k room bytes → (n : List ℕ) (j : ℕ)
       → StandsAt (splice bytes room.off room.block) n j → StandsAt bytes n j ⊎ (New n × (j ≡ k))
@@ -121,7 +121,7 @@ module _ (New : List ℕ → Type 0) (k : ℕ) (room : Room) (size : length room
 
 -- ---- a name that is made, or taken away
 
-module _ (c after : Content) (number dir : ℕ) (name : List ℕ) (room : Room) (k : ℕ) (f : File)
+module _ (c after : Content) (number dir : ℕ) (name : List ℕ) (room : DirBlock) (k : ℕ) (f : File)
     (stored : map.get c dir ≡ Some f) where
   abbrev bytes : List ℕ
   bytes = bytes_of c dir
@@ -171,7 +171,7 @@ module _ (c after : Content) (number dir : ℕ) (name : List ℕ) (room : Room) 
 
 -- ---- a Rename
 
-module _ (c after : Content) (p q n : ℕ) (taken room : Room) (old new : List ℕ) (kt k : ℕ)
+module _ (c after : Content) (p q n : ℕ) (taken room : DirBlock) (old new : List ℕ) (kt k : ℕ)
     (taking : IsTaking (bytes_of c p) old taken kt) where
   -- where the block is written without the old name, names stand where they stood
   stands_left : (d : ℕ) (x : List ℕ) (j : ℕ) → StandsAt (bytes_of (block_put p taken c) d) x j
@@ -185,7 +185,8 @@ module _ (c after : Content) (p q n : ℕ) (taken room : Room) (old new : List �
       d x j stands)
 
   -- to a place that was free
-  pub stands_moved : IsRoom (bytes_of (block_put p taken c) q) n new room k → WritesBlocks c after p taken q room
+  pub stands_moved : IsRoom (bytes_of (block_put p taken c) q) n new room k
+      → WritesBlocks c after p taken q room None
       → StandsBesides c after q new (room.off / 512)
   stands_moved fits writes d x j stands =
       let mid = block_put p taken c in
@@ -200,7 +201,7 @@ module _ (c after : Content) (p q n : ℕ) (taken room : Room) (old new : List �
 
   -- or in that of another row, which is gone
   pub stands_swapped : (gone : ℕ) → IsSwap (bytes_of (block_put p taken c) q) new n room k
-      → SwapsBlocks c after p taken q room gone → StandsBesides c after q new (room.off / 512)
+      → WritesBlocks c after p taken q room (Some gone) → StandsBesides c after q new (room.off / 512)
   stands_swapped gone swap swaps d x j stands = ⊎_elim
       (λ same. absurd (none_stands x j (subst (λ o. StandsAt (bytes_of_file o) x j)
       (swaps d ∙ ap (map.get both_removed) same ∙ get-remove_same both gone) stands)))

@@ -1,4 +1,7 @@
--- What hangs where after a row got the place of another, which was removed.
+-- What hangs where after a row got the place of another, which was removed: `child-swapped`, `child-swapped_other`,
+-- `swapped_gone` and `swapped_files`, for the store after a Rename (SwappedStore, MovedNames). Without the replaced row
+-- its name is free, so the moved row hangs there alone. Elsewhere hangs what hangs without the moved row: for that the
+-- two removals are taken in the other order (`removed_both`), and the replaced row's name is left out.
 use Rattle.std.proofs.Common.{◌≡◌, ◌≢◌, ℕ, List, None, Some, sym, ap, ◌∙◌, ⊎_elim}
 use Rattle.std.proofs.lemmas.Bool.{cases_eq}
 use Rattle.std.specs.Prelude.{option_map}

@@ -11,7 +11,7 @@ use Rattle.lfs_types.specs.Changes.{IsLength}
 use Rattle.lfs_types.specs.Splicing.{splice}
 use Rattle.lfs_types.specs.Tree.{File, Row, World, Content}
 use Rattle.lfs_types.specs.declared.attrs.Kind.TheVariants.{Directory}
-use Rattle.lfs_calls.specs.declared.directory.Room.{Room}
+use Rattle.lfs_calls.specs.declared.directory.DirBlock.{DirBlock}
 use Rattle.lfs_model.specs.World.{Rows, IsChild, IsTree}
 use Rattle.lfs_calls.specs.Content.{visible, Shows, ListsRows}
 use Rattle.lfs_calls.specs.Removes.{IsTaking}
@@ -26,12 +26,12 @@ use Rattle.lfs_types.proofs.Maps.{get-remove_same, get-remove_other}
 
 module _ (c : Content) (w : World) (shows : Shows c w) (tree : IsTree w.rows) (n p : ℕ) (old : List ℕ)
     (hangs : IsChild w.rows p old n)
-    (f : File) (stored : map.get c p ≡ Some f) (directory : f.kind ≡ Directory) (taken : Room) (k : ℕ)
+    (f : File) (stored : map.get c p ≡ Some f) (directory : f.kind ≡ Directory) (taken : DirBlock) (k : ℕ)
     (taking : IsTaking f.bytes old taken k)
     (q : ℕ) (name : List ℕ) (m : ℕ) (there : IsChild w.rows q name m) (apart : m ≢ n) (above : 0 < n)
     (small : n < 2 ^ 32)
     (g : File) (stored_new : map.get (block_put p taken c) q ≡ Some g) (directory_new : g.kind ≡ Directory)
-    (room : Room) (j : ℕ) (swap : IsSwap g.bytes name n room j) where
+    (room : DirBlock) (j : ℕ) (swap : IsSwap g.bytes name n room j) where
   -- the content after both blocks
   abbrev pub c_after : Content
   c_after = block_put q room (block_put p taken c)

@@ -15,7 +15,7 @@ use Rattle.lfs_types.specs.Tree.{File, Row, World, Content}
 use Rattle.lfs_types.specs.declared.attrs.Kind.TheVariants.{Directory}
 use Rattle.lfs_types.specs.declared.store.Change.TheVariants.{Put, Remove}
 use Rattle.lfs_dirs.specs.Directory.{number_in}
-use Rattle.lfs_calls.specs.declared.directory.Room.{Room}
+use Rattle.lfs_calls.specs.declared.directory.DirBlock.{DirBlock}
 use Rattle.lfs_calls.specs.declared.removing.Removal.{Removal}
 use Rattle.lfs_model.specs.World.{IsChild, IsTree, child}
 use Rattle.lfs_model.specs.Effects.{without_row}
@@ -61,7 +61,7 @@ module _ (c : Content) (w : World) (shows : Shows c w) (tree : IsTree w.rows) (r
   unlike : dir ≢ number
   unlike = not_in_itself w.rows tree dir name number hung
 
-  module _ (room : Room) (k : ℕ) (taking : IsTaking (bytes_of c dir) name room k) where
+  module _ (room : DirBlock) (k : ℕ) (taking : IsTaking (bytes_of c dir) name room k) where
     at_file : IsTaking f.file.bytes name room k
     at_file = subst (λ bs. IsTaking bs name room k)
         (file_bytes shows dir removal.dir.attrs is.shown_dir is.directory) taking

@@ -1,4 +1,7 @@
--- What users see of stored files.
+-- What users see of stored files: `visible-regular`, `visible-directory`, and `stored_of` and `shown_of` from a row to
+-- its file and back. Users see a file as it is stored but none of a directory's bytes, so a directory with other bytes
+-- looks the same. A store shows a world where at each number what is seen of the file is the row's; so where one of the
+-- two is there the other is, and a number without a file has no row (`unused_of`).
 use Rattle.std.proofs.Common.{◌≡◌, ℕ, List, [], Option, None, Some, refl, sym, ap, subst, ◌∙◌}
 use Rattle.std.specs.Prelude.{option_map}
 use Rattle.std.specs.FinMap as map

@@ -1,15 +1,18 @@
--- A directory's bytes with a block read in place of a stored one.
+-- A directory's bytes with a block read in place of a stored one: `stood-here`, `stood-other` and `length-stood`, and
+-- the same of a block that may be given (`with_block-here`, `with_block-other`), for `seen_block` and the search of
+-- places. The block has 512 bytes and stands at a multiple of 512 within the directory, so each other block of it ends
+-- before or begins behind, and is read as it is stored.
 use Rattle.std.proofs.Common.{◌≡◌, ◌≢◌, ℕ, ◌%◌, ◌<◌, ◌≤◌, List, length, take, drop, Option, None, Some, sym, ap, subst}
 use Rattle.std.proofs.Common.{◌∙◌, ⊎_elim, arith, nat_lt}
 use Rattle.std.specs.Prelude.{IfSome}
 use Rattle.std.specs.Borrow.{Bor}
 use Rattle.std.proofs.lemmas.Bool.{cases_Bool, ltb-true, ltb-false}
 use Rattle.lfs_types.specs.Splicing.{splice}
-use Rattle.lfs_calls.specs.declared.directory.Room.{Room}
+use Rattle.lfs_calls.specs.declared.directory.DirBlock.{DirBlock}
 use Rattle.lfs_calls.specs.Makes.{StandsIn, with_block}
 use Rattle.lfs_types.proofs.Pieces.{put_over, splice-put_over, piece-before, piece-here, piece-behind, length-put_over}
 
-module _ (bytes : List ℕ) (room : Room) (stands : StandsIn bytes room) where
+module _ (bytes : List ℕ) (room : DirBlock) (stands : StandsIn bytes room) where
   within : room.off ≤ length bytes
   within = omega (arith, stands.within)
 
@@ -38,7 +41,7 @@ module _ (bytes : List ℕ) (room : Room) (stands : StandsIn bytes room) where
       ∙ omega (arith, stands.aligned, stands.size, stands.within)
 
 -- the directory keeps its size
-pub length-with_block : (bytes : List ℕ) (taken : Option (Bor Room)) (size : ℕ)
+pub length-with_block : (bytes : List ℕ) (taken : Option (Bor DirBlock)) (size : ℕ)
     → IfSome taken (λ room. StandsIn bytes room.now) → size ≡ length bytes → size % 512 ≡ 0
     → length (with_block bytes taken) ≡ size
 length-with_block bytes None size stands same whole = sym same
@@ -46,10 +49,10 @@ length-with_block bytes (Some room) size stands same whole =
     length-stood bytes room.now stands (ap (λ n. n % 512) (sym same) ∙ whole) ∙ sym same
 
 -- the blocks where one is given
-module _ (bytes : List ℕ) (taken : Option (Bor Room)) (room : Bor Room) (is : taken ≡ Some room)
+module _ (bytes : List ℕ) (taken : Option (Bor DirBlock)) (room : Bor DirBlock) (is : taken ≡ Some room)
     (stands : IfSome taken (λ room. StandsIn bytes room.now)) where
   there : StandsIn bytes room.now
-  there = subst (λ o. IfSome o (λ (room : Bor Room). StandsIn bytes room.now)) is stands
+  there = subst (λ o. IfSome o (λ (room : Bor DirBlock). StandsIn bytes room.now)) is stands
 
   -- where it stands, it is read
   pub with_block-here : (off : ℕ) → room.now.off ≡ off → room.now.block ≡ take 512 (drop off (with_block bytes taken))

@@ -16,7 +16,7 @@ use Rattle.lfs_types.specs.declared.store.Reserve.{Reserve}
 use Rattle.lfs_types.specs.declared.store.StoreRefusal.{StoreRefusal}
 use Rattle.lfs_types.specs.declared.store.StoreRefusal.TheVariants.{NoSpace, NoMemory}
 use Rattle.lfs_model.specs.Effects.{effect}
-use Rattle.lfs_calls.specs.declared.not_served.NotServed.{NotServed}
+use Rattle.lfs_calls.specs.declared.call_fault.CallFault.{CallFault}
 use Rattle.lfs_calls.specs.Calls.{answered}
 use Rattle.lfs_calls.specs.Content.{Shows}
 use Rattle.lfs_calls.specs.Volumes.{InWorld}
@@ -50,7 +50,7 @@ OnAsked (Refused resources.DirectoryFull) P = Unit {0}
 OnAsked (Refused resources.JournalFull) P = Unit {0}
 
 -- so where a row was to be put in its place
-abbrev pub OnPlaced : Result (Unit {0}) NotServed
+abbrev pub OnPlaced : Result (Unit {0}) CallFault
     → (Result (Unit {0}) StoreRefusal → Type 0) → Type 0
 OnPlaced (Ok placed) P = P (Ok placed)
 OnPlaced (Err why) P = OnAsked (answered (Err why)) P

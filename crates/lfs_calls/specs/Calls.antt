@@ -15,8 +15,8 @@ use Rattle.lfs_types.specs.declared.request.Request.TheVariants.{Stat, Read, Lis
 use Rattle.lfs_types.specs.declared.store.StoreRefusal.{StoreRefusal}
 use Rattle.lfs_types.specs.declared.store.StoreRefusal.TheVariants.{NoSpace, NoMemory}
 use Rattle.lfs_model.specs.Steps.{after_answer}
-use Rattle.lfs_calls.specs.declared.not_served.NotServed.{NotServed}
-use Rattle.lfs_calls.specs.declared.not_served.NotServed.TheVariants.{Denied, Refused}
+use Rattle.lfs_calls.specs.declared.call_fault.CallFault.{CallFault}
+use Rattle.lfs_calls.specs.declared.call_fault.CallFault.TheVariants.{Denied, Refused}
 use Rattle.lfs_calls.specs.Entries.{LeavesEntries, OnServed}
 use Rattle.lfs_calls.specs.Outcomes.{IsOutcome}
 use Rattle.lfs_calls.specs.Volumes.{InWorld, IsVolume}
@@ -27,7 +27,7 @@ resource_of NoSpace = resources.NoSpace
 resource_of NoMemory = resources.NoMemory
 
 -- the answer to a call that came to this
-abbrev pub answered : Result Served NotServed → Answer
+abbrev pub answered : Result Served CallFault → Answer
 answered (Ok shown) = answers.Served shown
 answered (Err (Denied denial)) = answers.Denied denial
 answered (Err (Refused resource)) = answers.Refused resource
@@ -65,7 +65,7 @@ OnUnasked (answers.Refused resources.JournalFull) P = P
 -- or lists changes no content, one that looks, that a rule denies or that wants a number or room for a name leaves the
 -- whole state as it was, and the state that is left is a later one (`Follows`).
 pub record IsCallAt (level : Level) (old new : StoreState) (caller : Caller) (request : Request)
-    (result : Result Served NotServed) : Type 0 where
+    (result : Result Served CallFault) : Type 0 where
   pub outcome : InWorld old (λ w. w.level ≡ level
       → IsOutcome old w caller request (answered result))
   pub leaves : InWorld old (λ w. IsVolume new
@@ -79,6 +79,6 @@ pub record IsCallAt (level : Level) (old new : StoreState) (caller : Caller) (re
   pub follows : Follows old new
 
 -- so at any securelevel
-abbrev pub IsCall : StoreState → StoreState → Caller → Request → Result Served NotServed → Type 0
+abbrev pub IsCall : StoreState → StoreState → Caller → Request → Result Served CallFault → Type 0
 IsCall old new caller request result = (level : Level)
     → IsCallAt level old new caller request result

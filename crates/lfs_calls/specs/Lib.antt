@@ -3,7 +3,9 @@ pub mod Asked
 pub mod Attributes
 pub mod Calls
 pub mod Content
+pub mod DirBlocks
 pub mod Entries
+pub mod Levels
 pub mod Makes
 pub mod Names
 pub mod Outcomes

@@ -16,7 +16,7 @@ use Rattle.lfs_types.specs.declared.request.Request.{Request}
 use Rattle.lfs_types.specs.declared.request.Request.TheVariants.{Create, Mkdir}
 use Rattle.lfs_dirs.specs.Directory.{IsDirectoryBlock, number_in, used_of}
 use Rattle.lfs_dirs.specs.Reading.{entries_of}
-use Rattle.lfs_calls.specs.declared.directory.Room.{Room}
+use Rattle.lfs_calls.specs.declared.directory.DirBlock.{DirBlock}
 use Rattle.lfs_calls.specs.declared.walking.Reached.{Reached}
 use Rattle.lfs_model.specs.World.{Rows, child}
 use Rattle.lfs_model.specs.Rules.{front, last, reached}
@@ -37,7 +37,7 @@ request_for Regular path mode = Create path mode
 request_for Directory path mode = Mkdir path mode
 
 -- a block of a directory's bytes, or one at their end, with an entry more; the name fits in none before it
-pub record IsRoom (bytes : List ℕ) (number : ℕ) (name : List ℕ) (room : Room) (k : ℕ) : Type 0 where
+pub record IsRoom (bytes : List ℕ) (number : ℕ) (name : List ℕ) (room : DirBlock) (k : ℕ) : Type 0 where
   pub off : room.off ≡ BLOCK_SIZE * k
   pub within : k ≤ length bytes / BLOCK_SIZE
   pub fits : k < FILE_BLOCKS
@@ -47,26 +47,26 @@ pub record IsRoom (bytes : List ℕ) (number : ℕ) (name : List ℕ) (room : Ro
       < used_of (entries_of (block_at bytes j)) + 5 + length name
 
 -- a block may be read in place of one of a directory's bytes
-pub record StandsIn (bytes : List ℕ) (room : Room) : Type 0 where
+pub record StandsIn (bytes : List ℕ) (room : DirBlock) : Type 0 where
   pub aligned : room.off % BLOCK_SIZE ≡ 0
   pub within : room.off < length bytes
   pub size : length room.block ≡ BLOCK_SIZE
 
 -- a block that stands before that of an index, with an entry more
-pub record IsRoomIn (seen : Room) (first number : ℕ) (name : List ℕ) (room : Room) : Type 0 where
+pub record IsRoomIn (seen : DirBlock) (first number : ℕ) (name : List ℕ) (room : DirBlock) : Type 0 where
   pub off : room.off ≡ seen.off
   pub before : seen.off / BLOCK_SIZE < first
   pub block : IsDirectoryBlock room.block (entries_of room.block)
   pub adds : entries_of room.block ≡ entries_of seen.block ++ (number, name) ∷ []
 
 -- a directory's bytes, with a block read in place of the stored one, if one is given
-abbrev pub with_block : List ℕ → Option (Bor Room) → List ℕ
+abbrev pub with_block : List ℕ → Option (Bor DirBlock) → List ℕ
 with_block bytes None = bytes
 with_block bytes (Some room) = splice bytes room.now.off room.now.block
 
 -- a directory of this size, in one of whose blocks another may be read, may get a name that it doesn't list, for a
 -- number
-pub record CanEnter (c : Content) (dir size : ℕ) (taken : Option (Bor Room)) (name : List ℕ)
+pub record CanEnter (c : Content) (dir size : ℕ) (taken : Option (Bor DirBlock)) (name : List ℕ)
     (number : ℕ) : Type 0 where
   pub stored : HasBlocks c dir size
   pub bounded : size ≤ FILE_BYTES
@@ -76,7 +76,7 @@ pub record CanEnter (c : Content) (dir size : ℕ) (taken : Option (Bor Room)) (
   pub free : number_in name (all_entries (with_block (bytes_of c dir) taken)) ≡ None
 
 -- a block of a directory's bytes, or one at their end
-pub record IsBlockOf (c : Content) (dir : ℕ) (room : Room) : Type 0 where
+pub record IsBlockOf (c : Content) (dir : ℕ) (room : DirBlock) : Type 0 where
   pub directory : IsSomeAnd (map.get c dir)
       (λ f. (f.kind ≡ Directory) × (length f.bytes % BLOCK_SIZE ≡ 0) × (length f.bytes ≤ FILE_BYTES)
       × (room.off ≤ length f.bytes))
@@ -85,7 +85,7 @@ pub record IsBlockOf (c : Content) (dir : ℕ) (room : Room) : Type 0 where
   pub size : length room.block ≡ BLOCK_SIZE
 
 -- a file may be made under a number, and a block be written that lists it in a directory
-pub record CanMake (s : StoreState) (number dir : ℕ) (room : Room) : Type 0 where
+pub record CanMake (s : StoreState) (number dir : ℕ) (room : DirBlock) : Type 0 where
   pub above : 4 ≤ number
   pub within : number < s.shape.numbers
   pub unused : map.get s.content number ≡ None
@@ -103,7 +103,7 @@ pub record MakesFile (old new : Content) (number : ℕ) (file : File) (dir : ℕ
 -- end, and all other blocks are what they were.
 abbrev pub ListsFirst : List ℕ → List ℕ → List ℕ → Type 0
 ListsFirst old new name =
-    (number : ℕ) × (room : Room) × (k : ℕ)
+    (number : ℕ) × (room : DirBlock) × (k : ℕ)
     × (IsRoom old number name room k × (new ≡ splice old room.off room.block))
 
 -- the directory of a new path's last name lists it so, and all other directories keep their bytes

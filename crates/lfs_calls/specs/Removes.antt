@@ -14,7 +14,7 @@ use Rattle.lfs_types.specs.declared.request.Request.{Request}
 use Rattle.lfs_types.specs.declared.request.Request.TheVariants.{Unlink, Rmdir}
 use Rattle.lfs_dirs.specs.Directory.{IsDirectoryBlock, number_in, without}
 use Rattle.lfs_dirs.specs.Reading.{entries_of}
-use Rattle.lfs_calls.specs.declared.directory.Room.{Room}
+use Rattle.lfs_calls.specs.declared.directory.DirBlock.{DirBlock}
 use Rattle.lfs_calls.specs.declared.removing.Removal.{Removal}
 use Rattle.lfs_model.specs.World.{Rows, child}
 use Rattle.lfs_model.specs.Rules.{Check, front, last, reached, rmdir_tests, unlink_tests}
@@ -66,7 +66,7 @@ pub record ListsName (c : Content) (dir size : ℕ) (name : List ℕ) : Type 0 w
   pub listed : IsSome (number_in name (all_entries (bytes_of c dir)))
 
 -- the block of a directory's bytes that lists a name, without it
-pub record IsTaking (bytes : List ℕ) (name : List ℕ) (room : Room) (k : ℕ) : Type 0 where
+pub record IsTaking (bytes : List ℕ) (name : List ℕ) (room : DirBlock) (k : ℕ) : Type 0 where
   pub off : room.off ≡ BLOCK_SIZE * k
   pub within : k < length bytes / BLOCK_SIZE
   pub listed : IsSome (number_in name (entries_of (block_at bytes k)))
@@ -83,13 +83,13 @@ pub record TakesFile (old new : Content) (number dir off : ℕ) (block : List �
 -- the content after a row was taken away: the block that lists its name was written without it, and its file removed
 abbrev pub TakesRow : Content → Content → Removal → List ℕ → Type 0
 TakesRow old new removal name =
-    (room : Room) × (k : ℕ) × (IsTaking (bytes_of old removal.dir.number) name room k
+    (room : DirBlock) × (k : ℕ) × (IsTaking (bytes_of old removal.dir.number) name room k
     × TakesFile old new removal.file.number removal.dir.number room.off room.block)
 
 -- A directory's bytes list a name no more: the block that listed it was written without it, closed up, and all other
 -- blocks, and how many there are, are what they were.
 abbrev pub ListsNoMore : List ℕ → List ℕ → List ℕ → Type 0
-ListsNoMore old new name = (room : Room) × (k : ℕ)
+ListsNoMore old new name = (room : DirBlock) × (k : ℕ)
     × (IsTaking old name room k × (new ≡ splice old room.off room.block))
 
 -- the directory of a path's last name lists it no more, and all other directories keep their bytes

@@ -7,8 +7,8 @@ ghost use Rattle.lfs_model.specs.Rules.{Judges, arriving, placing_tests};
 ghost use Rattle.lfs_calls.specs.Arrivals.{IsArrival, IsThere};
 ghost use Rattle.lfs_calls.specs.Volumes.{HasWorld, InWorld};
 
+use crate::cached_store::CachedStore;
 use crate::directory::{is_empty_directory, look_up};
-use crate::tree::Tree;
 use crate::walking::{Reached, component, reach};
 use lfs_checks::asking::ask;
 use lfs_checks::names::{may_enter, may_remove, may_replace, may_search};
@@ -29,7 +29,7 @@ pub(crate) struct Arrival {
 
 /// The directory of a row's new path, and what has the name there, or the first rule that fails on the way.
 pub(crate) fn judge_arrival<F: FileStore>(
-    store: &mut Tree<F>,
+    store: &mut CachedStore<F>,
     cred: &Cred,
     names: &[Name],
 ) -> Result<Arrival, Denial>
@@ -49,10 +49,10 @@ pub(crate) fn judge_arrival<F: FileStore>(
     Ok(Arrival { dir, there })
 }
 
-/// What has the new name, and may be replaced by a moved row, or the first rule that fails, of the directory, which stands
-/// at component `at`, and of what has the name. Only a directory is searched for names.
+/// What has the new name, and may be replaced by a moved row, or the first rule that fails, of the directory, which
+/// stands at component `at`, and of what has the name. Only a directory is searched for names.
 pub(crate) fn judge_there<F: FileStore>(
-    store: &mut Tree<F>,
+    store: &mut CachedStore<F>,
     cred: &Cred,
     arrival: &Arrival,
     moved: &Reached,

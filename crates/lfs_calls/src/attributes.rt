@@ -7,8 +7,8 @@ ghost use Rattle.lfs_calls.specs.Attributes.{SetsAttrs};
 ghost use Rattle.lfs_calls.specs.Calls.{ChangesTo, IsCall, IsCallAt, answered};
 ghost use Rattle.lfs_calls.specs.Volumes.{HasWorld};
 
-use crate::not_served::NotServed;
-use crate::tree::Tree;
+use crate::cached_store::CachedStore;
+use crate::call_fault::CallFault;
 use crate::walking::{Reached, depth, find};
 use lfs_checks::attributes::{may_chflags, may_chmod, may_chown, mode_after};
 use lfs_types::answer::Served;
@@ -23,11 +23,11 @@ use lfs_types::store::{Change, FileStore, Reserve, StoreRefusal};
 
 /// Sets the mode.
 pub fn chmod<F: FileStore>(
-    store: &mut Tree<F>,
+    store: &mut CachedStore<F>,
     cred: &Cred,
     path: &Path,
     mode: Mode,
-) -> Result<Served, NotServed>
+) -> Result<Served, CallFault>
     requires { HasWorld (F.state store.old) }
     ensures call { IsCall (F.state store.old) (F.state store.new) cred.now
         (Request.Chmod path.now mode)
@@ -48,12 +48,12 @@ pub fn chmod<F: FileStore>(
 
 /// Sets the owner and the group; a caller who is not the superuser clears the set-id bits.
 pub fn chown<F: FileStore>(
-    store: &mut Tree<F>,
+    store: &mut CachedStore<F>,
     cred: &Cred,
     path: &Path,
     uid: u32,
     gid: u32,
-) -> Result<Served, NotServed>
+) -> Result<Served, CallFault>
     requires { HasWorld (F.state store.old) }
     ensures call { IsCall (F.state store.old) (F.state store.new) cred.now
         (Request.Chown path.now uid gid)
@@ -76,12 +76,12 @@ pub fn chown<F: FileStore>(
 
 /// Sets the flags, at this securelevel.
 pub fn chflags<F: FileStore>(
-    store: &mut Tree<F>,
+    store: &mut CachedStore<F>,
     cred: &Cred,
     path: &Path,
     level: Level,
     flags: FileFlags,
-) -> Result<Served, NotServed>
+) -> Result<Served, CallFault>
     requires { HasWorld (F.state store.old) }
     ensures call { IsCallAt level (F.state store.old) (F.state store.new) cred.now
         (Request.Chflags path.now flags) result }
@@ -98,7 +98,7 @@ pub fn chflags<F: FileStore>(
 
 /// Gives a file these attributes, of its kind; its bytes stay.
 fn set_attrs<F: FileStore>(
-    store: &mut Tree<F>,
+    store: &mut CachedStore<F>,
     by: Reserve,
     number: u32,
     attrs: Attrs,

@@ -4,12 +4,12 @@ ghost use Rattle.std.specs.Prelude.{◌≡◌, ◌≤◌, length, IfErr, IfOk, O
 ghost use Rattle.lfs_types.specs.Cleaned.{IsGainFault, IsListingFault, IsMarkingFault, IsReclaimFault, ifile_size, with_clean_segment};
 ghost use Rattle.lfs_types.specs.StoreStates.{Follows};
 
-use crate::tree::Tree;
+use crate::cached_store::CachedStore;
 use lfs_types::cleaned::CleanedStore;
 use lfs_types::cleaner::{BlockInfo, CleanFault, InfoList, MarkList};
 use std::alloc::AllocError;
 
-impl<F: CleanedStore> Tree<F> {
+impl<F: CleanedStore> CachedStore<F> {
     /// The bytes of the ifile.
     pub fn ifile_bytes(&self) -> Result<Vec<u8>, AllocError>
         ensures given { IfOk result (λ bytes. F.cleaner.gives_ifile self.now bytes.items) }

@@ -11,8 +11,8 @@ ghost use Rattle.lfs_calls.specs.Calls.{ChangesTo, IsCall, answered};
 ghost use Rattle.lfs_calls.specs.Volumes.{HasWorld};
 ghost use Rattle.lfs_calls.specs.Writes.{ChangesBytes};
 
-use crate::not_served::NotServed;
-use crate::tree::Tree;
+use crate::cached_store::CachedStore;
+use crate::call_fault::CallFault;
 use crate::walking::{Reached, depth, find};
 use lfs_checks::attributes::mode_after;
 use lfs_checks::bytes::may_set_length;
@@ -25,11 +25,11 @@ use lfs_types::store::{Change, FileStore, Reserve, StoreRefusal};
 
 /// Cuts a file, or adds zeros to it.
 pub fn set_length<F: FileStore>(
-    store: &mut Tree<F>,
+    store: &mut CachedStore<F>,
     cred: &Cred,
     path: &Path,
     len: u64,
-) -> Result<Served, NotServed>
+) -> Result<Served, CallFault>
     requires { HasWorld (F.state store.old) }
     ensures call { IsCall (F.state store.old) (F.state store.new) cred.now
         (Request.SetLength path.now len)
@@ -45,7 +45,7 @@ pub fn set_length<F: FileStore>(
 
 /// Gives a file so many bytes, as it may have; a caller who isn't the superuser clears its set-id bits.
 fn cut<F: FileStore>(
-    store: &mut Tree<F>,
+    store: &mut CachedStore<F>,
     cred: &Cred,
     file: &Reached,
     len: u64,

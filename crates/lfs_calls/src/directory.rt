@@ -10,10 +10,11 @@ ghost use Rattle.lfs_dirs.specs.Directory.{number_in, IsDirectoryBlock, used_of}
 ghost use Rattle.lfs_dirs.specs.Reading.{entries_of};
 ghost use Rattle.lfs_known.specs.Full.{IsFullBefore};
 ghost use Rattle.lfs_calls.specs.Content.{HasBlocks, IsDirectoryAt, all_entries, FitsNowhere, AreBlocks, block_at};
+ghost use Rattle.lfs_calls.specs.DirBlocks.{IsNext, IsNextOf, PassesOver};
 ghost use Rattle.lfs_calls.specs.Makes.{CanEnter, IsRoom, IsRoomIn, StandsIn, with_block};
 ghost use Rattle.lfs_calls.specs.Removes.{IsTaking, ListsName};
 
-use crate::tree::Tree;
+use crate::cached_store::CachedStore;
 use lfs_dirs::{added, entries, removed};
 use lfs_known::Hint;
 use lfs_types::block::{BLOCK_SIZE, Block};
@@ -25,17 +26,89 @@ use std::alloc::{AllocError, Global};
 /// How many bytes a directory has at least whose names are entered into a table when one is searched for.
 const LARGE_DIRECTORY: u64 = 16 * BLOCK_SIZE as u64;
 
-/// A block of a directory with an entry more or less than the stored one, and where it goes.
+/// A block of a directory, as it is stored or with an entry more or less, and where it begins.
 #[derive(Clone, Copy)]
-pub(crate) struct Room {
+pub(crate) struct DirBlock {
     /// Where the block begins in the directory's bytes.
     pub(crate) off: u64,
     /// The block.
     pub(crate) block: Block,
 }
 
+impl DirBlock {
+    /// Which of the directory's blocks it is, counted from 0.
+    fn index(&self) -> u64
+        ensures { result ≡ self.now.off / BLOCK_SIZE }
+    {
+        self.off / BLOCK_SIZE as u64
+    }
+}
+
+/// The blocks of a directory, one after the other, each read when it is asked for.
+#[derive(Drop)]
+struct DirBlocks {
+    /// The directory.
+    dir: u32,
+    /// How many bytes it has.
+    size: u64,
+    /// The index of the block that comes next.
+    next: u64,
+}
+
+impl DirBlocks {
+    /// The blocks of a directory of this size.
+    fn new(dir: u32, size: u64) -> DirBlocks
+        ensures { result ≡ record { dir = dir; size = size; next = 0 } }
+    {
+        DirBlocks { dir, size, next: 0 }
+    }
+
+    /// The next block, if one is left.
+    fn next<F: FileStore>(&mut self, store: &mut CachedStore<F>) -> Option<DirBlock>
+        requires { HasBlocks (F.state store.old).content self.old.dir self.old.size }
+        ensures next { MatchOption result
+            ((self.old.size / BLOCK_SIZE ≤ self.old.next) × (self.new ≡ self.old))
+            (λ stored. IsNext (bytes_of (F.state store.old).content self.old.dir)
+            self.old stored self.new) }
+        ensures state { F.state store.new ≡ F.state store.old }
+    {
+        let block_size = BLOCK_SIZE as u64;
+        if self.next >= self.size / block_size {
+            return None;
+        }
+        let off = block_size * self.next;
+        self.next += 1;
+        let block = read_block(store, self.dir, off);
+        Some(DirBlock { off, block })
+    }
+
+    /// The next block in which the directory may list a name, if one is left. Those before it aren't read.
+    fn next_of<F: FileStore>(&mut self, store: &mut CachedStore<F>, name: &Name) -> Option<DirBlock>
+        requires { HasBlocks (F.state store.old).content self.old.dir self.old.size }
+        ensures next { MatchOption result
+            (PassesOver name.now (bytes_of (F.state store.old).content self.old.dir)
+            self.old.next (self.old.size / BLOCK_SIZE))
+            (λ stored. (k : ℕ)
+            × IsNextOf name.now (bytes_of (F.state store.old).content self.old.dir)
+            self.old k stored self.new) }
+        ensures state { F.state store.new ≡ F.state store.old }
+    {
+        self.next = store.next_block(self.dir, name, self.next);
+        self.next(store)
+    }
+}
+
+/// An entry that a directory is to list.
+#[derive(Clone, Copy)]
+pub(crate) struct NewEntry<'a> {
+    /// Its name.
+    pub(crate) name: &'a Name,
+    /// The number that the name leads to.
+    pub(crate) number: u32,
+}
+
 /// The block of a file that begins at byte `off`.
-pub(crate) fn read_block<F: FileStore>(store: &mut Tree<F>, ino: u32, off: u64) -> Block
+pub(crate) fn read_block<F: FileStore>(store: &mut CachedStore<F>, ino: u32, off: u64) -> Block
     requires used { IsSome (get (F.state store.old).content ino) }
     requires whole { off + BLOCK_SIZE ≤ length (bytes_of (F.state store.old).content ino) }
     ensures block { result ≡ take BLOCK_SIZE (drop off (bytes_of (F.state store.old).content ino)) }
@@ -48,7 +121,12 @@ pub(crate) fn read_block<F: FileStore>(store: &mut Tree<F>, ino: u32, off: u64) 
 
 /// The number that a directory of this size lists under a name: what is known of it, else what its blocks have.
 #[inline(always)]
-pub fn look_up<F: FileStore>(store: &mut Tree<F>, dir: u32, size: u64, name: &Name) -> Option<u32>
+pub fn look_up<F: FileStore>(
+    store: &mut CachedStore<F>,
+    dir: u32,
+    size: u64,
+    name: &Name,
+) -> Option<u32>
     requires stored { HasBlocks (F.state store.old).content dir size }
     requires directory { IsDirectoryAt (F.state store.old).content dir }
     ensures found { result ≡ number_in name.now (all_entries
@@ -63,31 +141,28 @@ pub fn look_up<F: FileStore>(store: &mut Tree<F>, dir: u32, size: u64, name: &Na
     found
 }
 
-/// The number that a directory of this size lists under a name, by its blocks. It stands apart, so that a walk along known
-/// names is short.
+/// The number that a directory of this size lists under a name, by its blocks. It stands apart, so that a walk along
+/// known names is short.
 #[inline(never)]
-fn search<F: FileStore>(store: &mut Tree<F>, dir: u32, size: u64, name: &Name) -> Option<u32>
+fn search<F: FileStore>(store: &mut CachedStore<F>, dir: u32, size: u64, name: &Name) -> Option<u32>
     requires { HasBlocks (F.state store.old).content dir size }
     ensures found { result ≡ number_in name.now (all_entries
         (bytes_of (F.state store.old).content dir)) }
     ensures state { F.state store.new ≡ F.state store.old }
 {
     learn_names(store, dir, size);
-    let block_size = BLOCK_SIZE as u64;
-    let mut k = store.next_block(dir, name, 0);
-    while k < size / block_size {
-        let block = read_block(store, dir, block_size * k);
-        if let Some(number) = lfs_dirs::find(&block, name) {
+    let mut blocks = DirBlocks::new(dir, size);
+    while let Some(stored) = blocks.next_of(store, name) {
+        if let Some(number) = lfs_dirs::find(&stored.block, name) {
             return Some(number);
         }
-        k = store.next_block(dir, name, k + 1);
     }
     None
 }
 
-/// Enters the names of all blocks of a large directory into the tree's table, unless it knows the directory, or there is
-/// no memory for a table.
-fn learn_names<F: FileStore>(store: &mut Tree<F>, dir: u32, size: u64)
+/// Enters the names of all blocks of a large directory into the store's table, unless it knows the directory, or there
+/// is no memory for a table.
+fn learn_names<F: FileStore>(store: &mut CachedStore<F>, dir: u32, size: u64)
     requires { HasBlocks (F.state store.old).content dir size }
     ensures { F.state store.new ≡ F.state store.old }
 {
@@ -97,19 +172,18 @@ fn learn_names<F: FileStore>(store: &mut Tree<F>, dir: u32, size: u64)
     let Some(mut table) = store.take_table(dir) else {
         return;
     };
-    let block_size = BLOCK_SIZE as u64;
-    for k in 0..size / block_size {
-        let block = read_block(store, dir, block_size * k);
-        table.enter_block(dir, k, &block);
+    let mut blocks = DirBlocks::new(dir, size);
+    while let Some(stored) = blocks.next(store) {
+        table.enter_block(dir, stored.index(), &stored.block);
     }
-    table.know(dir, size / block_size);
+    table.know(dir, size / BLOCK_SIZE as u64);
     store.keep_table(table);
 }
 
 /// The names that a directory of this size lists, as they stand in its blocks; an error where a growth was refused.
 pub(crate) fn names_of_directory<F: FileStore>(
     alloc: Global,
-    store: &mut Tree<F>,
+    store: &mut CachedStore<F>,
     dir: u32,
     size: u64,
 ) -> Result<Vec<Name>, AllocError>
@@ -119,11 +193,10 @@ pub(crate) fn names_of_directory<F: FileStore>(
         ≡ map (λ e. e.1) (all_entries (bytes_of (F.state store.old).content dir))) }
     ensures state { F.state store.new ≡ F.state store.old }
 {
-    let block_size = BLOCK_SIZE as u64;
     let mut names = Vec::new(alloc);
-    for k in 0..size / block_size {
-        let block = read_block(store, dir, block_size * k);
-        push_names(alloc, &mut names, &block)?;
+    let mut blocks = DirBlocks::new(dir, size);
+    while let Some(stored) = blocks.next(store) {
+        push_names(alloc, &mut names, &stored.block)?;
     }
     Ok(names)
 }
@@ -154,15 +227,14 @@ fn name_of(alloc: Global, bytes: &[u8]) -> Result<Name, AllocError>
 }
 
 /// Whether a directory of this size lists no name.
-pub fn is_empty_directory<F: FileStore>(store: &mut Tree<F>, dir: u32, size: u64) -> bool
+pub fn is_empty_directory<F: FileStore>(store: &mut CachedStore<F>, dir: u32, size: u64) -> bool
     requires { HasBlocks (F.state store.old).content dir size }
     ensures empty { IsTrue result ↔ (all_entries (bytes_of (F.state store.old).content dir) ≡ []) }
     ensures state { F.state store.new ≡ F.state store.old }
 {
-    let block_size = BLOCK_SIZE as u64;
-    for k in 0..size / block_size {
-        let block = read_block(store, dir, block_size * k);
-        if entries(&block).next().is_some() {
+    let mut blocks = DirBlocks::new(dir, size);
+    while let Some(stored) = blocks.next(store) {
+        if entries(&stored.block).next().is_some() {
             return false;
         }
     }
@@ -173,22 +245,22 @@ pub fn is_empty_directory<F: FileStore>(store: &mut Tree<F>, dir: u32, size: u64
 /// where the directory has all the blocks that it may have. The block `taken`, if there is one, is read in place of
 /// the stored one. Stored blocks that are known to have no room are passed over.
 pub(crate) fn find_room<F: FileStore>(
-    store: &mut Tree<F>,
+    store: &mut CachedStore<F>,
     dir: u32,
     size: u64,
-    taken: Option<&Room>,
-    name: &Name,
-    number: u32,
-) -> Option<Room>
-    requires { CanEnter (F.state store.old).content dir size taken name.now number }
+    taken: Option<&DirBlock>,
+    listed: NewEntry<'_>,
+) -> Option<DirBlock>
+    requires { CanEnter (F.state store.old).content dir size taken listed.name.now listed.number }
     ensures room { MatchOption result
         (FitsNowhere (with_block (bytes_of (F.state store.old).content dir) taken.entry)
-        None name.now)
+        None listed.entry.name.now)
         (λ room. (k : ℕ) × IsRoom
         (with_block (bytes_of (F.state store.old).content dir) taken.entry)
-        number name.now room k) }
+        listed.entry.number listed.entry.name.now room k) }
     ensures state { F.state store.new ≡ F.state store.old }
 {
+    let NewEntry { name, number } = listed;
     let block_size = BLOCK_SIZE as u64;
     let first = first_to_try(store, dir, name);
     if let Some(room) = taken_room(taken, first, name, number) {
@@ -199,7 +271,7 @@ pub(crate) fn find_room<F: FileStore>(
         let block = seen_block(store, dir, off, taken);
         if let Some(block) = added(&block, name, number) {
             keep_hint(store, dir, taken, k, name);
-            return Some(Room { off, block });
+            return Some(DirBlock { off, block });
         }
     }
     if size == FILE_BYTES {
@@ -207,12 +279,12 @@ pub(crate) fn find_room<F: FileStore>(
     }
     keep_hint(store, dir, taken, size / block_size, name);
     let block = lone_entry(name, number);
-    Some(Room { off: size, block })
+    Some(DirBlock { off: size, block })
 }
 
-/// The index of a block of a directory before which a name fits in no stored one: that of the directory's hint, where the
-/// name is no shorter than the hint's.
-fn first_to_try<F: FileStore>(store: &Tree<F>, dir: u32, name: &Name) -> u64
+/// The index of a block of a directory before which a name fits in no stored one: that of the directory's hint, where
+/// the name is no shorter than the hint's.
+fn first_to_try<F: FileStore>(store: &CachedStore<F>, dir: u32, name: &Name) -> u64
     ensures { IsFullBefore (bytes_of (F.state store.now).content dir)
         (record { block = result; length = length name.now }) }
 {
@@ -224,7 +296,7 @@ fn first_to_try<F: FileStore>(store: &Tree<F>, dir: u32, name: &Name) -> u64
 
 /// The block that is read in place of a stored one, if it stands before that of index `first` and a name fits, with an
 /// entry of the name more.
-fn taken_room(taken: Option<&Room>, first: u64, name: &Name, number: u32) -> Option<Room>
+fn taken_room(taken: Option<&DirBlock>, first: u64, name: &Name, number: u32) -> Option<DirBlock>
     requires above { 0 < number }
     requires free { IfSome taken (λ room. IsDirectoryBlock room.now.block
         (entries_of room.now.block)
@@ -235,22 +307,22 @@ fn taken_room(taken: Option<&Room>, first: u64, name: &Name, number: u32) -> Opt
         (λ found. IsSomeAnd taken.entry (λ room. IsRoomIn room.now first number name.now found)) }
 {
     let room = taken?;
-    if room.off / BLOCK_SIZE as u64 >= first {
+    if room.index() >= first {
         return None;
     }
     let block = added(&room.block, name, number)?;
-    Some(Room {
+    Some(DirBlock {
         off: room.off,
         block,
     })
 }
 
-/// Keeps in mind that a name fits in none of the first `block` blocks of a directory, where no block is read in place of
-/// a stored one.
+/// Keeps in mind that a name fits in none of the first `block` blocks of a directory, where no block is read in place
+/// of a stored one.
 fn keep_hint<F: FileStore>(
-    store: &mut Tree<F>,
+    store: &mut CachedStore<F>,
     dir: u32,
-    taken: Option<&Room>,
+    taken: Option<&DirBlock>,
     block: u64,
     name: &Name,
 )
@@ -265,12 +337,17 @@ fn keep_hint<F: FileStore>(
 }
 
 /// Keeps in mind that a name fits in no block of a directory before that of `room`, unless more is known.
-pub(crate) fn keep_room<F: FileStore>(store: &mut Tree<F>, dir: u32, room: &Room, name: &Name)
+pub(crate) fn keep_room<F: FileStore>(
+    store: &mut CachedStore<F>,
+    dir: u32,
+    room: &DirBlock,
+    name: &Name,
+)
     requires { IsFullBefore (bytes_of (F.state store.old).content dir)
         (record { block = room.now.off / BLOCK_SIZE; length = length name.now }) }
     ensures { store.new ≡ store.old }
 {
-    let block = room.off / BLOCK_SIZE as u64;
+    let block = room.index();
     let length = name.as_bytes().len();
     match store.hint(dir) {
         Some(hint) if block <= hint.block && hint.length <= length => {}
@@ -280,10 +357,10 @@ pub(crate) fn keep_room<F: FileStore>(store: &mut Tree<F>, dir: u32, room: &Room
 
 /// The block of a directory that begins at byte `off`: that in `taken` if it begins there, else the stored one.
 pub(crate) fn seen_block<F: FileStore>(
-    store: &mut Tree<F>,
+    store: &mut CachedStore<F>,
     dir: u32,
     off: u64,
-    taken: Option<&Room>,
+    taken: Option<&DirBlock>,
 ) -> Block
     requires used { IsSome (get (F.state store.old).content dir) }
     requires aligned { off % BLOCK_SIZE ≡ 0 }
@@ -316,7 +393,12 @@ fn lone_entry(name: &Name, number: u32) -> Block
 }
 
 /// The block of a directory that lists a name, without the name, and where it goes.
-pub(crate) fn take_name<F: FileStore>(store: &mut Tree<F>, dir: u32, size: u64, name: &Name) -> Room
+pub(crate) fn take_name<F: FileStore>(
+    store: &mut CachedStore<F>,
+    dir: u32,
+    size: u64,
+    name: &Name,
+) -> DirBlock
     requires { ListsName (F.state store.old).content dir size name.now }
     ensures room { (k : ℕ) × IsTaking (bytes_of (F.state store.old).content dir) name.now result k }
     ensures state { F.state store.new ≡ F.state store.old }
@@ -324,12 +406,12 @@ pub(crate) fn take_name<F: FileStore>(store: &mut Tree<F>, dir: u32, size: u64, 
     if let Some(room) = take_hinted(store, dir, size, name) {
         return room;
     }
-    let mut k = store.next_block(dir, name, 0);
-    while k < size / BLOCK_SIZE as u64 {
-        if let Some(room) = take_from(store, dir, k, name) {
-            return room;
+    let mut blocks = DirBlocks::new(dir, size);
+    while let Some(stored) = blocks.next_of(store, name) {
+        if let Some(block) = removed(&stored.block, name) {
+            let off = stored.off;
+            return DirBlock { off, block };
         }
-        k = store.next_block(dir, name, k + 1);
     }
     // Never: it is listed (`ListsName`), as is required.
     unreachable!()
@@ -337,7 +419,12 @@ pub(crate) fn take_name<F: FileStore>(store: &mut Tree<F>, dir: u32, size: u64, 
 
 /// The block of a directory's hint without a name, and where it goes, if it lists the name, as where the name was made
 /// last. It isn't read where the table says that the name doesn't stand there.
-fn take_hinted<F: FileStore>(store: &mut Tree<F>, dir: u32, size: u64, name: &Name) -> Option<Room>
+fn take_hinted<F: FileStore>(
+    store: &mut CachedStore<F>,
+    dir: u32,
+    size: u64,
+    name: &Name,
+) -> Option<DirBlock>
     requires { ListsName (F.state store.old).content dir size name.now }
     ensures room { IfSome result (λ room. (k : ℕ)
         × IsTaking (bytes_of (F.state store.old).content dir) name.now room k) }
@@ -352,7 +439,12 @@ fn take_hinted<F: FileStore>(store: &mut Tree<F>, dir: u32, size: u64, name: &Na
 }
 
 /// The block of this index of a directory without a name, and where it goes, if it lists the name.
-fn take_from<F: FileStore>(store: &mut Tree<F>, dir: u32, k: u64, name: &Name) -> Option<Room>
+fn take_from<F: FileStore>(
+    store: &mut CachedStore<F>,
+    dir: u32,
+    k: u64,
+    name: &Name,
+) -> Option<DirBlock>
     requires used { IsSome (get (F.state store.old).content dir) }
     requires bounded { length (bytes_of (F.state store.old).content dir) ≤ FILE_BYTES }
     requires blocks { AreBlocks (bytes_of (F.state store.old).content dir) }
@@ -366,5 +458,5 @@ fn take_from<F: FileStore>(store: &mut Tree<F>, dir: u32, k: u64, name: &Name) -
     let off = BLOCK_SIZE as u64 * k;
     let stored = read_block(store, dir, off);
     let block = removed(&stored, name)?;
-    Some(Room { off, block })
+    Some(DirBlock { off, block })
 }

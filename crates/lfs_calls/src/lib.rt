@@ -3,16 +3,16 @@
 
 mod arriving;
 pub mod attributes;
+pub mod cached_store;
+pub mod call_fault;
 mod cleaning;
 pub mod cutting;
 pub mod directory;
 pub mod listing;
 pub mod making;
-pub mod not_served;
 pub mod reading;
 pub mod removing;
 pub mod renaming;
 pub mod serving;
-pub mod tree;
 pub mod walking;
 pub mod writing;

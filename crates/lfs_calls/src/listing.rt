@@ -7,9 +7,9 @@ ghost use Rattle.std.specs.Ordering.{nat_cmp};
 ghost use Rattle.lfs_calls.specs.Calls.{IsCall};
 ghost use Rattle.lfs_calls.specs.Volumes.{HasWorld};
 
+use crate::cached_store::CachedStore;
+use crate::call_fault::CallFault;
 use crate::directory::names_of_directory;
-use crate::not_served::NotServed;
-use crate::tree::Tree;
 use crate::walking::{depth, find};
 use lfs_checks::names::may_list;
 use lfs_types::answer::{Resource, Served};
@@ -19,15 +19,14 @@ use lfs_types::path::Path;
 use lfs_types::payload::Names;
 use lfs_types::request::Request;
 use lfs_types::store::FileStore;
-use std::alloc::{AllocError, Global};
+use std::alloc::AllocError;
 
 /// The names in a directory, in byte order.
 pub fn list<F: FileStore>(
-    alloc: Global,
-    store: &mut Tree<F>,
+    store: &mut CachedStore<F>,
     cred: &Cred,
     path: &Path,
-) -> Result<Served, NotServed>
+) -> Result<Served, CallFault>
     requires { HasWorld (F.state store.old) }
     ensures call { IsCall (F.state store.old) (F.state store.new) cred.now (Request.List path.now)
         result }
@@ -35,9 +34,9 @@ pub fn list<F: FileStore>(
 {
     let dir = find(store, cred, path)?;
     may_list(&dir.attrs, cred, depth(path))?;
-    match names_of_directory(alloc, store, dir.number, dir.attrs.size) {
+    match names_of_directory(store.alloc(), store, dir.number, dir.attrs.size) {
         Ok(names) => Ok(Served::Names(Names::from(sorted(names)))),
-        Err(AllocError) => Err(NotServed::Refused(Resource::NoMemory)),
+        Err(AllocError) => Err(CallFault::Refused(Resource::NoMemory)),
     }
 }
 

@@ -13,9 +13,9 @@ ghost use Rattle.lfs_calls.specs.Volumes.{HasWorld, InWorld};
 ghost use Rattle.lfs_calls.specs.Names.{FindsNew};
 ghost use Rattle.lfs_calls.specs.Makes.{CanMake, IsParent, request_for, MakesFile};
 
-use crate::directory::{Room, find_room, look_up};
-use crate::not_served::NotServed;
-use crate::tree::Tree;
+use crate::cached_store::{CachedStore, Naming};
+use crate::call_fault::CallFault;
+use crate::directory::{DirBlock, NewEntry, find_room, look_up};
 use crate::walking::{Reached, component, last_name, reach};
 use lfs_checks::asking::ask;
 use lfs_checks::names::{may_enter, may_search};
@@ -34,7 +34,7 @@ use lfs_types::store::{Change, FileStore, Reserve, StoreRefusal};
 
 /// The directory in which a new name may be put, or the first rule that fails.
 pub(crate) fn judge_make<F: FileStore>(
-    store: &mut Tree<F>,
+    store: &mut CachedStore<F>,
     cred: &Cred,
     names: &[Name],
 ) -> Result<Reached, Denial>
@@ -56,7 +56,7 @@ pub(crate) fn judge_make<F: FileStore>(
 /// Whether a caller may put a name into a directory, which stands at component `at` of the path, or the first rule that
 /// fails. The name is looked up only where search in the directory is granted.
 fn may_make<F: FileStore>(
-    store: &mut Tree<F>,
+    store: &mut CachedStore<F>,
     cred: &Cred,
     dir: &Reached,
     name: &Name,
@@ -79,30 +79,44 @@ fn may_make<F: FileStore>(
     may_enter(&attrs, cred, site)
 }
 
-/// Makes a file under a number and writes the block of its directory that lists it under a name.
-fn put_new<F: FileStore>(
-    store: &mut Tree<F>,
-    by: Reserve,
+/// A row that is to be made.
+#[derive(Clone, Copy)]
+struct NewRow<'a> {
+    /// Its number.
     number: u32,
+    /// Its attributes.
     attrs: Attrs,
+    /// Its name.
+    name: &'a Name,
+}
+
+/// Makes a row's file and writes the block of its directory that lists it.
+fn put_new<F: FileStore>(
+    store: &mut CachedStore<F>,
+    by: Reserve,
+    row: NewRow<'_>,
     dir: u32,
-    room: &Room,
-    name: &Name,
+    room: &DirBlock,
 ) -> Result<(), StoreRefusal>
-    requires can { CanMake (F.state store.old) number dir room.now }
+    requires can { CanMake (F.state store.old) row.number dir room.now }
     requires finds { (after : Content) → MakesFile (F.state store.old).content after
-        number (file_of attrs []) dir room.now.off room.now.block
-        → FindsNew (F.state store.old).content after dir name.now (Some number)
+        row.number (file_of row.attrs []) dir room.now.off room.now.block
+        → FindsNew (F.state store.old).content after dir row.name.now (Some row.number)
         (room.now.off / BLOCK_SIZE) }
     ensures changes { ChangesTo (F.state store.old)
         (λ after. MakesFile (F.state store.old).content after
-        number (file_of attrs []) dir room.now.off room.now.block)
+        row.entry.number (file_of row.entry.attrs []) dir room.now.off room.now.block)
         result (F.state store.new) }
     ensures asked { Asks F.state F.made store.old by
         (λ after. MakesFile (F.state store.old).content after
-        number (file_of attrs []) dir room.now.off room.now.block)
+        row.entry.number (file_of row.entry.attrs []) dir room.now.off room.now.block)
         result store.new }
 {
+    let NewRow {
+        number,
+        attrs,
+        name,
+    } = row;
     let changes = [
         Change::Make { ino: number, attrs },
         Change::Put {
@@ -111,17 +125,22 @@ fn put_new<F: FileStore>(
             bytes: &room.block,
         },
     ];
-    let k = room.off / BLOCK_SIZE as u64;
-    store.apply_naming(&changes, by, dir, name, Some(number), k)
+    let naming = Naming {
+        dir,
+        name,
+        found: Some(number),
+        block: room.off / BLOCK_SIZE as u64,
+    };
+    store.apply_naming(&changes, by, naming)
 }
 
 /// Makes an empty file.
 pub fn create<F: FileStore>(
-    store: &mut Tree<F>,
+    store: &mut CachedStore<F>,
     cred: &Cred,
     path: &Path,
     mode: Mode,
-) -> Result<Served, NotServed>
+) -> Result<Served, CallFault>
     requires { HasWorld (F.state store.old) }
     ensures call { IsCall (F.state store.old) (F.state store.new) cred.now
         (Request.Create path.now mode)
@@ -134,11 +153,11 @@ pub fn create<F: FileStore>(
 
 /// Makes an empty directory.
 pub fn mkdir<F: FileStore>(
-    store: &mut Tree<F>,
+    store: &mut CachedStore<F>,
     cred: &Cred,
     path: &Path,
     mode: Mode,
-) -> Result<Served, NotServed>
+) -> Result<Served, CallFault>
     requires { HasWorld (F.state store.old) }
     ensures call { IsCall (F.state store.old) (F.state store.new) cred.now
         (Request.Mkdir path.now mode)
@@ -151,12 +170,12 @@ pub fn mkdir<F: FileStore>(
 
 /// Makes an empty file of this kind.
 fn make<F: FileStore>(
-    store: &mut Tree<F>,
+    store: &mut CachedStore<F>,
     cred: &Cred,
     path: &Path,
     kind: Kind,
     mode: Mode,
-) -> Result<Served, NotServed>
+) -> Result<Served, CallFault>
     requires { HasWorld (F.state store.old) }
     ensures call { IsCall (F.state store.old) (F.state store.new) cred.now
         (request_for kind path.now mode) result }
@@ -168,10 +187,11 @@ fn make<F: FileStore>(
     let name = last_name(names);
     prove!(name.as_bytes().len() <= NAME_MAX);
     let Some(number) = store.least_free() else {
-        return Err(NotServed::Refused(Resource::NoInodes));
+        return Err(CallFault::Refused(Resource::NoInodes));
     };
-    let Some(room) = find_room(store, dir.number, dir.attrs.size, None, name, number) else {
-        return Err(NotServed::Refused(Resource::DirectoryFull));
+    let listed = NewEntry { name, number };
+    let Some(room) = find_room(store, dir.number, dir.attrs.size, None, listed) else {
+        return Err(CallFault::Refused(Resource::DirectoryFull));
     };
     let attrs = Attrs {
         kind,
@@ -182,6 +202,11 @@ fn make<F: FileStore>(
         size: 0,
     };
     let by = Reserve::of(cred);
-    put_new(store, by, number, attrs, dir.number, &room, name)?;
+    let row = NewRow {
+        number,
+        attrs,
+        name,
+    };
+    put_new(store, by, row, dir.number, &room)?;
     Ok(Served::Done)
 }

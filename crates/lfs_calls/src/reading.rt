@@ -6,8 +6,8 @@ ghost use Rattle.lfs_types.specs.Stored.{bytes_of, slice_of};
 ghost use Rattle.lfs_calls.specs.Calls.{IsCall};
 ghost use Rattle.lfs_calls.specs.Volumes.{HasWorld};
 
-use crate::not_served::NotServed;
-use crate::tree::Tree;
+use crate::cached_store::CachedStore;
+use crate::call_fault::CallFault;
 use crate::walking::{depth, find};
 use lfs_checks::attributes::shown_size;
 use lfs_checks::bytes::may_read;
@@ -19,14 +19,13 @@ use lfs_types::path::Path;
 use lfs_types::payload::Bytes;
 use lfs_types::request::Request;
 use lfs_types::store::FileStore;
-use std::alloc::Global;
 
 /// The number and the attributes of a file.
 pub fn stat<F: FileStore>(
-    store: &mut Tree<F>,
+    store: &mut CachedStore<F>,
     cred: &Cred,
     path: &Path,
-) -> Result<Served, NotServed>
+) -> Result<Served, CallFault>
     requires { HasWorld (F.state store.old) }
     ensures call { IsCall (F.state store.old) (F.state store.new) cred.now (Request.Stat path.now)
         result }
@@ -39,13 +38,12 @@ pub fn stat<F: FileStore>(
 
 /// At most `len` bytes of a file from `off` on, and at most 4,096.
 pub fn read<F: FileStore>(
-    alloc: Global,
-    store: &mut Tree<F>,
+    store: &mut CachedStore<F>,
     cred: &Cred,
     path: &Path,
     off: u64,
     len: u32,
-) -> Result<Served, NotServed>
+) -> Result<Served, CallFault>
     requires { HasWorld (F.state store.old) }
     ensures call { IsCall (F.state store.old) (F.state store.new) cred.now
         (Request.Read path.now off len)
@@ -55,16 +53,15 @@ pub fn read<F: FileStore>(
     let file = find(store, cred, path)?;
     may_read(&file.attrs, cred, depth(path))?;
     let count = (len as usize).min(TRANSFER_BYTES);
-    match read_bytes(alloc, store, file.number, off, file.attrs.size, count) {
+    match read_bytes(store, file.number, off, file.attrs.size, count) {
         Some(bytes) => Ok(Served::Bytes(Bytes::from(bytes))),
-        None => Err(NotServed::Refused(Resource::NoMemory)),
+        None => Err(CallFault::Refused(Resource::NoMemory)),
     }
 }
 
 /// The bytes of a file of this size from `off` on, at most `count`; None where a growth was refused.
 fn read_bytes<F: FileStore>(
-    alloc: Global,
-    store: &mut Tree<F>,
+    store: &mut CachedStore<F>,
     ino: u32,
     off: u64,
     size: u64,
@@ -82,6 +79,7 @@ fn read_bytes<F: FileStore>(
     } else {
         count
     };
+    let alloc = store.alloc();
     let mut bytes = match vec![in alloc; 0u8; count] {
         Ok(bytes) => bytes,
         Err(_) => return None,

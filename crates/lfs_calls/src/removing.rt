@@ -11,9 +11,9 @@ ghost use Rattle.lfs_calls.specs.Calls.{ChangesTo, IsCall, answered};
 ghost use Rattle.lfs_calls.specs.Volumes.{HasWorld, InWorld, IsVolume};
 ghost use Rattle.lfs_calls.specs.Removes.{HangsAs, IsChildless, IsRemovable, IsRemoval, TakesRow, removal_request, removed_tests};
 
+use crate::cached_store::{CachedStore, Naming};
+use crate::call_fault::CallFault;
 use crate::directory::{is_empty_directory, take_name};
-use crate::not_served::NotServed;
-use crate::tree::Tree;
 use crate::walking::{Reached, component, last_name, reach, step};
 use lfs_checks::asking::ask;
 use lfs_checks::names::{may_remove, may_unlink};
@@ -39,7 +39,7 @@ pub(crate) struct Removal {
 
 /// The row whose name may be taken away, or the first rule that fails, of those that files and directories share.
 pub(crate) fn judge_remove<F: FileStore>(
-    store: &mut Tree<F>,
+    store: &mut CachedStore<F>,
     cred: &Cred,
     names: &[Name],
 ) -> Result<Removal, Denial>
@@ -67,7 +67,7 @@ pub(crate) fn judge_remove<F: FileStore>(
 
 /// Takes away a row: its name from the directory, and the file under its number.
 fn take_row<F: FileStore>(
-    store: &mut Tree<F>,
+    store: &mut CachedStore<F>,
     by: Reserve,
     removal: &Removal,
     name: &Name,
@@ -94,16 +94,21 @@ fn take_row<F: FileStore>(
             ino: removal.file.number,
         },
     ];
-    let k = room.off / BLOCK_SIZE as u64;
-    store.apply_naming(&changes, by, number, name, None, k)
+    let naming = Naming {
+        dir: number,
+        name,
+        found: None,
+        block: room.off / BLOCK_SIZE as u64,
+    };
+    store.apply_naming(&changes, by, naming)
 }
 
 /// Removes a file.
 pub fn unlink<F: FileStore>(
-    store: &mut Tree<F>,
+    store: &mut CachedStore<F>,
     cred: &Cred,
     path: &Path,
-) -> Result<Served, NotServed>
+) -> Result<Served, CallFault>
     requires { HasWorld (F.state store.old) }
     ensures call { IsCall (F.state store.old) (F.state store.new) cred.now (Request.Unlink path.now)
         result }
@@ -115,10 +120,10 @@ pub fn unlink<F: FileStore>(
 
 /// Removes an empty directory.
 pub fn rmdir<F: FileStore>(
-    store: &mut Tree<F>,
+    store: &mut CachedStore<F>,
     cred: &Cred,
     path: &Path,
-) -> Result<Served, NotServed>
+) -> Result<Served, CallFault>
     requires { HasWorld (F.state store.old) }
     ensures call { IsCall (F.state store.old) (F.state store.new) cred.now (Request.Rmdir path.now)
         result }
@@ -130,11 +135,11 @@ pub fn rmdir<F: FileStore>(
 
 /// Removes a file, or an empty directory, as the kind says.
 fn remove<F: FileStore>(
-    store: &mut Tree<F>,
+    store: &mut CachedStore<F>,
     cred: &Cred,
     path: &Path,
     kind: Kind,
-) -> Result<Served, NotServed>
+) -> Result<Served, CallFault>
     requires { HasWorld (F.state store.old) }
     ensures call { IsCall (F.state store.old) (F.state store.new) cred.now
         (removal_request kind path.now) result }
@@ -149,7 +154,7 @@ fn remove<F: FileStore>(
 
 /// The row that may be removed as one of this kind, or the first rule that fails.
 fn judge_removal<F: FileStore>(
-    store: &mut Tree<F>,
+    store: &mut CachedStore<F>,
     cred: &Cred,
     names: &[Name],
     kind: Kind,
@@ -168,7 +173,7 @@ fn judge_removal<F: FileStore>(
 
 /// Whether a row, which stands at component `at`, may be removed as one of this kind, or the first rule that fails.
 fn may_be_removed<F: FileStore>(
-    store: &mut Tree<F>,
+    store: &mut CachedStore<F>,
     row: &Reached,
     kind: Kind,
     at: u32,
@@ -188,7 +193,7 @@ fn may_be_removed<F: FileStore>(
 
 /// Whether what a Rmdir names, which stands at component `at`, may be removed, or the first rule that fails. Only a
 /// directory is searched for names.
-fn may_rmdir<F: FileStore>(store: &mut Tree<F>, row: &Reached, at: u32) -> Result<(), Denial>
+fn may_rmdir<F: FileStore>(store: &mut CachedStore<F>, row: &Reached, at: u32) -> Result<(), Denial>
     requires world { HasWorld (F.state store.old) }
     requires shown { Some row.now.attrs ≡ shown_attrs (F.state store.old).content row.now.number }
     ensures judge { InWorld (F.state store.old) (λ w. result

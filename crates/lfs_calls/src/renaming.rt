@@ -13,20 +13,19 @@ ghost use Rattle.lfs_dirs.specs.Directory.{IsDirectoryBlock, number_in};
 ghost use Rattle.lfs_dirs.specs.Reading.{entries_of};
 ghost use Rattle.lfs_calls.specs.Calls.{ChangesTo, IsCall, answered};
 ghost use Rattle.lfs_calls.specs.Volumes.{HasWorld, InWorld, IsVolume};
-ghost use Rattle.lfs_calls.specs.Content.{FitsNowhere};
 ghost use Rattle.lfs_calls.specs.Names.{MovesName};
 ghost use Rattle.lfs_model.specs.Walks.{is_on_way};
 ghost use Rattle.lfs_calls.specs.Makes.{IsBlockOf, with_block};
-ghost use Rattle.lfs_calls.specs.Renames.{ArePlaces, AreSwapped, CanSwap, GoesOver, GoesTo, GoesWith, HasNoRoom, IsMove, IsSwap, IsSwapIn, IsTarget, MovesOver, MovesTo, PlacedAt, PlacesRow, PutsRow, StaysInPlace, SwapsBlocks, WritesBlocks, name_left, target_number};
+ghost use Rattle.lfs_calls.specs.Renames.{ArePlaces, CanSwap, GoesTo, GoesWith, HasNoRoom, IsMove, IsSwap, IsSwapIn, IsTarget, MovesTo, PlacedAt, PlacesRow, PutsRow, StaysInPlace, WritesBlocks, target_number};
 ghost use Rattle.lfs_model.specs.Walks.{walked};
 ghost use Rattle.lfs_calls.specs.Arrivals.{IsArrival};
 ghost use Rattle.lfs_calls.specs.Removes.{IsRemoval};
 
 use crate::arriving::{Arrival, judge_arrival, judge_there};
-use crate::directory::{Room, find_room, keep_room, seen_block, take_name};
-use crate::not_served::NotServed;
+use crate::cached_store::{CachedStore, Moving};
+use crate::call_fault::CallFault;
+use crate::directory::{DirBlock, NewEntry, find_room, keep_room, seen_block, take_name};
 use crate::removing::{Removal, judge_remove};
-use crate::tree::Tree;
 use crate::walking::{Reached, component, last_name, parents_of, step};
 use lfs_checks::names::may_move;
 use lfs_checks::site::Site;
@@ -63,31 +62,38 @@ struct Move {
     target: Target,
 }
 
-/// The blocks that a Rename writes.
+/// The blocks that a Rename writes, and the row that gives way.
 #[derive(Clone, Copy)]
 struct Places {
     /// The block of the old directory, without the old name.
-    taken: Room,
+    taken: DirBlock,
     /// The block of the new directory, with the new name.
-    room: Room,
+    room: DirBlock,
+    /// The number of the row that has that name, if one does.
+    gone: Option<u32>,
 }
 
-/// The names that a Rename takes away and gives, the number that has them, and on whose behalf.
+/// The old name of a row, and its new one.
 #[derive(Clone, Copy)]
-struct Renaming<'a> {
-    /// On whose behalf.
-    by: Reserve,
+struct NamePair<'a> {
     /// The old name.
     old: &'a Name,
     /// The new name.
     new: &'a Name,
-    /// The row's number.
-    number: u32,
+}
+
+/// The names of the old path of a Rename, and of the new one.
+#[derive(Clone, Copy)]
+struct PathPair<'a> {
+    /// Those of the old path.
+    from: &'a [Name],
+    /// Those of the new path.
+    to: &'a [Name],
 }
 
 /// The row that may get another name, or the first rule that fails.
 fn judge_rename<F: FileStore>(
-    store: &mut Tree<F>,
+    store: &mut CachedStore<F>,
     cred: &Cred,
     from: &[Name],
     to: &[Name],
@@ -102,7 +108,8 @@ fn judge_rename<F: FileStore>(
 {
     let removal = judge_remove(store, cred, from)?;
     let arrival = judge_arrival(store, cred, to)?;
-    let target = judge_target(store, cred, from, to, &removal, &arrival)?;
+    let paths = PathPair { from, to };
+    let target = judge_target(store, cred, paths, &removal, &arrival)?;
     Ok(Move {
         removal,
         dir: arrival.dir,
@@ -112,28 +119,28 @@ fn judge_rename<F: FileStore>(
 
 /// What has the new name, or the first rule that fails of those behind the way to it.
 fn judge_target<F: FileStore>(
-    store: &mut Tree<F>,
+    store: &mut CachedStore<F>,
     cred: &Cred,
-    from: &[Name],
-    to: &[Name],
+    paths: PathPair<'_>,
     removal: &Removal,
     arrival: &Arrival,
 ) -> Result<Target, Denial>
     requires world { HasWorld (F.state store.old) }
-    requires short_from { length from.now ≤ PATH_MAX }
-    requires short_to { length to.now ≤ PATH_MAX }
+    requires short_from { length paths.from.now ≤ PATH_MAX }
+    requires short_to { length paths.to.now ≤ PATH_MAX }
     requires removal { InWorld (F.state store.old)
-        (λ w. IsRemoval (F.state store.old).content w.rows from.now removal.now) }
+        (λ w. IsRemoval (F.state store.old).content w.rows paths.from.now removal.now) }
     requires arrival { InWorld (F.state store.old)
-        (λ w. IsArrival (F.state store.old).content w.rows to.now arrival.now) }
+        (λ w. IsArrival (F.state store.old).content w.rows paths.to.now arrival.now) }
     requires arrived { InWorld (F.state store.old)
-        (λ w. first_failing (arriving w.rows cred.now to.now) ≡ None) }
+        (λ w. first_failing (arriving w.rows cred.now paths.to.now) ≡ None) }
     ensures judge { InWorld (F.state store.old) (λ w. Judges
-        (moving_tests w.rows cred.now from.now to.now arrival.now.there)
+        (moving_tests w.rows cred.now paths.entry.from.now paths.entry.to.now arrival.now.there)
         (λ target. (target_number removal.now.file.number target ≡ arrival.now.there)
         × IsTarget (F.state store.old).content removal.now.file.number target) result) }
     ensures state { F.state store.new ≡ F.state store.old }
 {
+    let PathPair { from, to } = paths;
     if arrival.there == Some(removal.file.number) {
         return Ok(Target::Itself);
     }
@@ -150,7 +157,7 @@ fn judge_target<F: FileStore>(
 
 /// Whether a row doesn't lie on the way to its new place, or the rule that fails.
 fn judge_apart<F: FileStore>(
-    store: &mut Tree<F>,
+    store: &mut CachedStore<F>,
     cred: &Cred,
     to: &[Name],
     file: &Reached,
@@ -173,7 +180,7 @@ fn judge_apart<F: FileStore>(
 
 /// Whether a directory isn't among those through which names lead from the root, or else the rule that fails.
 fn judge_way<F: FileStore>(
-    store: &mut Tree<F>,
+    store: &mut CachedStore<F>,
     cred: &Cred,
     names: &[Name],
     number: u32,
@@ -215,121 +222,107 @@ fn judge_way<F: FileStore>(
 }
 
 /// The blocks that list a row under its new name and no more under the old one; None where the new name fits in no
-/// block of its directory.
+/// block of its directory. Where the row `gone` has that name, it gives way.
 fn find_places<F: FileStore>(
-    store: &mut Tree<F>,
+    store: &mut CachedStore<F>,
     planned: &Move,
-    old: &Name,
-    new: &Name,
+    gone: Option<u32>,
+    names: NamePair<'_>,
 ) -> Option<Places>
     requires goes { (w : World) × (IsVolume (F.state store.old) w
-        × GoesTo (F.state store.old).content w.rows planned.now old.now new.now) }
+        × GoesTo (F.state store.old).content w.rows planned.now names.old.now names.new.now gone) }
     ensures places { MatchOption result
-        (FitsNowhere (bytes_of (F.state store.old).content planned.now.dir.number)
-        (name_left planned.now old.now) new.now)
-        (ArePlaces (F.state store.old).content planned.now old.now new.now) }
+        (HasNoRoom (F.state store.old).content planned.now names.entry.old.now
+        names.entry.new.now gone)
+        (ArePlaces (F.state store.old).content planned.now names.entry.old.now
+        names.entry.new.now gone) }
     ensures state { F.state store.new ≡ F.state store.old }
 {
     let Move { removal, dir, .. } = *planned;
-    let taken = take_name(store, removal.dir.number, removal.dir.attrs.size, old);
+    let taken = take_name(store, removal.dir.number, removal.dir.attrs.size, names.old);
     let seen = (removal.dir.number == dir.number).then_some(&taken);
-    let room = find_room(
-        store,
-        dir.number,
-        dir.attrs.size,
-        seen,
-        new,
-        removal.file.number,
-    )?;
-    Some(Places { taken, room })
+    let listed = NewEntry {
+        name: names.new,
+        number: removal.file.number,
+    };
+    let room = match gone {
+        None => find_room(store, dir.number, dir.attrs.size, seen, listed)?,
+        Some(_) => swap_number(store, dir.number, dir.attrs.size, seen, listed),
+    };
+    Some(Places { taken, room, gone })
 }
 
-/// Writes two blocks of directories, one after the other; where both stand at one place, the second alone.
+/// Writes two blocks of directories, one after the other, and removes the file that gives way, if there is one; where
+/// both blocks stand at one place, the second alone is written.
 fn put_blocks<F: FileStore>(
-    store: &mut Tree<F>,
-    old_dir: u32,
-    taken: &Room,
-    dir: u32,
-    room: &Room,
-    names: &Renaming<'_>,
+    store: &mut CachedStore<F>,
+    by: Reserve,
+    places: &Places,
+    moving: &Moving<'_>,
 ) -> Result<(), StoreRefusal>
-    requires old { IsBlockOf (F.state store.old).content old_dir taken.now }
-    requires old_within { taken.now.off + BLOCK_SIZE ≤ length
-        (bytes_of (F.state store.old).content old_dir) }
-    requires new { IsBlockOf (F.state store.old).content dir room.now }
+    requires old { IsBlockOf (F.state store.old).content moving.now.old_dir places.now.taken }
+    requires old_within { places.now.taken.off + BLOCK_SIZE ≤ length
+        (bytes_of (F.state store.old).content moving.now.old_dir) }
+    requires new { IsBlockOf (F.state store.old).content moving.now.new_dir places.now.room }
+    requires used { IfSome places.now.gone
+        (λ gone. IsSome (get (F.state store.old).content gone)) }
     requires moves { (after : Content) → WritesBlocks (F.state store.old).content after
-        old_dir taken.now dir room.now → MovesName (F.state store.old).content after
-        old_dir names.now.old.now dir names.now.new.now names.now.number
-        (room.now.off / BLOCK_SIZE) }
+        moving.now.old_dir places.now.taken moving.now.new_dir places.now.room places.now.gone
+        → MovesName (F.state store.old).content after moving.now.old_dir moving.now.old.now
+        moving.now.new_dir moving.now.new.now moving.now.number
+        (places.now.room.off / BLOCK_SIZE) }
     ensures changes { ChangesTo (F.state store.old)
-        (λ after. WritesBlocks (F.state store.old).content after old_dir taken.now dir room.now)
+        (λ after. WritesBlocks (F.state store.old).content after moving.now.old_dir
+        places.now.taken moving.now.new_dir places.now.room places.now.gone)
         result (F.state store.new) }
-    ensures asked { Asks F.state F.made store.old names.now.by
-        (λ after. WritesBlocks (F.state store.old).content after old_dir taken.now dir room.now)
+    ensures asked { Asks F.state F.made store.old by
+        (λ after. WritesBlocks (F.state store.old).content after moving.now.old_dir
+        places.now.taken moving.now.new_dir places.now.room places.now.gone)
         result store.new }
 {
+    let Places { taken, room, gone } = *places;
+    let (old_dir, dir) = (moving.old_dir, moving.new_dir);
     let put = Change::Put {
         ino: dir,
         off: room.off,
         bytes: &room.block,
     };
-    let (from, to) = ((old_dir, names.old), (dir, names.new));
     let k = room.off / BLOCK_SIZE as u64;
     if old_dir == dir && taken.off == room.off {
-        return store.apply_moving(&[put], names.by, from, to, names.number, k);
+        match gone {
+            None => store.apply_moving(&[put], by, moving, k),
+            Some(ino) => store.apply_moving(&[put, Change::Remove { ino }], by, moving, k),
+        }
+    } else {
+        let take = Change::Put {
+            ino: old_dir,
+            off: taken.off,
+            bytes: &taken.block,
+        };
+        match gone {
+            None => store.apply_moving(&[take, put], by, moving, k),
+            Some(ino) => store.apply_moving(&[take, put, Change::Remove { ino }], by, moving, k),
+        }
     }
-    let take = Change::Put {
-        ino: old_dir,
-        off: taken.off,
-        bytes: &taken.block,
-    };
-    store.apply_moving(&[take, put], names.by, from, to, names.number, k)
 }
 
-/// The blocks that list a row under a name that another row has, and no more under the old one.
-fn find_swap<F: FileStore>(
-    store: &mut Tree<F>,
-    planned: &Move,
-    there: u32,
-    old: &Name,
-    new: &Name,
-) -> Places
-    requires goes { (w : World) × (IsVolume (F.state store.old) w
-        × GoesOver (F.state store.old).content w.rows planned.now old.now new.now there) }
-    ensures places { AreSwapped (F.state store.old).content planned.now old.now new.now result }
-    ensures state { F.state store.new ≡ F.state store.old }
-{
-    let Move { removal, dir, .. } = *planned;
-    let taken = take_name(store, removal.dir.number, removal.dir.attrs.size, old);
-    let read = (removal.dir.number == dir.number).then_some(&taken);
-    let room = swap_number(
-        store,
-        dir.number,
-        dir.attrs.size,
-        read,
-        new,
-        removal.file.number,
-    );
-    Places { taken, room }
-}
-
-/// The block of a directory that lists a name, with another number for it, and where it goes. The block `taken`, if there
-/// is one, is read in place of the stored one, and first. Stored blocks in which the name is known not to stand are passed
-/// over.
+/// The block of a directory that lists a name, with another number for it, and where it goes. The block `taken`, if
+/// there is one, is read in place of the stored one, and first. Stored blocks in which the name is known not to stand
+/// are passed over.
 fn swap_number<F: FileStore>(
-    store: &mut Tree<F>,
+    store: &mut CachedStore<F>,
     dir: u32,
     size: u64,
-    taken: Option<&Room>,
-    name: &Name,
-    number: u32,
-) -> Room
-    requires { CanSwap (F.state store.old).content dir size taken name.now number }
+    taken: Option<&DirBlock>,
+    listed: NewEntry<'_>,
+) -> DirBlock
+    requires { CanSwap (F.state store.old).content dir size taken listed.name.now listed.number }
     ensures room { (k : ℕ) × IsSwap
-        (with_block (bytes_of (F.state store.old).content dir) taken.entry) name.now
-        number result k }
+        (with_block (bytes_of (F.state store.old).content dir) taken.entry) listed.entry.name.now
+        listed.entry.number result k }
     ensures state { F.state store.new ≡ F.state store.old }
 {
+    let NewEntry { name, number } = listed;
     if let Some(room) = swap_taken(taken, name, number) {
         return room;
     }
@@ -340,7 +333,7 @@ fn swap_number<F: FileStore>(
         let block = seen_block(store, dir, off, taken);
         if find(&block, name).is_some() {
             let block = replaced(&block, name, number);
-            return Room { off, block };
+            return DirBlock { off, block };
         }
         k = store.next_block(dir, name, k + 1);
     }
@@ -349,7 +342,7 @@ fn swap_number<F: FileStore>(
 }
 
 /// The block that is read in place of a stored one, with another number for a name, if it lists the name.
-fn swap_taken(taken: Option<&Room>, name: &Name, number: u32) -> Option<Room>
+fn swap_taken(taken: Option<&DirBlock>, name: &Name, number: u32) -> Option<DirBlock>
     requires above { 0 < number }
     requires block { IfSome taken
         (λ room. IsDirectoryBlock room.now.block (entries_of room.now.block)) }
@@ -360,66 +353,20 @@ fn swap_taken(taken: Option<&Room>, name: &Name, number: u32) -> Option<Room>
     let room = taken?;
     find(&room.block, name)?;
     let block = replaced(&room.block, name, number);
-    Some(Room {
+    Some(DirBlock {
         off: room.off,
         block,
     })
 }
 
-/// Writes two blocks of directories, one after the other, and removes a file; where both blocks stand at one place, the
-/// second alone is written.
-fn put_swapped<F: FileStore>(
-    store: &mut Tree<F>,
-    old_dir: u32,
-    taken: &Room,
-    dir: u32,
-    room: &Room,
-    gone: u32,
-    names: &Renaming<'_>,
-) -> Result<(), StoreRefusal>
-    requires old { IsBlockOf (F.state store.old).content old_dir taken.now }
-    requires old_within { taken.now.off + BLOCK_SIZE ≤ length
-        (bytes_of (F.state store.old).content old_dir) }
-    requires new { IsBlockOf (F.state store.old).content dir room.now }
-    requires used { IsSome (get (F.state store.old).content gone) }
-    requires moves { (after : Content) → SwapsBlocks (F.state store.old).content after
-        old_dir taken.now dir room.now gone → MovesName (F.state store.old).content after
-        old_dir names.now.old.now dir names.now.new.now names.now.number
-        (room.now.off / BLOCK_SIZE) }
-    ensures changes { ChangesTo (F.state store.old)
-        (λ after. SwapsBlocks (F.state store.old).content after old_dir taken.now dir room.now gone)
-        result (F.state store.new) }
-    ensures asked { Asks F.state F.made store.old names.now.by
-        (λ after. SwapsBlocks (F.state store.old).content after old_dir taken.now dir room.now gone)
-        result store.new }
-{
-    let put = Change::Put {
-        ino: dir,
-        off: room.off,
-        bytes: &room.block,
-    };
-    let remove = Change::Remove { ino: gone };
-    let (from, to) = ((old_dir, names.old), (dir, names.new));
-    let k = room.off / BLOCK_SIZE as u64;
-    if old_dir == dir && taken.off == room.off {
-        return store.apply_moving(&[put, remove], names.by, from, to, names.number, k);
-    }
-    let take = Change::Put {
-        ino: old_dir,
-        off: taken.off,
-        bytes: &taken.block,
-    };
-    store.apply_moving(&[take, put, remove], names.by, from, to, names.number, k)
-}
-
-/// Gives a file or a directory another name, in the same directory or in another. A file that has the name gives way to a
-/// file, an empty directory to a directory.
+/// Gives a file or a directory another name, in the same directory or in another. A file that has the name gives way to
+/// a file, an empty directory to a directory.
 pub fn rename<F: FileStore>(
-    store: &mut Tree<F>,
+    store: &mut CachedStore<F>,
     cred: &Cred,
     from: &Path,
     to: &Path,
-) -> Result<Served, NotServed>
+) -> Result<Served, CallFault>
     requires { HasWorld (F.state store.old) }
     ensures call { IsCall (F.state store.old) (F.state store.new) cred.now
         (Request.Rename from.now to.now)
@@ -434,95 +381,64 @@ pub fn rename<F: FileStore>(
     let old = last_name(from);
     let new = last_name(to);
     prove!(new.as_bytes().len() <= NAME_MAX);
-    place_row(store, Reserve::of(cred), &planned, old, new)?;
+    place_row(store, Reserve::of(cred), &planned, NamePair { old, new })?;
     Ok(Served::Done)
 }
 
 /// Puts a row in its new place, unless it has it already.
 fn place_row<F: FileStore>(
-    store: &mut Tree<F>,
+    store: &mut CachedStore<F>,
     by: Reserve,
     planned: &Move,
-    old: &Name,
-    new: &Name,
-) -> Result<(), NotServed>
+    names: NamePair<'_>,
+) -> Result<(), CallFault>
     requires goes { (w : World) × (IsVolume (F.state store.old) w
-        × GoesWith (F.state store.old).content w.rows planned.now old.now new.now
+        × GoesWith (F.state store.old).content w.rows planned.now names.old.now names.new.now
         planned.now.target) }
-    ensures places { PlacesRow (F.state store.old) planned.now old.now new.now planned.now.target
-        result (F.state store.new) }
+    ensures places { PlacesRow (F.state store.old) planned.now names.entry.old.now
+        names.entry.new.now planned.now.target result (F.state store.new) }
     ensures asked { OnPlaced result (λ said. Asks F.state F.made store.old by
-        (PlacedAt (F.state store.old).content planned.now old.now new.now planned.now.target)
+        (PlacedAt (F.state store.old).content planned.now names.entry.old.now
+        names.entry.new.now planned.now.target)
         said store.new) }
 {
     match planned.target {
         Target::Itself => Ok(()),
-        Target::Free => move_free(store, by, planned, old, new),
-        Target::Taken(there) => Ok(move_over(store, by, planned, there.number, old, new)?),
+        Target::Free => move_row(store, by, planned, None, names),
+        Target::Taken(there) => move_row(store, by, planned, Some(there.number), names),
     }
 }
 
-/// Puts a row in a place that is free.
-fn move_free<F: FileStore>(
-    store: &mut Tree<F>,
+/// Puts a row in a place that is free, or in that of the row `gone`, which is removed.
+fn move_row<F: FileStore>(
+    store: &mut CachedStore<F>,
     by: Reserve,
     planned: &Move,
-    old: &Name,
-    new: &Name,
-) -> Result<(), NotServed>
+    gone: Option<u32>,
+    names: NamePair<'_>,
+) -> Result<(), CallFault>
     requires goes { (w : World) × (IsVolume (F.state store.old) w
-        × GoesTo (F.state store.old).content w.rows planned.now old.now new.now) }
-    ensures puts { PutsRow (F.state store.old)
-        (HasNoRoom (F.state store.old).content planned.now old.now new.now)
-        (λ after. MovesTo (F.state store.old).content after planned.now old.now new.now)
-        result (F.state store.new) }
+        × GoesTo (F.state store.old).content w.rows planned.now names.old.now names.new.now gone) }
+    ensures puts { PutsRow (F.state store.old) planned.now names.entry.old.now names.entry.new.now
+        gone result (F.state store.new) }
     ensures asked { OnPlaced result (λ said. Asks F.state F.made store.old by
-        (λ after. MovesTo (F.state store.old).content after planned.now old.now new.now)
+        (λ after. MovesTo (F.state store.old).content after planned.now names.entry.old.now
+        names.entry.new.now gone)
         said store.new) }
 {
-    let Some(places) = find_places(store, planned, old, new) else {
-        return Err(NotServed::Refused(Resource::DirectoryFull));
+    let Some(places) = find_places(store, planned, gone, names) else {
+        return Err(CallFault::Refused(Resource::DirectoryFull));
     };
-    let Places { taken, room } = places;
-    let (old_dir, new_dir) = (planned.removal.dir.number, planned.dir.number);
-    let number = planned.removal.file.number;
-    let names = Renaming {
-        by,
-        old,
-        new,
-        number,
+    let moving = Moving {
+        old_dir: planned.removal.dir.number,
+        old: names.old,
+        new_dir: planned.dir.number,
+        new: names.new,
+        number: planned.removal.file.number,
     };
-    put_blocks(store, old_dir, &taken, new_dir, &room, &names)?;
-    keep_room(store, new_dir, &room, new);
+    put_blocks(store, by, &places, &moving)?;
+    if gone.is_none() {
+        keep_room(store, moving.new_dir, &places.room, names.new);
+    }
     Ok(())
-}
-
-/// Puts a row in the place of another, which is removed.
-fn move_over<F: FileStore>(
-    store: &mut Tree<F>,
-    by: Reserve,
-    planned: &Move,
-    there: u32,
-    old: &Name,
-    new: &Name,
-) -> Result<(), StoreRefusal>
-    requires goes { (w : World) × (IsVolume (F.state store.old) w
-        × GoesOver (F.state store.old).content w.rows planned.now old.now new.now there) }
-    ensures changes { ChangesTo (F.state store.old)
-        (λ after. MovesOver (F.state store.old).content after planned.now old.now new.now there)
-        result (F.state store.new) }
-    ensures asked { Asks F.state F.made store.old by
-        (λ after. MovesOver (F.state store.old).content after planned.now old.now new.now there)
-        result store.new }
-{
-    let Places { taken, room } = find_swap(store, planned, there, old, new);
-    let (old_dir, new_dir) = (planned.removal.dir.number, planned.dir.number);
-    let number = planned.removal.file.number;
-    let names = Renaming {
-        by,
-        old,
-        new,
-        number,
-    };
-    put_swapped(store, old_dir, &taken, new_dir, &room, there, &names)
 }

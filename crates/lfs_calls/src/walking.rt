@@ -9,8 +9,8 @@ ghost use Rattle.lfs_model.specs.Walks.{stepped, walked};
 ghost use Rattle.lfs_calls.specs.Reaches.{Reaches};
 ghost use Rattle.lfs_calls.specs.Volumes.{HasWorld, InWorld};
 
+use crate::cached_store::CachedStore;
 use crate::directory::look_up;
-use crate::tree::Tree;
 use lfs_checks::names::may_search;
 use lfs_checks::site::Site;
 use lfs_types::attrs::Attrs;
@@ -24,7 +24,7 @@ use lfs_types::store::FileStore;
 /// One step of a walk: from the row at a component to a name, or the first rule that fails.
 #[inline(always)]
 pub(crate) fn step<F: FileStore>(
-    store: &mut Tree<F>,
+    store: &mut CachedStore<F>,
     cred: &Cred,
     site: Site,
     dir: u32,
@@ -51,7 +51,7 @@ pub(crate) fn step<F: FileStore>(
 
 /// Where a walk from the root along names ends, or the first rule that fails on the way.
 pub(crate) fn walk<F: FileStore>(
-    store: &mut Tree<F>,
+    store: &mut CachedStore<F>,
     cred: &Cred,
     path: u8,
     names: &[Name],
@@ -84,7 +84,7 @@ pub(crate) struct Reached {
 
 /// The file that names lead to from the root, or the first rule that fails on the way.
 pub(crate) fn reach<F: FileStore>(
-    store: &mut Tree<F>,
+    store: &mut CachedStore<F>,
     cred: &Cred,
     path: u8,
     names: &[Name],
@@ -105,7 +105,7 @@ pub(crate) fn reach<F: FileStore>(
 
 /// The file that the only path of a call leads to, or the first rule that fails on the way.
 pub(crate) fn find<F: FileStore>(
-    store: &mut Tree<F>,
+    store: &mut CachedStore<F>,
     cred: &Cred,
     path: &Path,
 ) -> Result<Reached, Denial>

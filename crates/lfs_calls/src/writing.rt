@@ -11,8 +11,8 @@ ghost use Rattle.lfs_calls.specs.Calls.{ChangesTo, IsCall, answered};
 ghost use Rattle.lfs_calls.specs.Volumes.{HasWorld};
 ghost use Rattle.lfs_calls.specs.Writes.{ChangesBytes};
 
-use crate::not_served::NotServed;
-use crate::tree::Tree;
+use crate::cached_store::CachedStore;
+use crate::call_fault::CallFault;
 use crate::walking::{Reached, depth, find};
 use lfs_checks::attributes::mode_after;
 use lfs_checks::bytes::{may_write, start_in};
@@ -26,12 +26,12 @@ use lfs_types::store::{Change, FileStore, Reserve, StoreRefusal};
 
 /// Puts bytes into a file.
 pub fn write<F: FileStore>(
-    store: &mut Tree<F>,
+    store: &mut CachedStore<F>,
     cred: &Cred,
     path: &Path,
     place: Place,
     bytes: &Payload,
-) -> Result<Served, NotServed>
+) -> Result<Served, CallFault>
     requires { HasWorld (F.state store.old) }
     ensures call { IsCall (F.state store.old) (F.state store.new) cred.now
         (Request.Write path.now place bytes.now) result }
@@ -50,7 +50,7 @@ pub fn write<F: FileStore>(
 
 /// Puts bytes into a file that may be written; a caller who isn't the superuser clears its set-id bits.
 fn put<F: FileStore>(
-    store: &mut Tree<F>,
+    store: &mut CachedStore<F>,
     cred: &Cred,
     file: &Reached,
     start: u64,

@@ -15,13 +15,13 @@ use Rattle.lfs_calls.proofs.directory.find_room.Goals as goal
 pub taken_room-requires-clause-free : goal.taken_room-requires-clause-free
 taken_room-requires-clause-free g c =
     let stored = bytes_of (g.F.FileStore.state c.args.store.now).content c.args.dir in
-    free_there stored c.args.taken c.args.name.now c.requires.stands
+    free_there stored c.args.taken c.args.listed.name.now c.requires.stands
     (ap (λ n. n % 512) (sym c.requires.stored.sized) ∙ c.requires.stored.whole) c.requires.blocks c.requires.free
 
 pub returns-in-Some-clause-room : goal.returns-in-Some-clause-room
 returns-in-Some-clause-room g c =
     let stored = bytes_of (g.F.FileStore.state c.args.store.now).content c.args.dir in
-    room_in stored c.args.taken c.first_to_try-first.result c.args.number c.args.name.now c.in-Some.room
+    room_in stored c.args.taken c.first_to_try-first.result c.args.listed.number c.args.listed.name.now c.in-Some.room
     c.requires.stands (ap (λ n. n % 512) (sym c.requires.stored.sized) ∙ c.requires.stored.whole)
     (omega (arith, c.requires.stored.sized, c.requires.bounded)) c.first_to_try-first.ensures
     c.in-Some.ensures
@@ -30,7 +30,7 @@ pub loop-k-init : goal.loop-k-init
 loop-k-init g c =
     let stored = bytes_of (g.F.FileStore.state c.args.store.now).content c.args.dir in
     record {
-      full = full_seen stored c.args.taken c.first_to_try-first.result (length c.args.name.now) c.requires.stands
+      full = full_seen stored c.args.taken c.first_to_try-first.result (length c.args.listed.name.now) c.requires.stands
           c.first_to_try-first.ensures c.in_default.ensures;
       state = refl;
     }
@@ -43,9 +43,9 @@ keep_hint-requires g c =
     c.requires.stored.whole in
     let within = c.loop-k-test.true in
     subst (λ x. IsFullBefore (with_block (bytes_of x c.args.dir) c.args.taken)
-    (record { block = c.loop-k.k; length = length c.args.name.now }))
+    (record { block = c.loop-k.k; length = length c.args.listed.name.now }))
     (sym (same_content (c.seen_block-block.ensures.state ∙ c.loop-k.invariant.state)))
-    (full_before (with_block stored c.args.taken) c.loop-k.k c.args.size (length c.args.name.now) size
+    (full_before (with_block stored c.args.taken) c.loop-k.k c.args.size (length c.args.listed.name.now) size
     (omega arith) c.loop-k.invariant.full)
 
 pub keep_hint-requires-2 : goal.keep_hint-requires-2
@@ -55,9 +55,9 @@ keep_hint-requires-2 g c =
     ≡ c.args.size = length-with_block stored c.args.taken c.args.size c.requires.stands c.requires.stored.sized
     c.requires.stored.whole in
     subst (λ x. IsFullBefore (with_block (bytes_of x c.args.dir) c.args.taken)
-    (record { block = c.args.size / 512; length = length c.args.name.now }))
+    (record { block = c.args.size / 512; length = length c.args.listed.name.now }))
     (sym (same_content c.loop-k.invariant.state))
-    (full_before (with_block stored c.args.taken) (c.args.size / 512) c.args.size (length c.args.name.now) size
+    (full_before (with_block stored c.args.taken) (c.args.size / 512) c.args.size (length c.args.listed.name.now) size
     (omega arith) (λ j before. c.loop-k.invariant.full j (omega (arith, before, c.loop-k-test.false))))
 
 pub added-requires-clause-new_name : goal.added-requires-clause-new_name
@@ -70,8 +70,8 @@ added-requires-clause-new_name g c =
     ∙ ap (λ x. block_at (with_block (bytes_of x c.args.dir) c.args.taken) c.loop-k.k)
     (same_content c.loop-k.invariant.state) in
     let within : c.loop-k.k < length bytes / 512 = subst (λ n. c.loop-k.k < n / 512) (sym size) c.loop-k-test.true in
-    ap (λ b. number_in c.args.name.now (entries_of b)) block
-    ∙ absent_in_block c.args.name.now bytes c.loop-k.k within c.requires.free
+    ap (λ b. number_in c.args.listed.name.now (entries_of b)) block
+    ∙ absent_in_block c.args.listed.name.now bytes c.loop-k.k within c.requires.free
 
 pub returns-clause-room : goal.returns-clause-room
 returns-clause-room g c =
@@ -89,7 +89,7 @@ returns-clause-room g c =
         block = subst (IsDirectoryBlock c.lone_entry-block.result)
             (sym c.lone_entry-block.ensures.listed) c.lone_entry-block.ensures.block;
         adds = c.lone_entry-block.ensures.listed
-            ∙ ap (λ es. es ++ (c.args.number, c.args.name.now) ∷ []) (sym (none_at_end bytes whole));
+            ∙ ap (λ es. es ++ (c.args.listed.number, c.args.listed.name.now) ∷ []) (sym (none_at_end bytes whole));
         first = λ j before. let within : j < c.args.size / 512 = subst (λ n. j < n / 512) size before in
             c.loop-k.invariant.full j (omega (arith, within, c.loop-k-test.false));
       },

@@ -1,12 +1,17 @@
-use Rattle.std.proofs.Common.{◌≡◌, map}
+use Rattle.std.proofs.Common.{◌≡◌, ◌-◌, ◌/◌, ◌≤◌, map}
 use Rattle.lfs_types.specs.Stored.{bytes_of}
 use Rattle.lfs_dirs.specs.Directory.{Entry}
 use Rattle.lfs_calls.specs.Content.{entries_below}
+use Rattle.lfs_calls.proofs.DirBlockLemmas.{AreStill}
 use Rattle.lfs_calls.proofs.directory.names_of_directory.Given as goal
 
-abbrev pub invariant-loop-k : goal.invariant-loop-k
-invariant-loop-k g l = record {
+abbrev pub invariant-loop-stored : goal.invariant-loop-stored
+invariant-loop-stored g l = record {
   names : l.names.items ≡ map (λ (e : Entry). e.1)
-      (entries_below (bytes_of (g.F.FileStore.state l.fn.store).content l.dir) l.k);
-  state : g.F.FileStore.state l.store ≡ g.F.FileStore.state l.fn.store;
+      (entries_below (bytes_of (g.F.FileStore.state l.fn.store).content l.dir) l.blocks.next);
+  within : l.blocks.next ≤ l.size / 512;
+  still : AreStill l.blocks (g.F.FileStore.state l.store) (g.F.FileStore.state l.fn.store) l.dir l.size;
 }
+
+abbrev pub decreases-loop-stored : goal.decreases-loop-stored
+decreases-loop-stored g l = l.size / 512 - l.blocks.next

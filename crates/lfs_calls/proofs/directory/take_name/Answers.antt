@@ -1,46 +1,33 @@
-use Rattle.std.proofs.Common.{sym, ap, subst, ◌∙◌, arith}
-use Rattle.lfs_calls.proofs.StateLemmas.{same_content}
-use Rattle.lfs_types.specs.Stored.{bytes_of}
+use Rattle.std.proofs.Common.{ap, arith}
 use Rattle.lfs_types.proofs.Somewhere.{there_of}
-use Rattle.lfs_dirs.specs.Directory.{number_in}
-use Rattle.lfs_dirs.specs.Reading.{entries_of}
-use Rattle.lfs_calls.specs.Content.{block_at}
-use Rattle.lfs_calls.specs.Removes.{IsTaking}
+use Rattle.lfs_calls.specs.declared.directory.DirBlocks.{DirBlocks}
+use Rattle.lfs_calls.proofs.DirBlockLemmas.{absent_behind, absent_to_end, blocks_still}
+use Rattle.lfs_calls.proofs.DirBlockLemmas.{still_behind, still_first, still_moved}
 use Rattle.lfs_calls.proofs.directory.take_name.Goals as goal
-use Rattle.lfs_calls.proofs.SearchLemmas.{absent_in_all, absent_passed}
 
-pub loop-k-init : goal.loop-k-init
-loop-k-init g c = record {
-  absent = λ j low.
-      ap (λ x. number_in c.args.name.now (entries_of (block_at (bytes_of x c.args.dir) j)))
-      (sym (same_content c.take_hinted.ensures.state)) ∙ c.next_block-k.ensures.absent j (omega arith) low;
-  state = c.take_hinted.ensures.state;
-}
+pub next_of-requires : goal.next_of-requires
+next_of-requires g c = blocks_still c.loop-stored.invariant.still c.requires.stored
 
-pub loop-k-preserved : goal.loop-k-preserved
-loop-k-preserved g c =
-    let bytes = bytes_of (g.F.FileStore.state c.args.store.now).content c.args.dir in
-    let same = same_content c.loop-k.invariant.state in
-    let state = c.take_from.ensures.state ∙ c.loop-k.invariant.state in
+pub loop-stored-init : goal.loop-stored-init
+loop-stored-init g c =
+    let first = ap (λ (b : DirBlocks). b.next) c.new-blocks.ensures in
     record {
-      absent = absent_passed c.args.name.now bytes c.loop-k.k c.next_block-k-in-loop-k.result c.loop-k.invariant.absent
-          (ap (λ x. number_in c.args.name.now (entries_of (block_at (bytes_of x c.args.dir) c.loop-k.k))) (sym same)
-          ∙ c.in_default-take_from.ensures.room)
-          (λ j past low. ap (λ x. number_in c.args.name.now (entries_of (block_at (bytes_of x c.args.dir) j)))
-          (sym (same_content state)) ∙ c.next_block-k-in-loop-k.ensures.absent j past low);
-      state = state;
+      absent = λ j low. absurd (omega (arith, low, first));
+      still = still_first c.new-blocks.ensures c.take_hinted.ensures.state;
     }
 
-pub returns-in-Some-take_from-clause-room : goal.returns-in-Some-take_from-clause-room
-returns-in-Some-take_from-clause-room g c = (
-  c.loop-k.k,
-  subst (λ x. IsTaking (bytes_of x c.args.dir) c.args.name.now c.in-Some-take_from.room c.loop-k.k)
-      (same_content c.loop-k.invariant.state) c.in-Some-take_from.ensures.room,
-)
+pub loop-stored-preserved : goal.loop-stored-preserved
+loop-stored-preserved g c =
+    let still = c.loop-stored.invariant.still in
+    let next = c.in-Some-next_of.ensures.next.1 in
+    record {
+      absent = absent_behind c.args.name.now still next c.in_default-removed.ensures.found c.loop-stored.invariant.absent;
+      still = still_behind (still_moved c.in-Some-next_of.ensures.next.0 still) next.next c.next_of.ensures.state;
+    }
 
 pub unreachable-requires : goal.unreachable-requires
 unreachable-requires g c =
-    let none = absent_in_all c.args.name.now (bytes_of (g.F.FileStore.state c.args.store.now).content c.args.dir)
-    c.args.size c.loop-k.k c.requires.stored.sized c.loop-k-test.false c.loop-k.invariant.absent in
+    let none = absent_to_end c.args.name.now c.loop-stored.invariant.still c.in_default-next_of.ensures.next
+    c.requires.stored.sized c.loop-stored.invariant.absent in
     let found = (there_of _ c.requires.listed).is in
     absurd (cc)

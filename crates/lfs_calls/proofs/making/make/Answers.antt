@@ -11,7 +11,7 @@ use Rattle.lfs_types.specs.Tree.{World, Content}
 use Rattle.lfs_model.specs.World.{IsTree}
 use Rattle.lfs_model.specs.Rules.{Judges, first_failing, last, making}
 use Rattle.lfs_calls.specs.Content.{Shows, FitsNowhere}
-use Rattle.lfs_calls.specs.declared.directory.Room.{Room}
+use Rattle.lfs_calls.specs.declared.directory.DirBlock.{DirBlock}
 use Rattle.lfs_calls.specs.Makes.{CanEnter, CanMake, IsParent, IsRoom, request_for}
 use Rattle.lfs_calls.specs.Names.{FindsNew}
 use Rattle.lfs_model.specs.Steps.{AllUsed}
@@ -71,7 +71,7 @@ numbered g c w v = not_all_used v.shows (parent g c w v)
     (g.F.FileStore.state c.args.store.now).shape.numbers c.in-Some.number (least g c)
 
 -- the room that was found, in the content before
-room_is : (g : _) (c : In-Some g) (room : Room) (n : ℕ)
+room_is : (g : _) (c : In-Some g) (room : DirBlock) (n : ℕ)
     → IsRoom (bytes_of (g.F.FileStore.state c.judge_make.new.store).content c.in_ok-dir.dir.number) c.in-Some.number
     c.last_name-name.result.now room n
     → IsRoom (bytes_of (before g c) c.in_ok-dir.dir.number) c.in-Some.number (last c.args.path.now) room n

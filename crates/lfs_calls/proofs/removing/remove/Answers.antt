@@ -1,7 +1,7 @@
 use Rattle.std.proofs.Common.{Err, Ok, sym, subst}
 use Rattle.std.proofs.lemmas.Result.{err_from_is_err_and}
 use Rattle.lfs_types.specs.declared.answer.Served.TheVariants.{Done}
-use Rattle.lfs_calls.specs.declared.not_served.NotServed.TheVariants.{Denied, Refused}
+use Rattle.lfs_calls.specs.declared.call_fault.CallFault.TheVariants.{Denied, Refused}
 use Rattle.lfs_types.specs.StoreStates.{StoreState}
 use Rattle.lfs_types.specs.declared.answer.Answer.TheVariants as answers
 use Rattle.lfs_model.specs.Effects.{effect}

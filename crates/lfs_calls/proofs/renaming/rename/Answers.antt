@@ -8,7 +8,7 @@ use Rattle.lfs_model.specs.Rules.{Judges, decide, last, rule_table}
 use Rattle.lfs_calls.specs.Calls.{IsCallAt, answered}
 use Rattle.lfs_calls.specs.Renames.{GoesWith, IsMove, PlacedAt, PlacesRow}
 use Rattle.lfs_calls.specs.Volumes.{IsVolume}
-use Rattle.lfs_calls.specs.declared.not_served.NotServed.{NotServed}
+use Rattle.lfs_calls.specs.declared.call_fault.CallFault.{CallFault}
 use Rattle.lfs_model.specs.Effects.{effect}
 use Rattle.lfs_calls.specs.Content.{Shows}
 use Rattle.lfs_calls.proofs.AskedLemmas.{asks_placed, on_asked}
@@ -57,7 +57,7 @@ short : (g : _) (c : After-last_name-new g) → length c.last_name-new.result.no
 short g c h = subst (λ (n : List ℕ). length n ≤ 255) (new_is g c) h
 
 -- what came of the row, by the state before
-placed_so : (g : _) (c : After-last_name-new g) (result : Result (Unit {0}) NotServed) (after : StoreState)
+placed_so : (g : _) (c : After-last_name-new g) (result : Result (Unit {0}) CallFault) (after : StoreState)
     → PlacesRow (g.F.FileStore.state c.judge_rename.new.store) c.in_ok-planned.planned c.last_name-old.result.now
     c.last_name-new.result.now c.in_ok-planned.planned.target result after
     → PlacesRow (before g c) c.in_ok-planned.planned (last c.args.from.now)

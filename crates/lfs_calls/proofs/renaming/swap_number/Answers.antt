@@ -42,14 +42,14 @@ swap_taken-requires-clause-block g c =
 
 pub returns-in-Some-clause-room : goal.returns-in-Some-clause-room
 returns-in-Some-clause-room g c =
-    swap_in (bytes_of (g.F.FileStore.state c.args.store.now).content c.args.dir) c.args.taken c.args.name.now
-    c.args.number c.in-Some.room c.requires.stands
+    swap_in (bytes_of (g.F.FileStore.state c.args.store.now).content c.args.dir) c.args.taken c.args.listed.name.now
+    c.args.listed.number c.in-Some.room c.requires.stands
     (ap (λ n. n % 512) (sym c.requires.stored.sized) ∙ c.requires.stored.whole) c.in-Some.ensures
 
 pub loop-k-init : goal.loop-k-init
 loop-k-init g c = record {
   absent = λ j low.
-      absent_seen (bytes_of (g.F.FileStore.state c.args.store.now).content c.args.dir) c.args.taken c.args.name.now
+      absent_seen (bytes_of (g.F.FileStore.state c.args.store.now).content c.args.dir) c.args.taken c.args.listed.name.now
       c.requires.stands c.in_default.ensures j (c.next_block-k.ensures.absent j (omega arith) low);
   taken = c.in_default.ensures;
   state = refl;
@@ -67,11 +67,11 @@ returns-then-is_some-clause-room g c =
       record {
         off = refl;
         within = within g k;
-        listed = subst (λ b. IsSome (number_in c.args.name.now (entries_of b))) (block_is g k)
+        listed = subst (λ b. IsSome (number_in c.args.listed.name.now (entries_of b))) (block_is g k)
             (subst IsSome c.find.ensures (some_there c.find.result (sym c.is_some.ensures ∙ c.if-is_some.true)));
         block = subst (IsDirectoryBlock c.replaced-block.result)
             (sym c.replaced-block.ensures.listed) c.replaced-block.ensures.block;
-        swaps = c.replaced-block.ensures.listed ∙ ap (λ b. renumbered c.args.name.now c.args.number (entries_of b))
+        swaps = c.replaced-block.ensures.listed ∙ ap (λ b. renumbered c.args.listed.name.now c.args.listed.number (entries_of b))
             (block_is g k);
       },
     )
@@ -82,12 +82,12 @@ loop-k-preserved g c =
     let stored = bytes_of (g.F.FileStore.state c.args.store.now).content c.args.dir in
     let state = c.seen_block-block.ensures.state ∙ c.loop-k.invariant.state in
     record {
-      absent = absent_passed c.args.name.now (bytes g k) c.loop-k.k c.next_block-k-in-loop-k.result
+      absent = absent_passed c.args.listed.name.now (bytes g k) c.loop-k.k c.next_block-k-in-loop-k.result
           c.loop-k.invariant.absent
-          (ap (λ b. number_in c.args.name.now (entries_of b)) (sym (block_is g k)) ∙ sym c.find.ensures
+          (ap (λ b. number_in c.args.listed.name.now (entries_of b)) (sym (block_is g k)) ∙ sym c.find.ensures
           ∙ not_some c.find.result (sym c.if-is_some.ensures))
-          (λ j past low. absent_seen stored c.args.taken c.args.name.now c.requires.stands c.loop-k.invariant.taken j
-          (ap (λ x. number_in c.args.name.now (entries_of (block_at (bytes_of x c.args.dir) j))) (sym (same_content state))
+          (λ j past low. absent_seen stored c.args.taken c.args.listed.name.now c.requires.stands c.loop-k.invariant.taken j
+          (ap (λ x. number_in c.args.listed.name.now (entries_of (block_at (bytes_of x c.args.dir) j))) (sym (same_content state))
           ∙ c.next_block-k-in-loop-k.ensures.absent j past low));
       taken = c.loop-k.invariant.taken;
       state = state;
@@ -99,7 +99,7 @@ unreachable-requires g c =
     let size : length (with_block stored c.args.taken)
     ≡ c.args.size = length-with_block stored c.args.taken c.args.size c.requires.stands c.requires.stored.sized
     c.requires.stored.whole in
-    let none = absent_in_all c.args.name.now (with_block stored c.args.taken) c.args.size c.loop-k.k (sym size)
+    let none = absent_in_all c.args.listed.name.now (with_block stored c.args.taken) c.args.size c.loop-k.k (sym size)
     c.loop-k-test.false c.loop-k.invariant.absent in
     let found = (there_of _ c.requires.listed).is in
     absurd (cc)

@@ -2,7 +2,7 @@
 
 ghost use Rattle.std.specs.Prelude.{◌≡◌};
 ghost use Rattle.lfs_calls.specs.Calls.{answered, resource_of};
-ghost use Rattle.lfs_calls.specs.declared.not_served.NotServed.TheVariants as reasons;
+ghost use Rattle.lfs_calls.specs.declared.call_fault.CallFault.TheVariants as reasons;
 
 use lfs_types::answer::{Answer, Resource, Served};
 use lfs_types::rule::Denial;
@@ -10,39 +10,39 @@ use lfs_types::store::StoreRefusal;
 
 /// Why a call is not served.
 #[derive(Clone, Copy, PartialEq, Eq, Debug)]
-pub enum NotServed {
+pub enum CallFault {
     /// A rule denies it.
     Denied(Denial),
     /// A resource ran out.
     Refused(Resource),
 }
 
-impl From<Denial> for NotServed {
+impl From<Denial> for CallFault {
     ghost from_gives = { λ denial why. why ≡ reasons.Denied denial };
 
-    fn from(denial: Denial) -> NotServed {
-        NotServed::Denied(denial)
+    fn from(denial: Denial) -> CallFault {
+        CallFault::Denied(denial)
     }
 }
 
-impl From<StoreRefusal> for NotServed {
+impl From<StoreRefusal> for CallFault {
     ghost from_gives = { λ refusal why. why ≡ reasons.Refused (resource_of refusal) };
 
-    fn from(refusal: StoreRefusal) -> NotServed {
+    fn from(refusal: StoreRefusal) -> CallFault {
         match refusal {
-            StoreRefusal::NoSpace => NotServed::Refused(Resource::NoSpace),
-            StoreRefusal::NoMemory => NotServed::Refused(Resource::NoMemory),
+            StoreRefusal::NoSpace => CallFault::Refused(Resource::NoSpace),
+            StoreRefusal::NoMemory => CallFault::Refused(Resource::NoMemory),
         }
     }
 }
 
 /// The answer to a call that came to this.
-pub fn answered(outcome: Result<Served, NotServed>) -> Answer
+pub fn answered(outcome: Result<Served, CallFault>) -> Answer
     ensures { result ≡ answered outcome }
 {
     match outcome {
         Ok(shown) => Answer::Served(shown),
-        Err(NotServed::Denied(denial)) => Answer::Denied(denial),
-        Err(NotServed::Refused(resource)) => Answer::Refused(resource),
+        Err(CallFault::Denied(denial)) => Answer::Denied(denial),
+        Err(CallFault::Refused(resource)) => Answer::Refused(resource),
     }
 }

@@ -1,7 +1,7 @@
 use Rattle.std.proofs.Common.{sym, subst}
 use Rattle.lfs_calls.specs.Names.{IsFound}
 use Rattle.lfs_calls.proofs.NameLemmas.{true_entered}
-use Rattle.lfs_calls.proofs.tree.Tree.enter.Goals as goal
+use Rattle.lfs_calls.proofs.cached_store.CachedStore.enter.Goals as goal
 
 pub invariant_of-self : goal.invariant_of-self
 invariant_of-self g c =

@@ -2,8 +2,8 @@ use Rattle.std.proofs.Common.{◌≡◌, ℕ, Option, None, Some, refl, sym, sub
 use Rattle.std.specs.Prelude.{IfSome}
 use Rattle.lfs_calls.specs.Names.{IsFound}
 use Rattle.lfs_calls.proofs.ListedNames.{is_found, number-child}
-use Rattle.lfs_calls.proofs.tree.Tree.known.Goals as goal
-use Rattle.lfs_calls.proofs.tree.Tree.known.Goals.{After-look}
+use Rattle.lfs_calls.proofs.cached_store.CachedStore.known.Goals as goal
+use Rattle.lfs_calls.proofs.cached_store.CachedStore.known.Goals.{After-look}
 
 if_some : (P : Option ℕ → Type 0) (o : Option (Option ℕ)) → ((found : Option ℕ) → o ≡ Some found → P found) → IfSome o P
 if_some P None h = tt

@@ -2,7 +2,7 @@ use Rattle.std.proofs.Common.{sym, subst}
 use Rattle.lfs_known.specs.Shown.{AreShown}
 use Rattle.lfs_known.specs.Full.{AreFull}
 use Rattle.lfs_known.specs.Spots.{ArePlacedIn}
-use Rattle.lfs_calls.proofs.tree.apply_followed.Goals as goal
+use Rattle.lfs_calls.proofs.cached_store.apply_followed.Goals as goal
 
 pub returns-clause-shown : goal.returns-clause-shown
 returns-clause-shown g c shown = subst (AreShown c.follow_attributes.new.cache) (sym c.in_ok-apply.ensures.applies.ok)

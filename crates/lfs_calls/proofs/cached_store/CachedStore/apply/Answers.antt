@@ -2,7 +2,7 @@ use Rattle.std.proofs.Common.{sym, subst}
 use Rattle.lfs_types.specs.Changes.{applied}
 use Rattle.lfs_calls.specs.Names.{AreTrue, KeepsNames}
 use Rattle.lfs_calls.proofs.NameLemmas.{after_changes, true_kept}
-use Rattle.lfs_calls.proofs.tree.Tree.apply.Goals as goal
+use Rattle.lfs_calls.proofs.cached_store.CachedStore.apply.Goals as goal
 
 pub invariant_of-self : goal.invariant_of-self
 invariant_of-self g c =

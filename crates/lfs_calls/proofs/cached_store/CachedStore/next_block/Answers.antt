@@ -1,6 +1,6 @@
 use Rattle.std.proofs.Common.{subst}
 use Rattle.lfs_known.specs.Spots.{ArePlaced, ArePlacedIn}
-use Rattle.lfs_calls.proofs.tree.Tree.next_block.Goals as goal
+use Rattle.lfs_calls.proofs.cached_store.CachedStore.next_block.Goals as goal
 
 pub returns-in-Some-clause-absent : goal.returns-in-Some-clause-absent
 returns-in-Some-clause-absent g c k past low =
