@@ -1,4 +1,7 @@
--- Lists of tests of which the same are asked.
+-- Lists of tests of which the same are asked: `append_same`, `test_same` and `step_same` for TableLemmas and
+-- TrailLemmas, `failing_asked` for `explain` and lfs_who. A test is asked only if all before it were met, so two lists
+-- need to be the same only that far: behind a test that isn't met they may differ (`behind_same`). The first test that
+-- fails is asked, so it is the first of those that are asked.
 use Rattle.std.proofs.Common.{◌≡◌, Bool, true, false, cond, List, [], ◌∷◌, ◌++◌, Some, refl, ap, ◌∙◌}
 use Rattle.lfs_types.specs.declared.rule.Denial.{Denial}
 use Rattle.lfs_model.specs.Rules.{Check, first_failing}

@@ -1,4 +1,5 @@
--- What a store has of the rows that names lead through.
+-- What a store has of the rows that names lead through: `trail_stored`, for `looking::trail`. Each row along some names
+-- from the root is a row of the tree (`each_used`), and a store that shows the tree has a file at each of its numbers.
 use Rattle.std.proofs.Common.{◌≡◌, ℕ, List, Some}
 use Rattle.std.specs.Prelude.{IsSome, slice_get}
 use Rattle.std.specs.FinMap as fin

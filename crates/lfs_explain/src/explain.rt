@@ -9,9 +9,9 @@ ghost use Rattle.lfs_explain.specs.Trails.{IsTrail, first_names, second_names};
 
 use crate::check::Check;
 use crate::looking::trail;
-use crate::telling::push_table;
+use crate::telling::{ToldCall, push_table};
 use crate::trail::Trail;
-use lfs_calls::tree::Tree;
+use lfs_calls::cached_store::CachedStore;
 use lfs_types::cred::Cred;
 use lfs_types::level::Level;
 use lfs_types::name::Name;
@@ -50,26 +50,31 @@ impl Explanation {
 /// lack a resource is not asked. An error where memory runs out.
 pub fn explain<F: FileStore>(
     alloc: Global,
-    tree: &mut Tree<F>,
+    store: &mut CachedStore<F>,
     level: Level,
     cred: &Cred,
     request: &Request,
 ) -> Result<Explanation, AllocError>
-    requires { HasWorld (F.state tree.old) }
-    ensures checks { IfOk result (λ explanation. InWorld (F.state tree.old) (λ w. w.level ≡ level →
+    requires { HasWorld (F.state store.old) }
+    ensures checks { IfOk result (λ explanation. InWorld (F.state store.old) (λ w. w.level ≡ level →
         explanation.checks.items ≡ asked (rule_table w cred.now request.now))) }
-    ensures verdict { IfOk result (λ explanation. InWorld (F.state tree.old) (λ w. w.level ≡ level →
+    ensures verdict { IfOk result (λ explanation. InWorld (F.state store.old) (λ w. w.level ≡ level →
         first_failing explanation.checks.items ≡ decide w cred.now request.now)) }
-    ensures first { IfOk result (λ explanation. InWorld (F.state tree.old) (λ w.
+    ensures first { IfOk result (λ explanation. InWorld (F.state store.old) (λ w.
         IsTrail w.rows (first_names request.now) explanation.first)) }
-    ensures second { IfOk result (λ explanation. InWorld (F.state tree.old) (λ w.
+    ensures second { IfOk result (λ explanation. InWorld (F.state store.old) (λ w.
         IsTrail w.rows (second_names request.now) explanation.second)) }
-    ensures state { F.state tree.new ≡ F.state tree.old }
+    ensures state { F.state store.new ≡ F.state store.old }
 {
-    let first = trail(alloc, tree, first_of(request))?;
-    let second = trail(alloc, tree, second_of(request))?;
+    let first = trail(alloc, store, first_of(request))?;
+    let second = trail(alloc, store, second_of(request))?;
     let mut checks = Vec::new(alloc);
-    push_table(&mut checks, level, cred, request, &first, &second)?;
+    let call = ToldCall {
+        level,
+        cred,
+        request,
+    };
+    push_table(&mut checks, call, &first, &second)?;
     let count = asked_count(&checks);
     checks.truncate(count);
     Ok(Explanation {

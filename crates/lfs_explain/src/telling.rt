@@ -20,21 +20,32 @@ use lfs_types::request::Request;
 use lfs_types::rule::Rule;
 use std::alloc::AllocError;
 
+/// A call whose checks are told.
+#[derive(Clone, Copy)]
+pub(crate) struct ToldCall<'a> {
+    /// The securelevel at which it is made.
+    pub(crate) level: Level,
+    /// Who makes it.
+    pub(crate) cred: &'a Cred,
+    /// What it asks for.
+    pub(crate) request: &'a Request,
+}
+
 /// Puts the checks of a call, whose paths lead through these rows, behind others.
 pub(crate) fn push_table(
     checks: &mut Vec<Check>,
-    level: Level,
-    cred: &Cred,
-    request: &Request,
+    call: ToldCall<'_>,
     first: &Trail,
     second: &Trail,
 ) -> Result<(), AllocError>
     requires short { first.now.names ≤ PATH_MAX }
     requires short_second { second.now.names ≤ PATH_MAX }
     ensures { OnOk result (asked checks.new.items ≡ asked (checks.old.items
-        ++ table_by level cred.now request.now (known_path first.now) (known_path second.now))) }
+        ++ table_by call.entry.level call.entry.cred.now call.entry.request.now
+        (known_path first.now) (known_path second.now))) }
 {
-    match request {
+    let cred = call.cred;
+    match call.request {
         Request::Create { .. } | Request::Mkdir { .. } => push_making(checks, cred, first),
         Request::Unlink { .. } => {
             push_removing(checks, cred, first)?;
@@ -56,9 +67,9 @@ pub(crate) fn push_table(
             push_arriving(checks, cred, second)?;
             push_moving(checks, cred, first, second)
         }
-        Request::SetLevel { level: new } => push(checks, &set_level(cred, level, *new)),
+        Request::SetLevel { level: new } => push(checks, &set_level(cred, call.level, *new)),
         Request::Sync => Ok(()),
-        _ => push_reaching(checks, level, cred, request, first),
+        _ => push_reaching(checks, call, first),
     }
 }
 
@@ -136,39 +147,30 @@ pub(crate) fn dir_of(path: &Trail) -> ShownRow
 /// Puts those of a call with one path to a file.
 fn push_reaching(
     checks: &mut Vec<Check>,
-    level: Level,
-    cred: &Cred,
-    request: &Request,
+    call: ToldCall<'_>,
     path: &Trail,
 ) -> Result<(), AllocError>
     requires { path.now.names ≤ PATH_MAX }
     ensures { OnOk result (asked checks.new.items ≡ asked (checks.old.items
-        ++ reaching_by cred.now (own_tests level cred.now request.now) (known_path path.now))) }
+        ++ reaching_by call.entry.cred.now (own_tests call.entry.level call.entry.cred.now call.entry.request.now)
+        (known_path path.now))) }
 {
-    push_trail(checks, cred, 0, path.names, &path.rows)?;
-    push_own(
-        checks,
-        level,
-        cred,
-        request,
-        &last_row(path).attrs,
-        path.names,
-    )
+    push_trail(checks, call.cred, 0, path.names, &path.rows)?;
+    push_own(checks, call, &last_row(path).attrs, path.names)
 }
 
 /// Puts those of the file, at component `at`, that a call with one path leads to.
 fn push_own(
     checks: &mut Vec<Check>,
-    level: Level,
-    cred: &Cred,
-    request: &Request,
+    call: ToldCall<'_>,
     file: &Attrs,
     at: u32,
 ) -> Result<(), AllocError>
     ensures { OnOk result (asked checks.new.items ≡ asked (checks.old.items
-        ++ own_tests level cred.now request.now file.now at)) }
+        ++ own_tests call.entry.level call.entry.cred.now call.entry.request.now file.now at)) }
 {
-    match request {
+    let cred = call.cred;
+    match call.request {
         Request::Read { .. } => push(checks, &testing::read(file, cred, at)),
         Request::List { .. } => push(checks, &testing::list(file, cred, at)),
         Request::Write { place, bytes, .. } => {
@@ -187,7 +189,10 @@ fn push_own(
         Request::Chown { uid, gid, .. } => {
             push(checks, &testing::chown(file, cred, *uid, *gid, at))
         }
-        Request::Chflags { flags, .. } => push(checks, &chflags(file, cred, level, *flags, at)),
+        Request::Chflags { flags, .. } => push(
+            checks,
+            &chflags(file, cred, call.level, *flags, at),
+        ),
         _ => Ok(()),
     }
 }

@@ -20,32 +20,49 @@ pub const CLEANER: u8 = 255;
 #[error("session {0} is not in the journal as it was answered")]
 pub struct Unsettled(pub u8);
 
+/// What the setup and the sessions asked, and what they were answered.
+#[derive(Clone, Copy)]
+pub struct Sessions<'a> {
+    /// The calls of the setup, each with its caller.
+    pub setup: &'a [(Cred, Request)],
+    /// The answers to the setup.
+    pub answers: &'a [Answer],
+    /// The script of each session, session 1's first.
+    pub scripts: &'a [Script],
+    /// The answers to each session's script, session 1's first.
+    pub transcripts: &'a [Vec<Answer>],
+}
+
 /// Whether the entries of a journal, of which there may be `limit`, begin with the setup as session 0, those of session k
 /// behind it are those of the k-th script, and all others are the cleaner's, session 255 as user 0. There is one
 /// answer to each call, and one transcript to each script; at most eight scripts.
 pub fn settle_entries(
     journal: &[Entry],
     limit: u32,
-    setup: &[(Cred, Request)],
-    answers: &[Answer],
-    scripts: &[Script],
-    transcripts: &[Vec<Answer>],
+    sessions: Sessions<'_>,
 ) -> Result<(), Unsettled>
-    requires { length scripts.now ≤ 8 }
+    requires { length sessions.scripts.now ≤ 8 }
     ensures { MatchResult result
         (λ _. IsInterleaving
-        (run_of journal.now limit setup.now answers.now scripts.now transcripts.now))
+        (run_of journal.now limit sessions.entry.setup.now sessions.entry.answers.now
+        sessions.entry.scripts.now sessions.entry.transcripts.now))
         (λ u. IsLowestToDiffer
-        (run_of journal.now limit setup.now answers.now scripts.now transcripts.now) u.0) }
+        (run_of journal.now limit sessions.entry.setup.now sessions.entry.answers.now
+        sessions.entry.scripts.now sessions.entry.transcripts.now) u.0) }
 {
     let is_full = journal.len() == limit as usize;
-    let Some(later) = after_setup(is_full, journal, setup, answers) else {
+    let Some(later) = after_setup(is_full, journal, sessions.setup, sessions.answers) else {
         return Err(Unsettled(0));
     };
-    if let Some(session) = differing_session(is_full, later, scripts, transcripts) {
+    if let Some(session) = differing_session(
+        is_full,
+        later,
+        sessions.scripts,
+        sessions.transcripts,
+    ) {
         return Err(Unsettled(session));
     }
-    if !are_known(scripts.len(), later) {
+    if !are_known(sessions.scripts.len(), later) {
         return Err(Unsettled(CLEANER));
     }
     Ok(())

@@ -26,8 +26,8 @@ use Rattle.lfs_calls.specs.Calls.{IsCall, IsCallAt, LooksOn, answered}
 use Rattle.lfs_calls.specs.Content.{Shows}
 use Rattle.lfs_calls.specs.Outcomes.{IsOutcome}
 use Rattle.lfs_calls.specs.Volumes.{IsVolume}
-use Rattle.lfs_calls.specs.declared.not_served.NotServed.{NotServed}
-use Rattle.lfs_calls.specs.declared.not_served.NotServed.TheVariants as reasons
+use Rattle.lfs_calls.specs.declared.call_fault.CallFault.{CallFault}
+use Rattle.lfs_calls.specs.declared.call_fault.CallFault.TheVariants as reasons
 use Rattle.lfs_flatfiles.specs.FlatFiles.{opening_state}
 use Rattle.lfs_flatfiles.specs.declared.flat_files.FlatFiles.{FlatFiles}
 use Rattle.lfs_types.specs.Tree.{opening_world}
@@ -43,42 +43,12 @@ use Rattle.lfs_model.proofs.RunLemmas.{opening_tree}
 use Rattle.lfs_volume.proofs.OpeningLemmas.{shows_opening_state}
 use Rattle.lfs_trace.specs.declared.fault.EntryFault.{EntryFault}
 use Rattle.lfs_trace.specs.declared.fault.EntryFault.TheVariants.{Illegal}
-use Rattle.lfs_trace.specs.Checking.{IsChecked, IsPlain, IsRowAt, MayShow, StandsAt, level_behind, plain_state}
+use Rattle.lfs_trace.specs.Checking.{IsChecked, IsPlain, IsRowAt, MayShow, StandsAt, plain_state}
+use Rattle.lfs_calls.specs.Levels.{level_left}
+use Rattle.lfs_calls.proofs.LevelLemmas.{served_level}
 use Rattle.lfs_trace.specs.Checking.{standing, superuser}
 use Rattle.lfs_trace.specs.Judging.{IsOfRules, OneAnswer}
 use Rattle.lfs_trace.proofs.Uncrowded.{uncrowded}
-
--- the securelevel behind a served call
-pub served_level : (numbers : ℕ) (w : World) (caller : Caller) (level : Level) (request : Request) (shown : Shown)
-    → w.level ≡ level
-    → (after_answer numbers w caller request (Served shown)).level ≡ level_behind level request
-served_level numbers w caller level (SetLevel new) shown e = refl
-served_level numbers w caller level (Stat path) shown e = level_after numbers w caller (Stat path) (Served shown) tt ∙ e
-served_level numbers w caller level (Read path off len) shown e =
-    level_after numbers w caller (Read path off len) (Served shown) tt ∙ e
-served_level numbers w caller level (Names path) shown e = level_after numbers w caller (Names path) (Served shown) tt
-    ∙ e
-served_level numbers w caller level (Write path place bytes) shown e =
-    level_after numbers w caller (Write path place bytes) (Served shown) tt ∙ e
-served_level numbers w caller level (SetLength path len) shown e =
-    level_after numbers w caller (SetLength path len) (Served shown) tt ∙ e
-served_level numbers w caller level (Create path mode) shown e =
-    level_after numbers w caller (Create path mode) (Served shown) tt ∙ e
-served_level numbers w caller level (Mkdir path mode) shown e =
-    level_after numbers w caller (Mkdir path mode) (Served shown) tt ∙ e
-served_level numbers w caller level (Unlink path) shown e = level_after numbers w caller (Unlink path) (Served shown) tt
-    ∙ e
-served_level numbers w caller level (Rmdir path) shown e = level_after numbers w caller (Rmdir path) (Served shown) tt
-    ∙ e
-served_level numbers w caller level (Rename from to) shown e =
-    level_after numbers w caller (Rename from to) (Served shown) tt ∙ e
-served_level numbers w caller level (Chmod path mode) shown e =
-    level_after numbers w caller (Chmod path mode) (Served shown) tt ∙ e
-served_level numbers w caller level (Chown path uid gid) shown e =
-    level_after numbers w caller (Chown path uid gid) (Served shown) tt ∙ e
-served_level numbers w caller level (Chflags path flags) shown e =
-    level_after numbers w caller (Chflags path flags) (Served shown) tt ∙ e
-served_level numbers w caller level Sync shown e = level_after numbers w caller Sync (Served shown) tt ∙ e
 
 -- a store shows the same worlds by the same content
 pub same_volume : (old new : StoreState) (w : World) → new.content ≡ old.content → IsVolume old w → IsVolume new w
@@ -132,7 +102,7 @@ unmade level old new caller (SetLevel new_level) given shown may other w v is lo
 unmade level old new caller Sync given shown may other w v is looks = absurd (other (is ∙ sym may))
 
 pub left_alone : (level : Level) (old new : StoreState) (caller : Caller) (request : Request)
-    (result : Result Shown NotServed) (shown : Shown) → MayShow request shown
+    (result : Result Shown CallFault) (shown : Shown) → MayShow request shown
     → answered result ≢ Served shown → IsCallAt level old new caller request result → (w : World) → w.level ≡ level
     → IsVolume old w → IsVolume new w
 left_alone level old new caller request (Ok given) shown may other call w at v =
@@ -144,7 +114,7 @@ left_alone level old new caller request (Err why) shown may other call w at v = 
 
 pub unserved_checked : OneAnswer → (old new : FlatFiles) (level : Level) (segments : ℕ) (caller : Caller)
     (request : Request) (made : Answer) (shown : Shown)
-    (fault : EntryFault) (result : Result Shown NotServed) → IsPlain (plain_state old) → MayShow request shown
+    (fault : EntryFault) (result : Result Shown CallFault) → IsPlain (plain_state old) → MayShow request shown
     → IsCallAt level (plain_state old) (plain_state new) caller request result → made ≡ answered result
     → made ≢ Served shown
     → (fault ≡ Illegal → made ≢ Refused NoMemory)
@@ -168,9 +138,9 @@ unserved_checked one old new level segments caller request made shown fault resu
 
 pub served_checked : (old new : FlatFiles) (level after : Level) (segments : ℕ) (caller : Caller) (request : Request)
     (made : Answer) (shown : Shown)
-    (result : Result Shown NotServed) → IsCallAt level (plain_state old) (plain_state new) caller request result → made
+    (result : Result Shown CallFault) → IsCallAt level (plain_state old) (plain_state new) caller request result → made
     ≡ answered result → made ≡ Served shown
-    → after ≡ level_behind level request
+    → after ≡ level_left level request (answered result)
     → IsChecked (standing old level segments) (standing new after segments) caller (User request (Served shown)) (Ok tt)
 served_checked old new level after segments caller request made shown result call same served sets =
     let is : answered result ≡ Served shown = sym same ∙ served in
@@ -180,7 +150,8 @@ served_checked old new level after segments caller request made shown result cal
       leads = λ w at. record {
         shown = subst (λ a. IsVolume (plain_state new) (after_answer numbers w caller request a)) is
             (call.leaves w at.shown);
-        at_level = served_level numbers w caller level request shown at.at_level ∙ sym sets;
+        at_level = served_level numbers w caller level request shown at.at_level
+            ∙ sym (sets ∙ ap (level_left level request) is);
       };
       illegal = λ no. absurd (cc);
       stays = tt;
@@ -211,7 +182,7 @@ opening_stands store numbers segments same = record {
   at_level = refl;
 }
 
-unrow : (s : StoreState) (w : World) (caller : Caller) (path : List (List ℕ)) (result : Result Shown NotServed)
+unrow : (s : StoreState) (w : World) (caller : Caller) (path : List (List ℕ)) (result : Result Shown CallFault)
     → IsOutcome s w caller (Stat path) (answered result)
     → ((number : ℕ) (attrs : Attrs) → ¬ (result ≡ Ok (shows.Stat number attrs)))
     → ¬ (decide w caller (Stat path) ≡ None)
@@ -223,7 +194,7 @@ unrow s w caller path (Err (reasons.Refused NoInodes)) o none allowed = absurd o
 unrow s w caller path (Err (reasons.Refused DirectoryFull)) o none allowed = absurd o.1
 unrow s w caller path (Err (reasons.Refused JournalFull)) o none allowed = absurd o
 
-pub row_at : (s new : StoreState) (w : World) (caller : Caller) (path : List (List ℕ)) (result : Result Shown NotServed)
+pub row_at : (s new : StoreState) (w : World) (caller : Caller) (path : List (List ℕ)) (result : Result Shown CallFault)
     (row : Option ShownRow)
     → IsVolume s w → IsCall s new caller (Stat path) result → caller ≡ superuser
     → MatchOption row ((number : ℕ) (attrs : Attrs) → ¬ (result ≡ Ok (shows.Stat number attrs))) (λ row. result

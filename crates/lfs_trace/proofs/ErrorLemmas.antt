@@ -1,4 +1,6 @@
--- What is compared of denials.
+-- What is compared of denials, and a legal list with one entry more: `legal_as-append`, for AuditLemmas of
+-- lfs_auditing. An entry is legal in the world to which those before it lead, whether denials are compared whole or by
+-- their errors.
 use Rattle.std.proofs.Common.{ℕ, List, [], ◌∷◌, ◌++◌}
 use Rattle.lfs_types.specs.Tree.{World}
 use Rattle.lfs_model.specs.declared.journal.Entry.{Entry}

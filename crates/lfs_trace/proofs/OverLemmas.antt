@@ -1,4 +1,7 @@
--- A checker that begins at the tree that a store shows.
+-- A checker that begins at the tree that a store shows: `can_copy`, `over_stands` and `relevelled`, for
+-- `Checker::over`. A plain store can have a content whose numbers it has, whose files lie at the root's number or from
+-- 4 on, and whose root is a directory; all that is so of a content that shows a tree, since each file has a row. Which
+-- tree is shown doesn't depend on the securelevel, so the checker may stand at any.
 use Rattle.std.proofs.Common.{◌≡◌, ◌≢◌, ℕ, ◌<◌, ◌≤◌, Option, None, Some, refl, sym, ap, subst, ◌∙◌}
 use Rattle.std.specs.Prelude.{IsSome, option_map}
 use Rattle.std.specs.FinMap as map

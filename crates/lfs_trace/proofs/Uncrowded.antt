@@ -1,4 +1,6 @@
--- A plain store has fewer numbers than a file may have blocks, so that no directory of its tree is crowded.
+-- A plain store has fewer numbers than a file may have blocks, so that no directory of its tree is crowded:
+-- `uncrowded`, for CheckLemmas. The rows that hang in a directory have different numbers, all of them numbers of the
+-- store, so there are no more of them than it has numbers (`few_children`).
 use Rattle.std.proofs.Common.{◌≤◌, ℕ, length, get_or, arith}
 use Rattle.std.proofs.lemmas.List.Elements.{Contains-get_or}
 use Rattle.std.proofs.lemmas.Map.Views.{length-le_from_below}

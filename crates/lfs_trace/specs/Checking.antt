@@ -12,7 +12,7 @@ use Rattle.lfs_types.specs.declared.answer.Served.TheVariants.{Done}
 use Rattle.lfs_types.specs.declared.answer.Served.TheVariants as Shows
 use Rattle.lfs_types.specs.declared.level.Level.{Level}
 use Rattle.lfs_types.specs.declared.request.Request.{Request}
-use Rattle.lfs_types.specs.declared.request.Request.TheVariants.{Stat, Read, List as Names, SetLevel}
+use Rattle.lfs_types.specs.declared.request.Request.TheVariants.{Stat, Read, List as Names}
 use Rattle.lfs_model.specs.declared.journal.Entry.{Entry}
 use Rattle.lfs_model.specs.declared.journal.Event.{Event}
 use Rattle.lfs_model.specs.Effects.{answer_of}
@@ -101,11 +101,6 @@ MayShow (Stat path) shown = Unit {0}
 MayShow (Read path off len) shown = Unit {0}
 MayShow (Names path) shown = Unit {0}
 MayShow request shown = shown ≡ Done
-
--- the securelevel that a served call leaves
-abbrev pub level_behind : Level → Request → Level
-level_behind level (SetLevel new) = new
-level_behind level request = level
 
 -- the first entry that isn't legal has this index: those before it are, and with it they aren't
 pub record IsFirstIllegal (numbers segments : ℕ) (entries : List Entry) (at : ℕ) : Type 0 where

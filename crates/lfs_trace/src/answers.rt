@@ -19,9 +19,9 @@ pub fn is_as_made(made: &Entry, told: &Entry) -> bool
     }
 }
 
-/// Whether a call may be refused for this resource: for want of space where the rules allow it, it may change files, and it
-/// has a number where it wants one; for want of a number where none is left. No directory is full, as it has fewer names
-/// than blocks, and what leaves no entry is never told.
+/// Whether a call may be refused for this resource: for want of space where the rules allow it, it may change files,
+/// and it has a number where it wants one; for want of a number where none is left. No directory is full, as it has
+/// fewer names than blocks, and what leaves no entry is never told.
 pub fn may_be_refused(
     request: &Request,
     is_allowed: bool,

@@ -9,7 +9,7 @@ ghost use Rattle.lfs_model.specs.Steps.{AllUsed, LacksInodes};
 ghost use Rattle.lfs_calls.specs.Volumes.{HasWorld, InWorld};
 ghost use Rattle.lfs_explain.specs.Asked.{asked};
 ghost use Rattle.lfs_explain.specs.Trails.{IsTrail, first_names, second_names};
-ghost use Rattle.lfs_trace.specs.Checking.{IsChecked, IsLooking, IsPlain, IsRowAt, IsRuled, IsSameStanding, MayShow, StandsAt, level_behind, numbers_of, plain_state, standing};
+ghost use Rattle.lfs_trace.specs.Checking.{IsChecked, IsLooking, IsPlain, IsRowAt, IsRuled, IsSameStanding, MayShow, StandsAt, numbers_of, plain_state, standing};
 ghost use Rattle.lfs_types.specs.declared.attrs.Attrs.{Attrs};
 ghost use Rattle.lfs_who.specs.Who.{IsWho};
 ghost use Rattle.lfs_who.specs.WhoText.{IsWhoTold};
@@ -18,10 +18,10 @@ use crate::answers::{may_be_refused, one_answer, wants_number};
 use crate::cleaning::is_cleaning;
 use crate::copying::copy_of;
 use crate::fault::EntryFault;
-use lfs_calls::not_served::{NotServed, answered};
+use lfs_calls::cached_store::CachedStore;
+use lfs_calls::call_fault::{CallFault, answered};
 use lfs_calls::reading::stat;
 use lfs_calls::serving::serve;
-use lfs_calls::tree::Tree;
 use lfs_explain::explain::{Explanation, explain};
 use lfs_explain::trail::ShownRow;
 use lfs_flatfiles::flat_files::FlatFiles;
@@ -40,12 +40,12 @@ use lfs_who::who::{Who, who_could};
 use std::alloc::{AllocError, Global};
 use std::marker::Model;
 
-/// A checker of a trace: a plain store and a securelevel, which are those that the entries so far lead to from the tree of
-/// a fresh volume. Its memory is that of the tree, however many entries it is shown.
+/// A checker of a trace: a plain store and a securelevel, which are those that the entries so far lead to from the tree
+/// of a fresh volume. Its memory is that of the tree, however many entries it is shown.
 #[derive(Drop)]
 pub struct Checker {
     alloc: Global,
-    tree: Tree<FlatFiles>,
+    store: CachedStore<FlatFiles>,
     level: Level,
     numbers: u32,
     segments: u32,
@@ -58,15 +58,15 @@ impl Model for Checker {
 
     ghost Value = { Standing };
 
-    ghost view = { λ c. record { store = c.tree; level = c.level; segments = c.segments } };
+    ghost view = { λ c. record { store = c.store; level = c.level; segments = c.segments } };
 
-    ghost invariant = { λ c. (c.numbers ≡ vec_len c.tree.places) × (w : World)
-        × StandsAt (record { store = c.tree; level = c.level; segments = c.segments }) w };
+    ghost invariant = { λ c. (c.numbers ≡ vec_len c.store.places) × (w : World)
+        × StandsAt (record { store = c.store; level = c.level; segments = c.segments }) w };
 }
 
 impl Checker {
-    /// A checker of the trace of a volume with so many inode numbers, 16 to 4,096, and segments. It stands at the tree of a
-    /// fresh volume.
+    /// A checker of the trace of a volume with so many inode numbers, 16 to 4,096, and segments. It stands at the tree
+    /// of a fresh volume.
     pub fn new(alloc: Global, numbers: u32, segments: u32) -> Result<Checker, FormatFault>
         ensures opening { IfOk result (λ checker. StandsAt checker opening_world) }
         ensures numbers { IfOk result (λ checker. numbers_of checker ≡ numbers) }
@@ -75,18 +75,18 @@ impl Checker {
         ensures too_many { IsErrOf result FormatFault.TooMany ↔ (most_inodes < numbers) }
     {
         let files = FlatFiles::new(alloc, numbers)?;
-        let tree = Tree::new(alloc, files)?;
+        let store = CachedStore::new(alloc, files)?;
         Ok(Checker {
             alloc,
-            tree,
+            store,
             level: Level::Insecure,
             numbers,
             segments,
         })
     }
 
-    /// A checker of the trace that a volume with so many inode numbers and segments goes on with, at this securelevel, from
-    /// the tree that its store shows. It stands there, over a copy of what the store contains.
+    /// A checker of the trace that a volume with so many inode numbers and segments goes on with, at this securelevel,
+    /// from the tree that its store shows. It stands there, over a copy of what the store contains.
     pub fn over<F: FileStore>(
         alloc: Global,
         store: &mut F,
@@ -103,10 +103,10 @@ impl Checker {
         ensures state { F.state store.new ≡ F.state store.old }
     {
         let files = copy_of(alloc, store, numbers)?;
-        let tree = Tree::new(alloc, files)?;
+        let cached = CachedStore::new(alloc, files)?;
         Ok(Checker {
             alloc,
-            tree,
+            store: cached,
             level,
             numbers,
             segments,
@@ -157,7 +157,7 @@ impl Checker {
         if !may_show(request, shown) {
             return Err(EntryFault::Illegal);
         }
-        make(self.alloc, &mut self.tree, &mut self.level, entry, request)
+        make(&mut self.store, &mut self.level, entry, request)
     }
 
     /// Checks that a call was denied so.
@@ -179,8 +179,8 @@ impl Checker {
         ensures { IsChecked self.old self.new
             cred.now (Event.User request.now (Answer.Refused resource)) result }
     {
-        is_plain(&self.tree);
-        let is_number_left = is_number_left(&self.tree);
+        is_plain(&self.store);
+        let is_number_left = is_number_left(&self.store);
         let is_allowed = self.explain(cred, request)?.verdict().is_none();
         legal_if(may_be_refused(request, is_allowed, is_number_left, resource))
     }
@@ -197,7 +197,7 @@ impl Checker {
             → IsTrail w.rows (second_names request.now) explanation.second) }
         ensures same { IsSameStanding self.old self.new }
     {
-        explain(self.alloc, &mut self.tree, self.level, cred, request)
+        explain(self.alloc, &mut self.store, self.level, cred, request)
     }
 
     /// What the rules answer to a call where the checker stands, without making it.
@@ -219,7 +219,7 @@ impl Checker {
             → IsRuled (numbers_of self.old) w cred.now request.now answer) }
         ensures same { IsSameStanding self.old self.new }
     {
-        if lacks_number(request, &self.tree) {
+        if lacks_number(request, &self.store) {
             return Ok(Answer::Refused(Resource::NoInodes));
         }
         if is_looking(request) {
@@ -235,8 +235,10 @@ impl Checker {
             → IsRuled (numbers_of self.old) w cred.now request.now answer) }
         ensures same { IsSameStanding self.old self.new }
     {
-        is_plain(&self.tree);
-        enough(answered(serve(self.alloc, &mut self.tree, self.level, cred, request)))
+        is_plain(&self.store);
+        // A call that looks sets none.
+        let mut level = self.level;
+        enough(answered(serve(&mut self.store, &mut level, cred, request)))
     }
 
     /// What a path leads to where the checker stands, whoever may search it.
@@ -248,7 +250,7 @@ impl Checker {
             // Never: one group is no more than 16.
             unreachable!()
         };
-        row_of(&stat(&mut self.tree, &superuser, path))
+        row_of(&stat(&mut self.store, &superuser, path))
     }
 
     /// Who could act by a path where the checker stands, over all callers.
@@ -257,7 +259,7 @@ impl Checker {
             → IsWho w act path.now who) }
         ensures same { IsSameStanding self.old self.new }
     {
-        who_could(self.alloc, &mut self.tree, self.level, act, path)
+        who_could(self.alloc, &mut self.store, self.level, act, path)
     }
 
     /// Who could make a call where the checker stands, over all callers, as lines of text.
@@ -266,19 +268,19 @@ impl Checker {
             → IsWhoTold w request.now text.items) }
         ensures same { IsSameStanding self.old self.new }
     {
-        tell_who(self.alloc, &mut self.tree, self.level, request)
+        tell_who(self.alloc, &mut self.store, self.level, request)
     }
 
     /// Whether a number has a file where the checker stands.
     pub fn is_used(&self, number: u32) -> bool
         ensures { (w : World) → StandsAt self.now w → result ≡ is_some (map.get w.rows number) }
     {
-        self.tree.attrs(number).is_some()
+        self.store.attrs(number).is_some()
     }
 }
 
 /// The row that a Stat tells.
-fn row_of(stat: &Result<Served, NotServed>) -> Option<ShownRow>
+fn row_of(stat: &Result<Served, CallFault>) -> Option<ShownRow>
     ensures { MatchOption result
         ((number : ℕ) (attrs : Attrs) → ¬ (stat.now ≡ Ok (Served.Stat number attrs)))
         (λ row. stat.now ≡ Ok (Served.Stat row.number row.attrs)) }
@@ -303,35 +305,35 @@ pub(crate) fn legal_if(is_legal: bool) -> Result<(), EntryFault>
     }
 }
 
-/// Makes the call of an entry on a store at a securelevel, and sets that where the call does, if it is served and shows what
-/// the entry tells. Else the store shows what it showed.
+/// Makes the call of an entry on a store at a securelevel, and sets that where the call does, if it is served and shows
+/// what the entry tells. Else the store shows what it showed.
 fn make(
-    alloc: Global,
-    tree: &mut Tree<FlatFiles>,
+    store: &mut CachedStore<FlatFiles>,
     level: &mut Level,
     entry: &Entry,
     request: &Request,
 ) -> Result<(), EntryFault>
-    requires world { HasWorld (plain_state tree.old) }
+    requires world { HasWorld (plain_state store.old) }
     ensures { (segments : ℕ) (shown : Served) → MayShow request.now shown
         → entry.now.event ≡ Event.User request.now (Answer.Served shown)
-        → IsChecked (standing tree.old level.old segments) (standing tree.new level.new segments)
+        → IsChecked (standing store.old level.old segments) (standing store.new level.new segments)
         entry.now.cred (Event.User request.now (Answer.Served shown)) result }
 {
-    is_plain(tree);
+    is_plain(store);
     one_answer();
-    let made = answered(serve(alloc, tree, *level, &entry.cred, request));
+    let mut left = *level;
+    let made = answered(serve(store, &mut left, &entry.cred, request));
     match legal_as(entry, request, &made) {
         Ok(()) => {
-            *level = level_behind(*level, request);
+            *level = left;
             Ok(())
         }
         Err(fault) => Err(fault),
     }
 }
 
-/// Whether the answer that the rules gave to the call of an entry is the one that the entry tells, which is that the call is
-/// served; nothing is said where memory was wanting.
+/// Whether the answer that the rules gave to the call of an entry is the one that the entry tells, which is that the
+/// call is served; nothing is said where memory was wanting.
 fn legal_as(entry: &Entry, request: &Request, made: &Answer) -> Result<(), EntryFault>
     ensures { (shown : Served) → entry.now.event ≡ Event.User request.now (Answer.Served shown)
         → MatchResult result
@@ -375,38 +377,28 @@ fn is_looking(request: &Request) -> bool
     )
 }
 
-/// The securelevel that a served call leaves.
-fn level_behind(level: Level, request: &Request) -> Level
-    ensures { result ≡ level_behind level request.now }
-{
-    match request {
-        Request::SetLevel { level: new } => *new,
-        _ => level,
-    }
-}
-
 /// Whether a call wants an inode number, and none is left.
-fn lacks_number(request: &Request, tree: &Tree<FlatFiles>) -> bool
-    ensures { InWorld (plain_state tree.now) (λ w. IsTrue result
-        ↔ LacksInodes (plain_state tree.now).shape.numbers w request.now) }
+fn lacks_number(request: &Request, store: &CachedStore<FlatFiles>) -> bool
+    ensures { InWorld (plain_state store.now) (λ w. IsTrue result
+        ↔ LacksInodes (plain_state store.now).shape.numbers w request.now) }
 {
-    wants_number(request) && !is_number_left(tree)
+    wants_number(request) && !is_number_left(store)
 }
 
 /// Whether an inode number is left.
-fn is_number_left(tree: &Tree<FlatFiles>) -> bool
-    ensures left { InWorld (plain_state tree.now) (λ w. IsTrue result
-        → ¬ (AllUsed (plain_state tree.now).shape.numbers w.rows)) }
-    ensures none { InWorld (plain_state tree.now) (λ w. IsFalse result
-        → AllUsed (plain_state tree.now).shape.numbers w.rows) }
+fn is_number_left(store: &CachedStore<FlatFiles>) -> bool
+    ensures left { InWorld (plain_state store.now) (λ w. IsTrue result
+        → ¬ (AllUsed (plain_state store.now).shape.numbers w.rows)) }
+    ensures none { InWorld (plain_state store.now) (λ w. IsFalse result
+        → AllUsed (plain_state store.now).shape.numbers w.rows) }
 {
-    tree.store().least_free().is_some()
+    store.store().least_free().is_some()
 }
 
 /// A plain store has few numbers and much room.
-fn is_plain(tree: &Tree<FlatFiles>)
-    ensures { IsPlain (plain_state tree.now) }
+fn is_plain(store: &CachedStore<FlatFiles>)
+    ensures { IsPlain (plain_state store.now) }
 {
     // Its type keeps what is said of it.
-    let _tree = tree;
+    let _store = store;
 }

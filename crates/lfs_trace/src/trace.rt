@@ -10,12 +10,13 @@ use crate::fault::{EntryFault, TraceFault};
 use lfs_model::journal::Entry;
 use std::alloc::Global;
 
-/// Checks that entries are a legal run from the tree of a fresh volume with so many inode numbers, 16 to 4,096, and segments.
+/// Checks that entries are a legal run from the tree of a fresh volume with so many inode numbers, 16 to 4,096, and
+/// segments.
 ///
 /// # Errors
 ///
-/// `Illegal` with the index of the first entry that the rules don't allow behind those before it; `Volume` where there is no
-/// such volume, or no memory for one; `Memory`.
+/// `Illegal` with the index of the first entry that the rules don't allow behind those before it; `Volume` where there
+/// is no such volume, or no memory for one; `Memory`.
 pub fn check_trace(
     alloc: Global,
     numbers: u32,

@@ -1,4 +1,7 @@
--- A walk that read all that it reached.
+-- A walk that read all that it reached: `has_world` and `left_out`, for `check_tree`. When nothing is left to be read,
+-- each directory that was reached lists all its rows, so whatever names lead to was reached, by induction on the way
+-- (`leads_there`). If all files were reached, the rows that were made are a tree that the store shows (`same_file`: a
+-- number has a file and a row, or neither); else a file is left that no names lead to, which is the fault.
 use Rattle.std.proofs.Common.{◌≡◌, ℕ, true, false, List, [], Option, None, Some, refl, sym, ap, subst, ◌∙◌}
 use Rattle.std.specs.Prelude.{IsSome, is_some, option_map}
 use Rattle.std.specs.FinMap as map

@@ -1,4 +1,7 @@
--- What the attributes of a number say of its file.
+-- What the attributes of a number say of its file: `attrs_here` and `stands_here` for `check_files`, `has_whole` for
+-- `blocks_of`. Attributes are shown of a stored file alone, and have its kind and the number of its bytes as their size
+-- (`file_of_attrs`). So where attributes may stand at a number, its file may; and a directory among files that may
+-- stand has whole blocks, as many as its size has, and no more than a file may have.
 use Rattle.std.proofs.Common.{◌≡◌, ◌≤◌, ◌/◌, ◌%◌, ℕ, true, length, Option, None, Some, refl, sym, ap, subst, ◌∙◌}
 use Rattle.std.specs.Prelude.{option_map}
 use Rattle.std.specs.FinMap as map

@@ -1,4 +1,7 @@
--- Entries of a directory, one after another.
+-- Entries of a directory, one after another: `below_further`, `by_block` and `none_at_first` for the loops over a
+-- directory's blocks, `again_twice` for Refuting, `found_behind`, `other_behind` and `named_behind` for Entering and
+-- Parts. A search takes the first entry with the name; so an entry behind others is found if none of them has its name,
+-- and changes nothing for any other name. A list in which names differ has no entry whose name stood before.
 use Rattle.std.proofs.Common.{◌≡◌, ℕ, ◌+◌, ◌/◌, ◌%◌, ◌<◌, Bool, true, false, List, [], ◌∷◌, ◌++◌, length, replicate}
 use Rattle.std.proofs.Common.{None, Some, refl, sym, ap, subst, ◌∙◌, ⊎_elim, arith, add-one}
 use Rattle.std.specs.Prelude.{is_some, bytes_eq, ◌||◌}

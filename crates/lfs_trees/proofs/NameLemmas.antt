@@ -1,4 +1,7 @@
--- A set of names with one more.
+-- A set of names with one more: `contained` and `with_key`, for `Names::insert`. The set is a list in order, and the
+-- order's test says equal just where the bytes are. So whether some name is there is a disjunction over the list, and a
+-- key that is put into its place adds its own test to that, wherever the place is (`swapped`); a key that takes the
+-- place of an equal one has the same test (`doubled`).
 use Rattle.std.proofs.Common.{◌≡◌, ℕ, Bool, true, false, List, [], ◌∷◌, Ordering, refl, sym, ap, ◌∙◌, ⊎_elim}
 use Rattle.std.specs.Prelude.{◌||◌, bytes_eq}
 use Rattle.std.specs.BTreeSet.{insert_key}

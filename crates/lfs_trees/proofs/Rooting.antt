@@ -1,4 +1,7 @@
--- A walk that reached the root alone.
+-- A walk that reached the root alone: `reaches_root`, for Stepping. One row, the root's, is a tree, if its file is a
+-- directory: it has no parent but itself, no name and no bytes that users see, and nothing hangs anywhere
+-- (`childless`). Of such a walk nothing was read yet, so it claims no directory's listing, and each name is still to
+-- come.
 use Rattle.std.proofs.Common.{◌≡◌, ℕ, zero, false, List, [], ◌∷◌, None, Some, refl, sym, ap, subst, ◌∙◌, ⊎_elim}
 use Rattle.std.specs.Prelude.{◌||◌, IsSomeAnd, is_some}
 use Rattle.std.proofs.lemmas.Bool.{cases_eq, ne_eqb}

@@ -13,9 +13,9 @@ use crate::walk::Walk;
 use lfs_types::store::FileStore;
 use std::alloc::Global;
 
-/// Ok where what a store contains shows a tree, and otherwise what is wrong. Each number in use is below `numbers`, as in
-/// every store of so many. It reads each block of each directory once at most, and takes memory for the numbers and for
-/// the names of one directory; Memory says that there was none, and nothing of the store.
+/// Ok where what a store contains shows a tree, and otherwise what is wrong. Each number in use is below `numbers`, as
+/// in every store of so many. It reads each block of each directory once at most, and takes memory for the numbers and
+/// for the names of one directory; Memory says that there was none, and nothing of the store.
 pub fn check_tree<F: FileStore>(alloc: Global, store: &mut F, numbers: u32) -> Result<(), TreeFault>
     requires { IsBelow numbers (F.state store.old).content }
     ensures ok { OnOk result (HasWorld (F.state store.new)) }

@@ -60,7 +60,8 @@ pub enum TreeFault {
         /// The number.
         number: u32,
     },
-    /// A number is in use, and no names lead to it: no directory lists it, or only one that no names lead to, as on a cycle.
+    /// A number is in use, and no names lead to it: no directory lists it, or only one that no names lead to, as on a
+    /// cycle.
     #[error("number {number} is in use, and no names lead to it")]
     Unreached {
         /// The number.

@@ -20,6 +20,28 @@ use lfs_types::limits::ROOT_INODE;
 use lfs_types::store::FileStore;
 use std::alloc::Global;
 
+/// A block of a directory.
+#[derive(Clone, Copy)]
+struct DirectoryBlock {
+    /// The directory's number.
+    directory: u32,
+    /// How many blocks the directory has.
+    blocks: u64,
+    /// Which of them it is, counted from 0.
+    index: u64,
+}
+
+/// An entry of a directory.
+#[derive(Clone, Copy)]
+struct Listed<'a> {
+    /// The directory's number.
+    directory: u32,
+    /// The number that the entry lists.
+    number: u32,
+    /// The name under which it does.
+    name: &'a [u8],
+}
+
 /// Walks from the root along all names.
 pub(crate) fn reach_all<F: FileStore>(
     alloc: Global,
@@ -99,56 +121,72 @@ fn read_directory<F: FileStore>(
 {
     let mut names = Names::new(alloc);
     for index in 0..blocks {
-        read_block(alloc, store, walk, &mut names, directory, blocks, index)?;
+        let place = DirectoryBlock {
+            directory,
+            blocks,
+            index,
+        };
+        read_block(alloc, store, walk, &mut names, place)?;
     }
     Ok(())
 }
 
-/// Reads a block of a directory, which has so many of them.
+/// Reads a block of a directory.
 fn read_block<F: FileStore>(
     alloc: Global,
     store: &mut F,
     walk: &mut Walk,
     names: &mut Names,
-    directory: u32,
-    blocks: u64,
-    index: u64,
+    place: DirectoryBlock,
 ) -> Result<(), TreeFault>
-    requires whole { HasWhole (F.state store.old).content directory blocks }
-    requires within { index < blocks }
-    requires reading { IsReading (F.state store.old).content walk.old walk.old directory
-        (entries_below (bytes_of (F.state store.old).content directory) index) }
+    requires whole { HasWhole (F.state store.old).content place.directory place.blocks }
+    requires within { place.index < place.blocks }
+    requires reading { IsReading (F.state store.old).content walk.old walk.old place.directory
+        (entries_below (bytes_of (F.state store.old).content place.directory) place.index) }
     requires named { HasNames names.old
-        (entries_below (bytes_of (F.state store.old).content directory) index) }
-    ensures read { OnOk result (IsReading (F.state store.old).content walk.old walk.new directory
-        (entries_below (bytes_of (F.state store.old).content directory) (index + 1))) }
+        (entries_below (bytes_of (F.state store.old).content place.directory) place.index) }
+    ensures read { OnOk result (IsReading (F.state store.old).content walk.old walk.new
+        place.directory
+        (entries_below (bytes_of (F.state store.old).content place.directory) (place.index + 1))) }
     ensures named { OnOk result (HasNames names.new
-        (entries_below (bytes_of (F.state store.old).content directory) (index + 1))) }
+        (entries_below (bytes_of (F.state store.old).content place.directory) (place.index + 1))) }
     ensures block { OnOk result (IsDirectoryBlock
-        (block_at (bytes_of (F.state store.old).content directory) index)
-        (entries_of (block_at (bytes_of (F.state store.old).content directory) index))) }
+        (block_at (bytes_of (F.state store.old).content place.directory) place.index)
+        (entries_of (block_at (bytes_of (F.state store.old).content place.directory)
+        place.index))) }
     ensures fault { IfErr result (IsTreeFaultOf (F.state store.old).content) }
     ensures state { F.state store.new ≡ F.state store.old }
 {
-    let block = block_of(store, directory, blocks, index);
+    let DirectoryBlock {
+        directory,
+        index,
+        ..
+    } = place;
+    let block = block_of(store, place);
     if !is_directory_block(&block) {
         return Err(TreeFault::Block { directory, index });
     }
     for (number, name) in entries(&block) {
-        enter(alloc, store, walk, names, directory, number, name)?;
+        let listed = Listed {
+            directory,
+            number,
+            name,
+        };
+        enter(alloc, store, walk, names, listed)?;
     }
     Ok(())
 }
 
-/// A block of a directory, which has so many of them.
-fn block_of<F: FileStore>(store: &mut F, directory: u32, blocks: u64, index: u64) -> Block
-    requires whole { HasWhole (F.state store.old).content directory blocks }
-    requires within { index < blocks }
-    ensures block { result ≡ block_at (bytes_of (F.state store.old).content directory) index }
+/// The bytes of a block of a directory.
+fn block_of<F: FileStore>(store: &mut F, place: DirectoryBlock) -> Block
+    requires whole { HasWhole (F.state store.old).content place.directory place.blocks }
+    requires within { place.index < place.blocks }
+    ensures block { result
+        ≡ block_at (bytes_of (F.state store.old).content place.directory) place.index }
     ensures state { F.state store.new ≡ F.state store.old }
 {
     let mut block = [0; BLOCK_SIZE];
-    store.read(directory, BLOCK_SIZE as u64 * index, &mut block);
+    store.read(place.directory, BLOCK_SIZE as u64 * place.index, &mut block);
     block
 }
 
@@ -159,16 +197,19 @@ fn enter<F: FileStore>(
     store: &F,
     walk: &mut Walk,
     names: &mut Names,
-    directory: u32,
-    number: u32,
-    name: &[u8],
+    listed: Listed<'_>,
 ) -> Result<(), TreeFault>
     requires { IsBelow (length walk.old.marks.items) (F.state store.now).content }
     ensures entered { OnOk result (IsEntered (F.state store.now).content walk.old names.old
-        (number, name.now) walk.new names.new) }
+        (listed.entry.number, listed.entry.name.now) walk.new names.new) }
     ensures fault { IfErr result (IsEntryFault (F.state store.now).content walk.old names.old
-        directory (number, name.now)) }
+        listed.entry.directory (listed.entry.number, listed.entry.name.now)) }
 {
+    let Listed {
+        directory,
+        number,
+        name,
+    } = listed;
     if !names.insert(alloc, name)? {
         return Err(TreeFault::NameTwice { directory, number });
     }

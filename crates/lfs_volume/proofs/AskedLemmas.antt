@@ -1,4 +1,7 @@
--- What was asked of a store for a call whose answer tells of the want of memory.
+-- What was asked of a store for a call whose answer tells of the want of memory: `asked_lack` and `asked_copy`, for
+-- `answer_twice`. If the call itself lacked memory, what it asked is what the answer says. If it served a list of which
+-- no copy could be made, nothing was asked, as no call that serves bytes or names changes a file (`list_changes`): each
+-- that changes one is answered Done, by the rules.
 use Rattle.std.proofs.Common.{◌≡◌, List, Result, true, refl, subst}
 use Rattle.lfs_types.specs.Caller.{Caller}
 use Rattle.lfs_types.specs.Shown.{IsList, ServesList}

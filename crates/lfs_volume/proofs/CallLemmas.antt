@@ -1,4 +1,8 @@
--- Runs of calls with one more.
+-- Runs of calls with one more: `AreMadeSo-append` for `Volume::run`, `AreAnswers-append` for lfs_mount, and `call_made`
+-- for whoever makes a call of a volume. Each call of a run is made behind the journal that those before it left, so a
+-- further one is one behind the first journal with all that they entered. By induction on the calls each puts its entry
+-- behind the journal, and in the end all of them stand there in order (`append_assoc`). `call_made` turns what a call
+-- promises of the volume into what it says of the store.
 use Rattle.std.proofs.Common.{◌≡◌, ◌↔◌, ℕ, ◌<◌, List, [], ◌∷◌, ◌++◌, length, refl, sym, ap, subst, append_assoc}
 use Rattle.std.proofs.Common.{append-nil}
 use Rattle.lfs_types.specs.Caller.{Caller}
@@ -23,7 +27,7 @@ use Rattle.lfs_volume.specs.Journals.{Stays}
 use Rattle.lfs_volume.specs.Seen.{Seen}
 
 -- a call of a volume, as it was made on its store
-pub call_made : {F : Type 0} (state : F → StoreState) (is_settled : F → Type 0) (from : World) (old new : Seen F)
+pub call_made : {F : Type 0} (state : F → StoreState) (is_flushed : F → Type 0) (from : World) (old new : Seen F)
     (caller : Caller) (request : Request) (answer : Answer)
     → ((answer ≡ Refused JournalFull) ↔ (length old.journal ≡ old.limit))
     → (length old.journal ≡ old.limit → new ≡ old)
@@ -35,10 +39,10 @@ pub call_made : {F : Type 0} (state : F → StoreState) (is_settled : F → Type
     → (IsUnserved answer → Stays (state old.store) (state new.store) old.level new.level)
     → LooksOn request (state old.store) (state new.store)
     → OnUnasked answer (state new.store ≡ state old.store)
-    → (request ≡ Sync → answer ≡ Served Done → is_settled new.store)
+    → (request ≡ Sync → answer ≡ Served Done → is_flushed new.store)
     → Follows (state old.store) (state new.store)
-    → IsCallMade state is_settled old.limit from old.journal old.store caller request answer new.store
-call_made {F} state is_settled from old new caller request answer full at_limit shown outcome entries unserved looks
+    → IsCallMade state is_flushed old.limit from old.journal old.store caller request answer new.store
+call_made {F} state is_flushed from old new caller request answer full at_limit shown outcome entries unserved looks
     unasked synced follows = record {
       full = full;
       at_limit = λ h. ap (λ (v : Seen F). v.store) (at_limit h);
@@ -76,13 +80,13 @@ AreMadeSo-append Is journal first last next (c ∷ calls) (a ∷ answers) call a
     )
 
 -- one more call was answered
-pub AreAnswers-append : {F : Type 0} (state : F → StoreState) (is_settled : F → Type 0) (limit : ℕ) (from : World)
+pub AreAnswers-append : {F : Type 0} (state : F → StoreState) (is_flushed : F → Type 0) (limit : ℕ) (from : World)
     (journal : List Entry) (first last next : F) (calls : List Call)
     (answers : List Answer) (call : Call) (answer : Answer)
-    → AreAnswers state is_settled limit from journal first calls answers last
-    → IsCallMade state is_settled limit from (journal ++ kept calls answers) last call.cred call.request answer next
-    → AreAnswers state is_settled limit from journal first (calls ++ call ∷ []) (answers ++ answer ∷ []) next
-AreAnswers-append {F} state is_settled limit from journal first last next calls answers call answer are made =
+    → AreAnswers state is_flushed limit from journal first calls answers last
+    → IsCallMade state is_flushed limit from (journal ++ kept calls answers) last call.cred call.request answer next
+    → AreAnswers state is_flushed limit from journal first (calls ++ call ∷ []) (answers ++ answer ∷ []) next
+AreAnswers-append {F} state is_flushed limit from journal first last next calls answers call answer are made =
     AreMadeSo-append (λ (before : List Entry) (this : F) (one : Call) (told : Answer) (left : F).
-    IsCallMade state is_settled limit from before this one.cred one.request told left)
+    IsCallMade state is_flushed limit from before this one.cred one.request told left)
     journal first last next calls answers call answer are made

@@ -1,4 +1,8 @@
--- An answered call of the cleaner is a step.
+-- An answered call of the cleaner is a step: `IsStep-cleaned` for `Volume::clean` and `reclaim`, `answered_done` for
+-- `cleaning::cleaned`. The content stays, so the store shows the world that it showed; the shape stays by whatever
+-- answer (`shape_stays`), and no more segments are clean than the outcome allows. The superuser is answered what the
+-- store gave: the store denies nothing (`not_denied`), and lacks memory in one call alone, for the bytes of the ifile
+-- (`lacked`).
 use Rattle.std.proofs.Common.{◌≡◌, ℕ, ◌+◌, ◌≤◌, List, Some, inr, refl, sym, subst}
 use Rattle.std.specs.Prelude.{IfSome}
 use Rattle.lfs_types.specs.Caller.{Caller}

@@ -1,11 +1,12 @@
--- A volume may go to another thread where its store may: what it remembers of the store has no bytes.
+-- A volume may go to another thread where its store may: `volume_send`, for lfs_server. Each of its fields may, and
+-- what it remembers of the store is a ghost, which has no bytes.
 use denote.RattleType.{RattleType}
 use denote.Struct.Declared as declared
 use denote.Param.Send.{AllSend, IsSend, recorded_send, sendable, struct_send, view_send}
 use Rattle.std.proofs.Crossing.{crosses}
 use Rattle.lfs_types.proofs.level.Level.TheSendSync as level
 use Rattle.lfs_types.specs.declared.store.FileStore.{Ghosts}
-use Rattle.lfs_calls.proofs.tree.Tree.TheSendSync as tree
+use Rattle.lfs_calls.proofs.cached_store.CachedStore.TheSendSync as tree
 use Rattle.lfs_model.proofs.counts.Counts.TheSendSync as counts
 use Rattle.lfs_model.proofs.journal.Entry.TheSendSync as entry
 use Rattle.lfs_volume.specs.contracts.volume.Volume.{the_row}

@@ -35,10 +35,12 @@ use Rattle.lfs_calls.specs.Entries.{OnServed}
 use Rattle.lfs_calls.specs.Outcomes.{IsOutcome}
 use Rattle.lfs_calls.specs.Volumes.{HasWorld, InWorld, IsVolume}
 use Rattle.lfs_calls.specs.Calls.{IsCallAt, answered}
-use Rattle.lfs_calls.specs.declared.not_served.NotServed.{NotServed}
-use Rattle.lfs_calls.specs.declared.not_served.NotServed.TheVariants as reasons
+use Rattle.lfs_calls.specs.declared.call_fault.CallFault.{CallFault}
+use Rattle.lfs_calls.specs.declared.call_fault.CallFault.TheVariants as reasons
 use Rattle.lfs_volume.specs.Copies.{is_lack_of_memory}
-use Rattle.lfs_volume.specs.Journals.{Begins, HasBegun, IsAnswered, IsJournal, IsStep, Stays, level_left, level_set}
+use Rattle.lfs_volume.specs.Journals.{Begins, HasBegun, IsAnswered, IsJournal, IsStep, Stays}
+use Rattle.lfs_calls.specs.Levels.{level_left, level_set}
+use Rattle.lfs_calls.proofs.LevelLemmas.{served_level}
 
 -- a store that shows a world shows it at each level
 pub begun : (s : StoreState) (level : Level) → HasWorld s → HasBegun s level
@@ -259,37 +261,6 @@ IsAnswered-copy old new level level_after caller request answer a list =
 
 -- ---- from what a call comes to, to its answer
 
-served_level : (numbers : ℕ) (w : World) (caller : Caller) (level : Level) (request : Request) (shown : Shown) → w.level
-    ≡ level
-    → (after_answer numbers w caller request (Served shown)).level ≡ level_left level request (Served shown)
-served_level numbers w caller level (Stat path) shown e = level_after numbers w caller (Stat path) (Served shown) tt ∙ e
-served_level numbers w caller level (Read path off len) shown e =
-    level_after numbers w caller (Read path off len) (Served shown) tt ∙ e
-served_level numbers w caller level (Names path) shown e = level_after numbers w caller (Names path) (Served shown) tt
-    ∙ e
-served_level numbers w caller level (Write path place bytes) shown e =
-    level_after numbers w caller (Write path place bytes) (Served shown) tt ∙ e
-served_level numbers w caller level (SetLength path len) shown e =
-    level_after numbers w caller (SetLength path len) (Served shown) tt ∙ e
-served_level numbers w caller level (Create path mode) shown e =
-    level_after numbers w caller (Create path mode) (Served shown) tt ∙ e
-served_level numbers w caller level (Mkdir path mode) shown e =
-    level_after numbers w caller (Mkdir path mode) (Served shown) tt ∙ e
-served_level numbers w caller level (Unlink path) shown e = level_after numbers w caller (Unlink path) (Served shown) tt
-    ∙ e
-served_level numbers w caller level (Rmdir path) shown e = level_after numbers w caller (Rmdir path) (Served shown) tt
-    ∙ e
-served_level numbers w caller level (Rename from to) shown e =
-    level_after numbers w caller (Rename from to) (Served shown) tt ∙ e
-served_level numbers w caller level (Chmod path mode) shown e =
-    level_after numbers w caller (Chmod path mode) (Served shown) tt ∙ e
-served_level numbers w caller level (Chown path uid gid) shown e =
-    level_after numbers w caller (Chown path uid gid) (Served shown) tt ∙ e
-served_level numbers w caller level (Chflags path flags) shown e =
-    level_after numbers w caller (Chflags path flags) (Served shown) tt ∙ e
-served_level numbers w caller level (SetLevel new) shown e = refl
-served_level numbers w caller level Sync shown e = level_after numbers w caller Sync (Served shown) tt ∙ e
-
 unserved_level : (level : Level) (request : Request) (answer : Answer) → IsUnserved answer
     → level_left level request answer ≡ level
 unserved_level level request (Served shown) h = absurd h
@@ -328,14 +299,14 @@ answer_level numbers w caller level request (Served shown) e = served_level numb
 answer_level numbers w caller level request (Denied denial) e = e
 answer_level numbers w caller level request (Refused resource) e = e
 
-unserved_content : {P : Type 0} (result : Result Shown NotServed) → OnErr result P → IsUnserved (answered result) → P
+unserved_content : {P : Type 0} (result : Result Shown CallFault) → OnErr result P → IsUnserved (answered result) → P
 unserved_content (Ok shown) p h = absurd h
 unserved_content (Err (reasons.Denied denial)) p h = p
 unserved_content (Err (reasons.Refused resource)) p h = p
 
 -- what a call comes to is its answer
 pub of_call : (old new : StoreState) (level left : Level) (caller : Caller) (request : Request)
-    (result : Result Shown NotServed) (answer : Answer)
+    (result : Result Shown CallFault) (answer : Answer)
     → HasWorld old → IsCallAt level old new caller request result → answer ≡ answered result → left
     ≡ level_left level request answer
     → IsAnswered old new level left caller request answer
@@ -375,7 +346,7 @@ entries_at P s (Denied denial) w v h = tt
 entries_at P s (Refused resource) w v h = tt
 
 -- where a call came to an answer that it is done, what holds of each call that did holds
-pub on_done : (result : Result Shown NotServed) (answer : Answer) (P : Type 0) → answer ≡ answered result → answer
+pub on_done : (result : Result Shown CallFault) (answer : Answer) (P : Type 0) → answer ≡ answered result → answer
     ≡ Served Done → OnOk result P → P
 on_done (Ok shown) answer P is done p = p
 on_done (Err (reasons.Denied denial)) answer P is done p = let no = sym is ∙ done in absurd (cc)

@@ -1,4 +1,7 @@
--- Stores whose content is that of a fresh volume's show its world.
+-- Stores whose content is that of a fresh volume's show its world: `shows_opening` and `shows_opening_state`, for
+-- whoever lays a volume out. The content has the root alone, an empty directory, and the opening tree has the root's
+-- row alone, so both say the same at each number; nothing is listed in the root, and nothing hangs there
+-- (`nothing_listed`).
 use Rattle.std.proofs.Common.{◌≡◌, [], length, None, sym, ap, subst, ◌∙◌, ⊎_elim, arith}
 use Rattle.std.proofs.lemmas.Bool.{cases_eq}
 use Rattle.std.specs.Prelude.{option_map}

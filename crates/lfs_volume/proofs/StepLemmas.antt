@@ -1,4 +1,8 @@
--- Runs of steps with one more, and what they are without the cleaner's.
+-- Runs of steps with one more, and what they are without the cleaner's: `AreSteps-append`, `kept_steps-append` and
+-- `AreLegalAlone-behind`, for `Volume::run_steps`. Each step is answered behind the journal that those before it left,
+-- so one more is answered behind all their entries, by induction on them. The entries behind a journal are legal from
+-- the world to which it leads (`IsLegal-later`), and the cleaner's leave the tree, so the users' alone lead to the
+-- same.
 use Rattle.std.proofs.Common.{◌≡◌, ℕ, List, [], ◌∷◌, ◌++◌, length, refl, sym, ap, subst, ◌∙◌, arith, append_assoc}
 use Rattle.std.proofs.Common.{append-nil}
 use Rattle.lfs_types.specs.StoreStates.{Shape}

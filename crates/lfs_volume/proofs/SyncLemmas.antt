@@ -1,4 +1,7 @@
--- A Sync leaves the tree, and what is shown of it: `sync_shown`, for whoever makes one (lfs_live, lfs_mount).
+-- A Sync leaves the tree, and what is shown of it: `sync_shown`, for whoever makes one (lfs_live, lfs_mount). Its
+-- entry, if it has one, changes no row and no level (`sync_leaves`), so the longer journal leads to the world to which
+-- the shorter one led. The volume shows the world that its journal leads to, from wherever that began, and a Sync
+-- doesn't move the beginning.
 use Rattle.std.proofs.Common.{◌≡◌, ℕ, List, ◌++◌, refl, sym, ap, subst, ◌∙◌}
 use Rattle.lfs_types.specs.Caller.{Caller}
 use Rattle.lfs_types.specs.StoreStates.{Follows, Shape, StoreState}

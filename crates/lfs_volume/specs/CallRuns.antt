@@ -28,7 +28,7 @@ use Rattle.lfs_calls.specs.Volumes.{IsVolume}
 -- their places, and a Sync nothing waiting; one that isn't leaves the content; one that looks, that a rule denies or
 -- that wants a number, room for a name or the journal's room leaves the whole state of the store as it was; and the
 -- state that is left is a later one (`Follows`).
-pub record IsCallMade {F : Type 0} (state : F → StoreState) (is_settled : F → Type 0) (limit : ℕ) (from : World)
+pub record IsCallMade {F : Type 0} (state : F → StoreState) (is_flushed : F → Type 0) (limit : ℕ) (from : World)
     (journal : List Entry) (old : F) (caller : Caller) (request : Request) (answer : Answer) (new : F) : Type 0 where
   pub full : (answer ≡ Refused JournalFull) ↔ (length journal ≡ limit)
   pub at_limit : length journal ≡ limit → new ≡ old
@@ -40,15 +40,15 @@ pub record IsCallMade {F : Type 0} (state : F → StoreState) (is_settled : F �
   pub unserved : IsUnserved answer → (state new).content ≡ (state old).content
   pub looks : LooksOn request (state old) (state new)
   pub unasked : OnUnasked answer (state new ≡ state old)
-  pub synced : request ≡ Sync → answer ≡ Served Done → is_settled new
+  pub synced : request ≡ Sync → answer ≡ Served Done → is_flushed new
   pub follows : Follows (state old) (state new)
 
 -- The same, and a call that changes files is served, or refused for want of space or memory, as the store said to the
 -- changes that make it, asked on the caller's behalf, and left the store as they left it.
-pub record IsCallAsked {F : Type 0} (state : F → StoreState) (is_settled : F → Type 0)
+pub record IsCallAsked {F : Type 0} (state : F → StoreState) (is_flushed : F → Type 0)
     (said : F → List Change → Reserve → Result (Unit {0}) StoreRefusal → F → Type 0) (limit : ℕ) (from : World)
     (journal : List Entry) (old : F) (caller : Caller) (request : Request) (answer : Answer) (new : F) : Type 0 where
-  pub made : IsCallMade state is_settled limit from journal old caller request answer new
+  pub made : IsCallMade state is_flushed limit from journal old caller request answer new
   pub asked : IsAsked state said old caller request answer new
 
 -- Calls were answered behind a journal, one after another, and led from one store to another: each was made, as this
@@ -65,15 +65,15 @@ AreMadeSo {F} Is journal old (call ∷ calls) (answer ∷ answers) new =
 -- calls were answered so, each with its cause
 abbrev pub AreAnswers : {F : Type 0} → (F → StoreState) → (F → Type 0) → ℕ → World → List Entry → F → List Call
     → List Answer → F → Type 0
-AreAnswers state is_settled limit from journal old calls answers new =
+AreAnswers state is_flushed limit from journal old calls answers new =
     AreMadeSo (λ before this call answer next.
-    IsCallMade state is_settled limit from before this call.cred call.request answer next) journal old calls answers new
+    IsCallMade state is_flushed limit from before this call.cred call.request answer next) journal old calls answers new
 
 -- and each that changes files as the store said
 abbrev pub AreCallsAsked : {F : Type 0} → (F → StoreState) → (F → Type 0)
     → (F → List Change → Reserve → Result (Unit {0}) StoreRefusal → F → Type 0) → ℕ → World → List Entry → F → List Call
     → List Answer → F → Type 0
-AreCallsAsked state is_settled said limit from journal old calls answers new =
+AreCallsAsked state is_flushed said limit from journal old calls answers new =
     AreMadeSo (λ before this call answer next.
-    IsCallAsked state is_settled said limit from before this call.cred call.request answer next) journal old calls answers
+    IsCallAsked state is_flushed said limit from before this call.cred call.request answer next) journal old calls answers
     new

@@ -28,16 +28,16 @@ use Rattle.lfs_model.specs.Runs.{act_of, cleans, outcome_of}
 -- cleaner may answer
 pub record Cleaner (F : Type 0) : Type 1 where
   pub state : F → StoreState
-  pub is_settled : F → Type 0
+  pub is_flushed : F → Type 0
   pub said : F → List Change → Reserve → Result (Unit {0}) StoreRefusal → F → Type 0
   pub calls : CleanerCalls F
 
 -- such a kind of store, of its parts
 abbrev pub cleaner_of : {F : Type 0} → (F → StoreState) → (F → Type 0)
     → (F → List Change → Reserve → Result (Unit {0}) StoreRefusal → F → Type 0) → CleanerCalls F → Cleaner F
-cleaner_of state is_settled said calls = record {
+cleaner_of state is_flushed said calls = record {
   state = state;
-  is_settled = is_settled;
+  is_flushed = is_flushed;
   said = said;
   calls = calls;
 }

@@ -5,10 +5,8 @@ use Rattle.lfs_types.specs.Shown.{ServesList}
 use Rattle.lfs_types.specs.StoreStates.{Follows, MayLackSpace, StoreState}
 use Rattle.lfs_types.specs.Tree.{World}
 use Rattle.lfs_types.specs.declared.answer.Answer.{Answer}
-use Rattle.lfs_types.specs.declared.answer.Answer.TheVariants.{Served, Denied, Refused}
 use Rattle.lfs_types.specs.declared.level.Level.{Level}
 use Rattle.lfs_types.specs.declared.request.Request.{Request}
-use Rattle.lfs_types.specs.declared.request.Request.TheVariants.{SetLevel}
 use Rattle.lfs_model.specs.declared.journal.Entry.{Entry}
 use Rattle.lfs_model.specs.declared.journal.Event.{Event}
 use Rattle.lfs_model.specs.Runs.{IsNoSpace, IsShort, IsUnserved, cleans}
@@ -73,16 +71,6 @@ StaysJournal before after caller event =
 pub record Stays (old new : StoreState) (level level_after : Level) : Type 0 where
   pub content : new.content ≡ old.content
   pub at_level : level_after ≡ level
-
--- the securelevel that an answered call leaves: the one that a served call sets, else the old one
-abbrev pub level_set : Level → Request → Level
-level_set level (SetLevel new) = new
-level_set level request = level
-
-abbrev pub level_left : Level → Request → Answer → Level
-level_left level request (Served shown) = level_set level request
-level_left level request (Denied denial) = level
-level_left level request (Refused resource) = level
 
 -- A user's call was answered so over a store and a level: the answer has its cause, store and level show the world that
 -- it leaves, a served call leaves the entries of directories in their places, a call that isn't served or lists changes

@@ -23,7 +23,7 @@ use Rattle.lfs_volume.specs.Cleanings.{Cleaner, CleansOnly, IsCleanerAnswer}
 -- the cleaner's call that tells so.
 abbrev pub IsActMade : {F : Type 0} → Cleaner F → ℕ → World → List Entry → F → Caller → Act → StepAnswer → F → Type 0
 IsActMade r limit from journal old caller (acts.User request) (User answer) new =
-    IsCallAsked r.state r.is_settled r.said limit from journal old caller request answer new
+    IsCallAsked r.state r.is_flushed r.said limit from journal old caller request answer new
 IsActMade r limit from journal old caller (acts.Cleaner call) (Cleaned answer) new =
     ((answer ≡ cleaner.Refused JournalFull) ↔ (length journal ≡ limit))
     × (length journal ≡ limit → new ≡ old)

@@ -7,7 +7,7 @@ ghost use Rattle.lfs_types.specs.declared.cleaner.BlockInfo.{BlockInfo};
 ghost use Rattle.lfs_model.specs.Runs.{outcome_of};
 ghost use Rattle.lfs_volume.specs.Cleanings.{IsCleaned, IsCleanerAnswer, IsCounted, IsDone, cleaner_of, reclaim_answer};
 
-use lfs_calls::tree::Tree;
+use lfs_calls::cached_store::CachedStore;
 use lfs_model::journal::{CleanerAnswer, CleanerOutcome};
 use lfs_types::answer::Resource;
 use lfs_types::cleaned::CleanedStore;
@@ -18,12 +18,12 @@ use lfs_types::rule::{Denial, Rule};
 
 /// The answer to a cleaner's call: a denial where the caller is not the superuser, else what the store's call gives.
 pub fn cleaned<F: CleanedStore>(
-    store: &mut Tree<F>,
+    store: &mut CachedStore<F>,
     cred: &Cred,
     call: CleanerCall,
 ) -> CleanerAnswer
     ensures answered { IsCleanerAnswer
-        (cleaner_of F.state F.is_settled F.made F.cleaner)
+        (cleaner_of F.state F.is_flushed F.made F.cleaner)
         store.old cred.now call result store.new }
     ensures cleaned { IsCleaned (F.state store.old) (F.state store.new) cred.now call result }
 {
@@ -38,9 +38,9 @@ pub fn cleaned<F: CleanedStore>(
 }
 
 /// The answer to a superuser's call: what the store's call gives.
-fn done<F: CleanedStore>(store: &mut Tree<F>, call: CleanerCall) -> CleanerAnswer
+fn done<F: CleanedStore>(store: &mut CachedStore<F>, call: CleanerCall) -> CleanerAnswer
     ensures done { IsDone
-        (cleaner_of F.state F.is_settled F.made F.cleaner)
+        (cleaner_of F.state F.is_flushed F.made F.cleaner)
         store.old call result store.new }
     ensures cleaned { (caller : Caller) → caller.uid ≡ 0
         → IsCleaned (F.state store.old) (F.state store.new) caller call result }
@@ -70,10 +70,15 @@ fn done<F: CleanedStore>(store: &mut Tree<F>, call: CleanerCall) -> CleanerAnswe
     }
 }
 
-/// What the journal tells of a Segclean: a denial where the caller is not the superuser, else what the store's call gives.
-pub fn reclaimed<F: CleanedStore>(store: &mut Tree<F>, cred: &Cred, segment: u32) -> CleanerOutcome
+/// What the journal tells of a Segclean: a denial where the caller is not the superuser, else what the store's call
+/// gives.
+pub fn reclaimed<F: CleanedStore>(
+    store: &mut CachedStore<F>,
+    cred: &Cred,
+    segment: u32,
+) -> CleanerOutcome
     ensures answered { IsCleanerAnswer
-        (cleaner_of F.state F.is_settled F.made F.cleaner)
+        (cleaner_of F.state F.is_flushed F.made F.cleaner)
         store.old cred.now (CleanerCall.Segclean segment) (reclaim_answer (Some result)) store.new }
     ensures cleaned { IsCleaned (F.state store.old) (F.state store.new) cred.now
         (CleanerCall.Segclean segment) (reclaim_answer (Some result)) }
@@ -108,7 +113,7 @@ pub fn outcome(answer: &CleanerAnswer) -> Option<CleanerOutcome>
 }
 
 /// The bytes of the ifile, where there is memory for them and a u32 counts them.
-fn ifile<F: CleanedStore>(store: &Tree<F>) -> Option<Bytes>
+fn ifile<F: CleanedStore>(store: &CachedStore<F>) -> Option<Bytes>
     ensures given { IfSome result (λ bytes. F.cleaner.gives_ifile store.now bytes) }
     ensures size { IfSome result (λ bytes. length bytes ≡ ifile_size (F.state store.now).shape) }
     ensures counted { IfSome result (λ bytes. length bytes < 2 ^ 32) }
@@ -121,7 +126,7 @@ fn ifile<F: CleanedStore>(store: &Tree<F>) -> Option<Bytes>
 }
 
 /// The infos of a segment.
-fn infos<F: CleanedStore>(store: &Tree<F>, segment: u32) -> Result<InfoList, CleanFault>
+fn infos<F: CleanedStore>(store: &CachedStore<F>, segment: u32) -> Result<InfoList, CleanFault>
     ensures given { MatchResult result
         (λ infos. F.cleaner.gives_infos store.now segment (Ok tt) infos)
         (λ fault. (infos : List BlockInfo) × F.cleaner.gives_infos store.now segment (Err fault) infos) }
@@ -134,7 +139,7 @@ fn infos<F: CleanedStore>(store: &Tree<F>, segment: u32) -> Result<InfoList, Cle
 }
 
 /// The infos with their present addresses.
-fn addresses<F: CleanedStore>(store: &Tree<F>, infos: InfoList) -> InfoList
+fn addresses<F: CleanedStore>(store: &CachedStore<F>, infos: InfoList) -> InfoList
     ensures given { F.cleaner.gives_addresses store.now infos result }
     ensures few { length result ≤ INFO_LIMIT }
 {

@@ -20,14 +20,14 @@ ghost use Rattle.lfs_explain.specs.Trails.{IsTrail, first_names, second_names};
 ghost use Rattle.lfs_volume.specs.CallRuns.{AreCallsAsked};
 ghost use Rattle.lfs_volume.specs.Cleanings.{CleansOnly, IsCleanerAnswer, cleaner_of, reclaim_answer};
 ghost use Rattle.lfs_volume.specs.Copies.{is_lack_of_memory};
-ghost use Rattle.lfs_volume.specs.Journals.{AtPresent, Begins, IsAnswered, IsJournal, Since, Stays, StaysJournal, level_left, level_set};
+ghost use Rattle.lfs_volume.specs.Journals.{AtPresent, Begins, IsAnswered, IsJournal, Since, Stays, StaysJournal};
 ghost use Rattle.lfs_volume.specs.StepRuns.{AreLegalAlone, AreSteps, IsActMade};
 
 use crate::cleaning::{cleaned, outcome, reclaimed};
-use lfs_calls::not_served::answered;
+use lfs_calls::cached_store::CachedStore;
+use lfs_calls::call_fault::answered;
 use lfs_calls::reading::read;
 use lfs_calls::serving::serve;
-use lfs_calls::tree::Tree;
 use lfs_explain::explain::{Explanation, explain};
 use lfs_model::asking::CleanerAct;
 use lfs_model::counts::Counts;
@@ -47,11 +47,11 @@ use std::snapshot::Snapshot;
 use thiserror::Error;
 
 /// A volume over a file store. It remembers the store and the level as they were when its journal began. Its type keeps
-/// that they showed a tree, that its journal is a legal run from there to the tree that its store and its level show, and
-/// that its counts are those over its journal.
+/// that they showed a tree, that its journal is a legal run from there to the tree that its store and its level show,
+/// and that its counts are those over its journal.
 #[derive(Drop)]
 pub struct Volume<F: FileStore + Drop> {
-    store: Tree<F>,
+    store: CachedStore<F>,
     level: Level,
     since: Snapshot<F>,
     since_level: Level,
@@ -87,8 +87,8 @@ impl<F: FileStore + Drop> Model for Volume<F> {
 }
 
 impl<F: FileStore + Drop> Volume<F> {
-    /// A volume over a store that shows the tree of a fresh volume, in whatever blocks, with room for `journal_limit` entries
-    /// and for the names and the attributes that it will know.
+    /// A volume over a store that shows the tree of a fresh volume, in whatever blocks, with room for `journal_limit`
+    /// entries and for the names and the attributes that it will know.
     pub fn new(alloc: Global, store: F, journal_limit: u32) -> Result<Volume<F>, AllocError>
         requires { Shows (F.state store).content opening_world }
         ensures fresh { IfOk result (λ v. v ≡ record {
@@ -122,7 +122,7 @@ impl<F: FileStore + Drop> Volume<F> {
         }) }
     {
         let since = Snapshot::of(&store);
-        let store = Tree::new(alloc, store)?;
+        let store = CachedStore::new(alloc, store)?;
         let journal = Vec::with_capacity(alloc, journal_limit as usize)?;
         Ok(Volume {
             store,
@@ -135,11 +135,11 @@ impl<F: FileStore + Drop> Volume<F> {
         })
     }
 
-    /// Makes a user's call: judges it by the rules on the tree that the journal leads to, does it, and enters it. A served
-    /// call leaves the entries of directories in their places, and a Sync nothing waiting in the store. A call that looks,
-    /// that a rule denies, or that wants a number or room for a name leaves the store's state as it was. One that changes
-    /// files is served, or refused for want of space or memory, as the store says to the changes that make it, and does no
-    /// more than they do.
+    /// Makes a user's call: judges it by the rules on the tree that the journal leads to, does it, and enters it. A
+    /// served call leaves the entries of directories in their places, and a Sync nothing waiting in the store. A call
+    /// that looks, that a rule denies, or that wants a number or room for a name leaves the store's state as it was.
+    /// One that changes files is served, or refused for want of space or memory, as the store says to the changes that
+    /// make it, and does no more than they do.
     pub fn call(&mut self, session: u8, cred: &Cred, request: Request) -> Answer
         ensures full { (result ≡ Answer.Refused Resource.JournalFull)
             ↔ (length self.old.journal ≡ self.old.limit) }
@@ -159,7 +159,7 @@ impl<F: FileStore + Drop> Volume<F> {
         ensures looks { LooksOn request (F.state self.old.store) (F.state self.new.store) }
         ensures unasked { OnUnasked result (F.state self.new.store ≡ F.state self.old.store) }
         ensures synced { request ≡ Request.Sync → result ≡ Answer.Served Served.Done
-            → F.is_settled self.new.store }
+            → F.is_flushed self.new.store }
         ensures asked { IsAsked F.state F.made self.old.store cred.now request result
             self.new.store }
         ensures since { self.new.since ≡ self.old.since }
@@ -175,7 +175,7 @@ impl<F: FileStore + Drop> Volume<F> {
         self.answer_and_enter(session, cred, request)
     }
 
-    /// Makes a user's call for whose entry the journal has room.
+    /// Makes a user's call for whose entry the journal has room. The proofs of `call`'s clauses are this one's.
     fn answer_and_enter(&mut self, session: u8, cred: &Cred, request: Request) -> Answer
         requires room { length self.old.journal < self.old.limit }
         requires few { length self.old.journal < 2 ^ 32 - 1 }
@@ -193,7 +193,7 @@ impl<F: FileStore + Drop> Volume<F> {
         ensures looks { LooksOn request (F.state self.old.store) (F.state self.new.store) }
         ensures unasked { OnUnasked result (F.state self.new.store ≡ F.state self.old.store) }
         ensures synced { request ≡ Request.Sync → result ≡ Answer.Served Served.Done
-            → F.is_settled self.new.store }
+            → F.is_flushed self.new.store }
         ensures asked { IsAsked F.state F.made self.old.store cred.now request result
             self.new.store }
         ensures since { self.new.since ≡ self.old.since }
@@ -212,11 +212,11 @@ impl<F: FileStore + Drop> Volume<F> {
         answer
     }
 
-    /// Makes calls one after another, each as `call` does, on the store that the one before it left. Room for the answers
-    /// is asked for before the first.
+    /// Makes calls one after another, each as `call` does, on the store that the one before it left. Room for the
+    /// answers is asked for before the first.
     pub fn run(&mut self, calls: Vec<Call>) -> Result<Vec<Answer>, RunMemory>
         ensures each { IfOk result (λ answers. Since (F.state self.old.since) self.old.since_level
-            (λ from. AreCallsAsked F.state F.is_settled F.made self.old.limit from
+            (λ from. AreCallsAsked F.state F.is_flushed F.made self.old.limit from
             self.old.journal self.old.store calls.items answers.items self.new.store)) }
         ensures entered { IfOk result (λ answers. self.new.journal
             ≡ self.old.journal ++ kept calls.items answers.items) }
@@ -262,20 +262,19 @@ impl<F: FileStore + Drop> Volume<F> {
         explain(alloc, &mut self.store, self.level, cred, request)
     }
 
-    /// What a Read would be answered now, on the tree that the journal leads to, without making it: nothing is entered, and
-    /// the store stays in its state.
+    /// What a Read would be answered now, on the tree that the journal leads to, without making it: nothing is entered,
+    /// and the store stays in its state.
     pub fn show(&mut self, cred: &Cred, path: &Path, off: u64, len: u32) -> Answer
         ensures outcome { AtPresent F.state self.old (λ w. IsOutcome (F.state self.old.store) w
             cred.now (Request.Read path.now off len) result) }
         ensures state { F.state self.new.store ≡ F.state self.old.store }
         ensures others { self.new ≡ record self.old { store = self.new.store } }
     {
-        let alloc = *self.journal.allocator();
-        answered(read(alloc, &mut self.store, cred, path, off, len))
+        answered(read(&mut self.store, cred, path, off, len))
     }
 
-    /// Hands out the entries, and goes on from the present tree with an empty journal, whose room is handed in. The entries
-    /// are a legal run from where their journal began to where the next one begins. The counts begin anew.
+    /// Hands out the entries, and goes on from the present tree with an empty journal, whose room is handed in. The
+    /// entries are a legal run from where their journal began to where the next one begins. The counts begin anew.
     pub fn drain(&mut self, room: Vec<Entry>) -> Vec<Entry>
         requires empty { room.items ≡ [] }
         requires room { self.old.limit ≤ vec_capacity room }
@@ -293,8 +292,8 @@ impl<F: FileStore + Drop> Volume<F> {
         std::mem::replace(&mut self.journal, room)
     }
 
-    /// Takes no more entries: the journal may have as many as it has, so that each call is refused `JournalFull` from here on
-    /// and changes nothing.
+    /// Takes no more entries: the journal may have as many as it has, so that each call is refused `JournalFull` from
+    /// here on and changes nothing.
     pub fn close_journal(&mut self)
         ensures { self.new ≡ record self.old { limit = length self.old.journal } }
     {
@@ -358,7 +357,7 @@ impl<F: CleanedStore + Drop> Volume<F> {
         ensures at_limit { length self.old.journal ≡ self.old.limit → self.new ≡ self.old }
         ensures shown { AtPresent F.state self.old (IsVolume (F.state self.old.store)) }
         ensures answered { length self.old.journal < self.old.limit → IsCleanerAnswer
-            (cleaner_of F.state F.is_settled F.made F.cleaner)
+            (cleaner_of F.state F.is_flushed F.made F.cleaner)
             self.old.store cred.now call result self.new.store }
         ensures entered { self.new.journal ≡ self.old.journal
             ++ kept_cleaning session cred.now call result }
@@ -386,14 +385,14 @@ impl<F: CleanedStore + Drop> Volume<F> {
         answer
     }
 
-    /// Has a segment become clean, as `clean` does by a Segclean, and gives what the journal tells of its answer; `None`
-    /// where the journal has no room, and then nothing is done. No list of infos is moved for it.
+    /// Has a segment become clean, as `clean` does by a Segclean, and gives what the journal tells of its answer;
+    /// `None` where the journal has no room, and then nothing is done. No list of infos is moved for it.
     pub fn reclaim(&mut self, session: u8, cred: &Cred, segment: u32) -> Option<CleanerOutcome>
         ensures full { (result ≡ None) ↔ (length self.old.journal ≡ self.old.limit) }
         ensures at_limit { length self.old.journal ≡ self.old.limit → self.new ≡ self.old }
         ensures shown { AtPresent F.state self.old (IsVolume (F.state self.old.store)) }
         ensures answered { length self.old.journal < self.old.limit → IsCleanerAnswer
-            (cleaner_of F.state F.is_settled F.made F.cleaner)
+            (cleaner_of F.state F.is_flushed F.made F.cleaner)
             self.old.store cred.now (CleanerCall.Segclean segment) (reclaim_answer result)
             self.new.store }
         ensures entered { self.new.journal ≡ self.old.journal
@@ -428,7 +427,7 @@ impl<F: CleanedStore + Drop> Volume<F> {
     /// first. Without the cleaner's steps the users' would have the same answers.
     pub fn run_steps(&mut self, steps: Vec<Step>) -> Result<Vec<StepAnswer>, RunMemory>
         ensures each { IfOk result (λ answers. Since (F.state self.old.since) self.old.since_level
-            (λ from. AreSteps (cleaner_of F.state F.is_settled F.made F.cleaner) self.old.limit from
+            (λ from. AreSteps (cleaner_of F.state F.is_flushed F.made F.cleaner) self.old.limit from
             self.old.journal self.old.store steps.items answers.items self.new.store)) }
         ensures entered { IfOk result (λ answers. self.new.journal
             ≡ self.old.journal ++ kept_steps steps.items answers.items) }
@@ -459,7 +458,7 @@ impl<F: CleanedStore + Drop> Volume<F> {
     /// Makes one step, as `call` or `clean` does.
     fn make(&mut self, step: Step) -> StepAnswer
         ensures made { Since (F.state self.old.since) self.old.since_level (λ from. IsActMade
-            (cleaner_of F.state F.is_settled F.made F.cleaner)
+            (cleaner_of F.state F.is_flushed F.made F.cleaner)
             self.old.limit from self.old.journal self.old.store
             step.cred step.act result self.new.store) }
         ensures entered { self.new.journal ≡ self.old.journal ++ kept_step step result }
@@ -524,30 +523,10 @@ fn lacks_memory(answer: &Answer) -> bool
     matches!(answer, Answer::Refused(Resource::NoMemory))
 }
 
-/// The securelevel that an answered call leaves.
-fn level_left(level: Level, request: &Request, answer: &Answer) -> Level
-    ensures { result ≡ level_left level request.now answer.now }
-{
-    match answer {
-        Answer::Served(_) => level_set(level, request),
-        Answer::Denied(_) | Answer::Refused(_) => level,
-    }
-}
-
-/// The securelevel that a served call leaves.
-fn level_set(level: Level, request: &Request) -> Level
-    ensures { result ≡ level_set level request.now }
-{
-    match request {
-        Request::SetLevel { level: new } => *new,
-        _ => level,
-    }
-}
-
 /// The answer to a call, which is done, and a copy of it; none where the call or the copy wants memory.
 fn answer_twice<F: FileStore>(
     alloc: Global,
-    store: &mut Tree<F>,
+    store: &mut CachedStore<F>,
     level: &mut Level,
     cred: &Cred,
     request: &Request,
@@ -561,13 +540,13 @@ fn answer_twice<F: FileStore>(
         level.old level.new cred.now request.now both.0) }
     ensures synced { MatchOption result ⊤
         (λ both. request.now ≡ Request.Sync → both.0 ≡ Answer.Served Served.Done
-        → F.is_settled store.new) }
+        → F.is_flushed store.new) }
     ensures asked { MatchOption result
         (IsAsked F.state F.made store.old cred.now request.now
         (Answer.Refused Resource.NoMemory) store.new)
         (λ both. IsAsked F.state F.made store.old cred.now request.now both.0 store.new) }
 {
-    let answer = answer(alloc, store, level, cred, request);
+    let answer = answer(store, level, cred, request);
     if lacks_memory(&answer) {
         return None;
     }
@@ -579,8 +558,7 @@ fn answer_twice<F: FileStore>(
 
 /// The answer to a call by the rules, and its effect on the store and the securelevel.
 fn answer<F: FileStore>(
-    alloc: Global,
-    store: &mut Tree<F>,
+    store: &mut CachedStore<F>,
     level: &mut Level,
     cred: &Cred,
     request: &Request,
@@ -589,10 +567,8 @@ fn answer<F: FileStore>(
     ensures answered { IsAnswered (F.state store.old) (F.state store.new)
         level.old level.new cred.now request.now result }
     ensures synced { request.now ≡ Request.Sync → result ≡ Answer.Served Served.Done
-        → F.is_settled store.new }
+        → F.is_flushed store.new }
     ensures asked { IsAsked F.state F.made store.old cred.now request.now result store.new }
 {
-    let answer = answered(serve(alloc, store, *level, cred, request));
-    *level = level_left(*level, request, &answer);
-    answer
+    answered(serve(store, level, cred, request))
 }

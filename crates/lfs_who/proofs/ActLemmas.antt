@@ -1,4 +1,8 @@
--- What is told of a path decides as the rules do.
+-- What is told of a path decides as the rules do: `call_decided` for `push_along`, `search_decided` for `who_searches`,
+-- `move_decided` for `who_moves`, `calls_are` for `who_could`. The rows of a path that are known are those that its
+-- names lead through, so the tests that are asked of them are those of the rules, and the first that fails is the same
+-- (`same_failing`, by `told` of lfs_explain). `all_told`, for `who_of`: a caller who has a part in some question is
+-- among the users, and their lines tell of him; one who has a part in none is told by the lines of everybody else.
 use Rattle.std.proofs.Common.{◌≡◌, ℕ, ◌<◌, ◌≤◌, ◌||◌, zero, suc, Bool, true, false, List, [], ◌∷◌, length, take, refl}
 use Rattle.std.proofs.Common.{sym, ap, subst, ◌∙◌, arith}
 use Rattle.std.specs.Prelude.{Err, Ok, OnOk, Result, slice_index_or}

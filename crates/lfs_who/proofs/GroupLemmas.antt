@@ -1,4 +1,10 @@
--- Callers told apart by groups.
+-- Callers told apart by groups: `goes_on`, `ends_here` and `allowed` for `lines_of`, `all_denied`, `outside_denied` and
+-- `inside_denied` for `deny_all`, `deny_outside` and `deny_inside`. Those who are left are in each group of one list
+-- and in none of another; what the lines so far tell a caller, and what the further questions decide of him if he is
+-- left, is what all questions decide. A question about one more group parts those who are left: some get a line, and
+-- the group joins one list or the other for the rest. That each caller is in just one of both is a case for each of his
+-- three memberships (`apart`, `apart_not`). A group that is in either list already parts nobody (`in_inside`,
+-- `not_in_outside`).
 use Rattle.std.proofs.Common.{◌≡◌, ℕ, ◌==◌, ◌&&◌, ◌||◌, not, Bool, true, false, cond, List, [], ◌∷◌, ◌++◌, Option, Some}
 use Rattle.std.proofs.Common.{None, ◌+◌, ◌<◌, ◌≤◌, length, drop, get_or, refl, sym, ap, subst, ◌∙◌, append_assoc}
 use Rattle.std.proofs.Common.{append-nil}

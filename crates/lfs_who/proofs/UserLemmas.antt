@@ -1,4 +1,8 @@
--- Users told apart.
+-- Users told apart: `named_more` and `lines_append` for `put`. Of the users so far each is told what is decided of him,
+-- by lines of his own or everybody else's, and whoever isn't among them is free: any lines would be found for him where
+-- everybody else's stand (`AreNamed`). So a further user is put behind the others, where his lines are found if none of
+-- those before is his; if one is, he was told before (`told_case`). Where his lines are everybody else's he needs no
+-- name, as these are found for him anyway.
 use Rattle.std.proofs.Common.{◌≡◌, ℕ, ◌==◌, ◌||◌, Bool, true, false, cond, List, [], ◌∷◌, ◌++◌, refl, sym, ap, subst}
 use Rattle.std.proofs.Common.{◌∙◌}
 use Rattle.std.proofs.lemmas.Bool.{eq-eqb, eqb-true, eqb-false, ne_eqb}
@@ -94,11 +98,3 @@ module _ (questions : List Question) (old : List Named) (others : List Told) (us
     fewer_case : (u : ℕ) (b d : Bool) → is_among u users ≡ b → (b || d) ≡ false → is_among u users ≡ false
     fewer_case u true d among none = absurd (cc)
     fewer_case u false d among none = among
-
-    pub named_same : AreNamed questions old others (users ++ uid ∷ [])
-    named_same = record {
-      told = λ c among. alike_case c (is_among c.uid users) (c.uid == uid) refl refl (sym (among_more c.uid uid users)
-          ∙ among);
-      free = λ u none some. so.free u (fewer_case u (is_among u users) (u == uid) refl (sym (among_more u uid users)
-          ∙ none)) some;
-    }

@@ -33,8 +33,8 @@ pub enum Act {
     Unlink,
     /// To take it away, a directory.
     Rmdir,
-    /// To take it out of its directory into another: what a Rename there asks of it and of where it hangs. What it asks of
-    /// the other directory is of another path.
+    /// To take it out of its directory into another: what a Rename there asks of it and of where it hangs. What it asks
+    /// of the other directory is of another path.
     Move,
     /// To set its mode, whatever mode it gets.
     Chmod,

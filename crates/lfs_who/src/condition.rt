@@ -56,8 +56,8 @@ pub enum Outcome {
 }
 
 impl Condition {
-    /// For which callers it is met who are this user; without a user, for which who are neither the superuser nor an owner
-    /// of what it asks of.
+    /// For which callers it is met who are this user; without a user, for which who are neither the superuser nor an
+    /// owner of what it asks of.
     pub fn outcome(&self, user: Option<u32>) -> Outcome
         ensures { (c : Caller) → IsUser user c self.now → holds c self.now ≡ is_met c result }
     {

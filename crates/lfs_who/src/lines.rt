@@ -81,8 +81,8 @@ impl Groups {
         }
     }
 
-    /// Puts the line of the callers of whom a test isn't met, if there are some, and leaves those of whom it is met. Gives
-    /// whether there are none of these.
+    /// Puts the line of the callers of whom a test isn't met, if there are some, and leaves those of whom it is met.
+    /// Gives whether there are none of these.
     fn split(
         &mut self,
         lines: &mut Vec<Line>,

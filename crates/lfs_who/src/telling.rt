@@ -10,7 +10,7 @@ ghost use Rattle.lfs_who.specs.WhoText.{IsWhoTold, act_text, decision, groups_te
 
 use crate::line::Line;
 use crate::who::{Named, Who, paths_of, who_along};
-use lfs_calls::tree::Tree;
+use lfs_calls::cached_store::CachedStore;
 use lfs_explain::explain::Explanation;
 use lfs_print::print::push_answer;
 use lfs_types::answer::{Answer, Served};
@@ -22,8 +22,8 @@ use lfs_words::append::{push_number, push_word};
 use std::alloc::{AllocError, Global};
 
 /// The lines of who could make a call, at this securelevel, over all callers, where its paths lead through what an
-/// explanation of it has, as `who_along` tells: `user 7: ok`, `others in 20: ok`, `others not in 20: denied M1 EACCES 0 2`.
-/// An error where memory runs out.
+/// explanation of it has, as `who_along` tells: `user 7: ok`, `others in 20: ok`, `others not in 20: denied M1 EACCES 0
+/// 2`. An error where memory runs out.
 pub fn tell_who_along(
     alloc: Global,
     level: Level,
@@ -43,16 +43,16 @@ pub fn tell_who_along(
 /// The lines of who could make a call now, by what its paths lead through now, as `tell_who_along`.
 pub fn tell_who<F: FileStore>(
     alloc: Global,
-    tree: &mut Tree<F>,
+    store: &mut CachedStore<F>,
     level: Level,
     request: &Request,
 ) -> Result<Vec<u8>, AllocError>
-    requires { HasWorld (F.state tree.old) }
-    ensures told { IfOk result (λ text. InWorld (F.state tree.old) (λ w. w.level ≡ level
+    requires { HasWorld (F.state store.old) }
+    ensures told { IfOk result (λ text. InWorld (F.state store.old) (λ w. w.level ≡ level
         → IsWhoTold w request.now text.items)) }
-    ensures state { F.state tree.new ≡ F.state tree.old }
+    ensures state { F.state store.new ≡ F.state store.old }
 {
-    let paths = paths_of(alloc, tree, level, request)?;
+    let paths = paths_of(alloc, store, level, request)?;
     let text = tell_who_along(alloc, level, request, &paths)?;
     Ok(text)
 }
@@ -66,8 +66,9 @@ fn text_of(alloc: Global, who: &Who) -> Result<Vec<u8>, AllocError>
     Ok(text)
 }
 
-/// Appends a line for each class of callers: the word of what is done, the user or `others`, the groups that they are in and
-/// those that they aren't in, and how the rules decide: `read user 7: ok`, `read others not in 20: denied M1 EACCES 0 2`.
+/// Appends a line for each class of callers: the word of what is done, the user or `others`, the groups that they are
+/// in and those that they aren't in, and how the rules decide: `read user 7: ok`, `read others not in 20: denied M1
+/// EACCES 0 2`.
 pub fn push_who(out: &mut Vec<u8>, word: &str, who: &Who) -> Result<(), AllocError>
     ensures { OnOk result (out.new.items ≡ out.old.items ++ who_text word.now who.now) }
 {

@@ -17,7 +17,7 @@ use crate::asking::{push_call, push_leaving, push_search};
 use crate::condition::{Condition, Question};
 use crate::line::Line;
 use crate::lines::lines_of;
-use lfs_calls::tree::Tree;
+use lfs_calls::cached_store::CachedStore;
 use lfs_explain::explain::{Explanation, explain, first_of, second_of};
 use lfs_explain::trail::Trail;
 use lfs_types::cred::Cred;
@@ -47,8 +47,9 @@ pub struct Who {
 }
 
 /// Who could make a call, over all callers there can be, at this securelevel, where its paths lead through what an
-/// explanation of it has: of the same call, by whatever caller, on the tree of now. Users and groups are told apart only
-/// where the rules decide otherwise; of a SetLevel only callers who aren't init are told. An error where memory runs out.
+/// explanation of it has: of the same call, by whatever caller, on the tree of now. Users and groups are told apart
+/// only where the rules decide otherwise; of a SetLevel only callers who aren't init are told. An error where memory
+/// runs out.
 pub fn who_along(
     alloc: Global,
     level: Level,
@@ -99,16 +100,16 @@ fn is_of(trail: &Trail, names: &[Name]) -> bool
 /// Who could make a call now, as `who_along` tells, by what its paths lead through now.
 pub fn who_calls<F: FileStore>(
     alloc: Global,
-    tree: &mut Tree<F>,
+    store: &mut CachedStore<F>,
     level: Level,
     request: &Request,
 ) -> Result<Who, AllocError>
-    requires { HasWorld (F.state tree.old) }
-    ensures who { IfOk result (λ who. InWorld (F.state tree.old) (λ w. w.level ≡ level
+    requires { HasWorld (F.state store.old) }
+    ensures who { IfOk result (λ who. InWorld (F.state store.old) (λ w. w.level ≡ level
         → IsWhoCalls w request.now who)) }
-    ensures state { F.state tree.new ≡ F.state tree.old }
+    ensures state { F.state store.new ≡ F.state store.old }
 {
-    let paths = paths_of(alloc, tree, level, request)?;
+    let paths = paths_of(alloc, store, level, request)?;
     let who = who_along(alloc, level, request, &paths)?;
     Ok(who)
 }
@@ -116,45 +117,45 @@ pub fn who_calls<F: FileStore>(
 /// Who could do this by a path now, over all callers there can be, at this securelevel, as `who_calls` tells of a call.
 pub fn who_could<F: FileStore>(
     alloc: Global,
-    tree: &mut Tree<F>,
+    store: &mut CachedStore<F>,
     level: Level,
     act: Act,
     path: &Path,
 ) -> Result<Who, AllocError>
-    requires { HasWorld (F.state tree.old) }
-    ensures who { IfOk result (λ who. InWorld (F.state tree.old) (λ w. w.level ≡ level
+    requires { HasWorld (F.state store.old) }
+    ensures who { IfOk result (λ who. InWorld (F.state store.old) (λ w. w.level ≡ level
         → IsWho w act path.now who)) }
-    ensures state { F.state tree.new ≡ F.state tree.old }
+    ensures state { F.state store.new ≡ F.state store.old }
 {
     let request = act.request_of(alloc, path)?;
     match act {
         Act::Search => {
-            let paths = paths_of(alloc, tree, level, &request)?;
+            let paths = paths_of(alloc, store, level, &request)?;
             who_searches(alloc, &paths.first)
         }
         Act::Move => {
-            let paths = paths_of(alloc, tree, level, &request)?;
+            let paths = paths_of(alloc, store, level, &request)?;
             who_moves(alloc, &paths.first)
         }
-        _ => who_calls(alloc, tree, level, &request),
+        _ => who_calls(alloc, store, level, &request),
     }
 }
 
 /// What a call's paths lead through.
 pub(crate) fn paths_of<F: FileStore>(
     alloc: Global,
-    tree: &mut Tree<F>,
+    store: &mut CachedStore<F>,
     level: Level,
     request: &Request,
 ) -> Result<Explanation, AllocError>
-    requires { HasWorld (F.state tree.old) }
+    requires { HasWorld (F.state store.old) }
     ensures short { IfOk result (λ paths. paths.first.names ≤ PATH_MAX) }
     ensures short_second { IfOk result (λ paths. paths.second.names ≤ PATH_MAX) }
-    ensures first { IfOk result (λ paths. InWorld (F.state tree.old) (λ w.
+    ensures first { IfOk result (λ paths. InWorld (F.state store.old) (λ w.
         IsTrail w.rows (first_names request.now) paths.first)) }
-    ensures second { IfOk result (λ paths. InWorld (F.state tree.old) (λ w.
+    ensures second { IfOk result (λ paths. InWorld (F.state store.old) (λ w.
         IsTrail w.rows (second_names request.now) paths.second)) }
-    ensures state { F.state tree.new ≡ F.state tree.old }
+    ensures state { F.state store.new ≡ F.state store.old }
 {
     let Ok(superuser) = Cred::new(0, &[0], false) else {
         // Never: one group is no more than 16.
@@ -163,7 +164,7 @@ pub(crate) fn paths_of<F: FileStore>(
     // By their clauses each is a path.
     let _first = first_of(request);
     let _second = second_of(request);
-    let paths = explain(alloc, tree, level, &superuser, request)?;
+    let paths = explain(alloc, store, level, &superuser, request)?;
     Ok(paths)
 }
 

@@ -1,4 +1,8 @@
--- The lines of checks, one by one; what stands at a place of a list.
+-- The lines of checks, one by one; what stands at a place of a list: `line_next` and `lines_all` for
+-- `tell_explanation`, `got` and `not_got` for `push_name_at`, `why_told` for lfs_live. The text so far, with the lines
+-- of the checks that are left, is the whole text, and the next check's line goes from the second to the first. An
+-- explanation's rows are those that the paths lead through in the world, and its checks those that are asked there, so
+-- its text is why the rules decide so.
 use Rattle.std.proofs.Common.{◌≡◌, ℕ, zero, suc, ◌+◌, ◌<◌, ◌≤◌, List, [], ◌∷◌, length, drop, get_or, None, Some, refl}
 use Rattle.std.proofs.Common.{sym, ap, ◌∙◌, arith}
 use Rattle.std.specs.Prelude.{slice_get}

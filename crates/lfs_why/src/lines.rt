@@ -17,6 +17,15 @@ use lfs_types::rule::{Denial, Rule};
 use lfs_words::append::{push_flags, push_mode, push_name, push_number, push_word};
 use std::alloc::{AllocError, Global};
 
+/// The path that a check is of.
+#[derive(Clone, Copy)]
+struct Way<'a> {
+    /// Its names.
+    names: &'a [Name],
+    /// The rows that they lead through.
+    rows: &'a [ShownRow],
+}
+
 /// The lines of an explanation of a call by a caller: one for each check, and what they come to.
 pub fn tell_explanation(
     alloc: Global,
@@ -49,11 +58,17 @@ fn push_check(
     let Denial { rule, path, at } = check.denial();
     push_head(out, check)?;
     if path == 0 {
-        let rows = explanation.first.rows.as_slice();
-        push_subject(out, cred, rule, at, first_of(request), rows)?;
+        let way = Way {
+            names: first_of(request),
+            rows: explanation.first.rows.as_slice(),
+        };
+        push_subject(out, cred, rule, at, way)?;
     } else {
-        let rows = explanation.second.rows.as_slice();
-        push_subject(out, cred, rule, at, second_of(request), rows)?;
+        let way = Way {
+            names: second_of(request),
+            rows: explanation.second.rows.as_slice(),
+        };
+        push_subject(out, cred, rule, at, way)?;
     }
     Ok(out.push(b'\n')?)
 }
@@ -73,28 +88,27 @@ fn push_head(out: &mut Vec<u8>, check: &Check) -> Result<(), AllocError>
     push_word(out, met)
 }
 
-/// Appends of what a rule is asked at component `at` of a path of these names, which lead through these rows.
+/// Appends of what a rule is asked at component `at` of a path.
 fn push_subject(
     out: &mut Vec<u8>,
     cred: &Cred,
     rule: Rule,
     at: u32,
-    names: &[Name],
-    rows: &[ShownRow],
+    path: Way<'_>,
 ) -> Result<(), AllocError>
     ensures { OnOk result (out.new.items ≡ with_subject out.old.items cred.now rule at
-        names.now rows.now) }
+        path.entry.names.now path.entry.rows.now) }
 {
     let before = (at as usize).saturating_sub(1);
     if asks_name(rule) {
         return if at == 0 {
             Ok(())
         } else {
-            push_name_at(out, names, before)
+            push_name_at(out, path.names, before)
         };
     }
-    push_asked(out, cred, rule, row_of(rows, at as usize))?;
-    push_directory(out, rule, row_of(rows, before))?;
+    push_asked(out, cred, rule, row_of(path.rows, at as usize))?;
+    push_directory(out, rule, row_of(path.rows, before))?;
     push_caller(out, cred, rule)
 }
 

@@ -6,7 +6,7 @@ use Rattle.lfs_explain.proofs.looking.child_of.Goals as goal
 
 pub returns-then-not-is_directory-clause-child : goal.returns-then-not-is_directory-clause-child
 returns-then-not-is_directory-clause-child g c w v =
-    file_childless (g.F.FileStore.state c.args.tree.now).content w v.shows c.args.dir c.in-Some.attrs c.in-Some.ensures
+    file_childless (g.F.FileStore.state c.args.store.now).content w v.shows c.args.dir c.in-Some.attrs c.in-Some.ensures
     v.tree (sym c.if-not-is_directory.ensures) c.args.name.now
 
 pub look_up-requires-clause-stored : goal.look_up-requires-clause-stored
@@ -21,5 +21,5 @@ look_up-requires-clause-directory g c =
 pub returns-clause-child : goal.returns-clause-child
 returns-clause-child g c w v =
     sym (c.look_up.ensures.found
-    ∙ child_listed (g.F.FileStore.state c.args.tree.now).content w v.shows c.args.dir c.in-Some.attrs c.in-Some.ensures
+    ∙ child_listed (g.F.FileStore.state c.args.store.now).content w v.shows c.args.dir c.in-Some.attrs c.in-Some.ensures
     (sym c.if-not-is_directory.ensures) c.args.name.now)

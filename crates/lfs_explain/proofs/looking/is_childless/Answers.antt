@@ -10,7 +10,7 @@ pub returns-then-not-is_directory-clause-childless : goal.returns-then-not-is_di
 returns-then-not-is_directory-clause-childless g c w v =
     sym (children-none w.rows c.args.number
     (no_parent w.rows v.tree c.args.number
-    (directory_reads (g.F.FileStore.state c.args.tree.now).content w v.shows c.args.number c.in-Some.attrs
+    (directory_reads (g.F.FileStore.state c.args.store.now).content w v.shows c.args.number c.in-Some.attrs
     c.in-Some.ensures ∙ sym c.if-not-is_directory.ensures)))
 
 pub is_empty_directory-requires : goal.is_empty_directory-requires
@@ -20,6 +20,6 @@ is_empty_directory-requires g c =
 
 pub returns-clause-childless : goal.returns-clause-childless
 returns-clause-childless g c w v =
-    directory_empty (g.F.FileStore.state c.args.tree.now).content w v.shows c.args.number c.in-Some.attrs
+    directory_empty (g.F.FileStore.state c.args.store.now).content w v.shows c.args.number c.in-Some.attrs
     c.in-Some.ensures (sym c.if-not-is_directory.ensures)
     c.is_empty_directory.result c.is_empty_directory.ensures.empty

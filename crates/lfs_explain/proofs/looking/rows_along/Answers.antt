@@ -29,7 +29,7 @@ loop-name-preserved g c = record {
   used =
       let t = c.requires.world in
       let here = still c.loop-name.invariant.state t.1 in
-      child-stored (g.F.FileStore.state c.child_of.new.tree).content t.0
+      child-stored (g.F.FileStore.state c.child_of.new.store).content t.0
       (still c.child_of.ensures.state here).shows c.loop-name.at c.name-item.result c.in-Some.next
       (c.in-Some.ensures.child t.0 here);
   state = c.child_of.ensures.state ∙ c.loop-name.invariant.state;

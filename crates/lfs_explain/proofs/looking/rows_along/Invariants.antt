@@ -9,8 +9,8 @@ use Rattle.lfs_explain.proofs.looking.rows_along.Given as goal
 -- the trail of all the names is the rows so far, and the trail of the rest from here
 abbrev pub invariant-loop-name : goal.invariant-loop-name
 invariant-loop-name g l = record {
-  rows_along : (w : World) → IsVolume (g.F.FileStore.state l.fn.tree) w → rows_along w.rows root l.names ≡ l.rows.items
+  rows_along : (w : World) → IsVolume (g.F.FileStore.state l.fn.store) w → rows_along w.rows root l.names ≡ l.rows.items
       ++ rows_along w.rows l.at (drop l.name-index l.names);
-  used : IsSome (get (g.F.FileStore.state l.tree).content l.at);
-  state : g.F.FileStore.state l.tree ≡ g.F.FileStore.state l.fn.tree;
+  used : IsSome (get (g.F.FileStore.state l.store).content l.at);
+  state : g.F.FileStore.state l.store ≡ g.F.FileStore.state l.fn.store;
 }

@@ -13,7 +13,7 @@ pub ends_childless-is_childless-requires-clause-used : goal.ends_childless-is_ch
 ends_childless-is_childless-requires-clause-used g c row is =
     let t = c.requires.world in
     let here = still c.rows_along.ensures.state t.1 in
-    trail_stored (g.F.FileStore.state c.rows_along.new.tree).content t.0 here.shows here.tree c.args.names.now
+    trail_stored (g.F.FileStore.state c.rows_along.new.store).content t.0 here.shows here.tree c.args.names.now
     (length c.args.names.now) row
     (ap (λ (rs : List ShownRow). slice_get rs (length c.args.names.now))
     (sym (c.deref.ensures.value ∙ c.in_ok-rows.ensures.rows_along t.0 t.1)) ∙ is)

@@ -12,7 +12,7 @@ returns-in-Chflags c =
     on_ok_weaker c.push-in-Chflags.result
     (λ e. ap asked e
     ∙ append_same c.args.checks.now.items c.chflags.result
-    (chflags_tests c.args.cred.now c.args.level c.in-Chflags.flags c.args.file.now c.args.at) c.chflags.ensures
+    (chflags_tests c.args.call.cred.now c.args.call.level c.in-Chflags.flags c.args.file.now c.args.at) c.chflags.ensures
     ∙ ap (λ (r : Request). asked (c.args.checks.now.items
-    ++ own_tests c.args.level c.args.cred.now r c.args.file.now c.args.at)) (sym c.in-Chflags.is))
+    ++ own_tests c.args.call.level c.args.call.cred.now r c.args.file.now c.args.at)) (sym c.in-Chflags.is))
     c.push-in-Chflags.ensures

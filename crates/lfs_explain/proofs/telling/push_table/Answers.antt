@@ -12,8 +12,8 @@ returns-in-SetLevel c =
     on_ok_weaker c.push-in-SetLevel.result
     (λ e. ap asked e
     ∙ append_same c.args.checks.now.items c.set_level.result
-    (level_tests c.args.cred.now c.args.level c.in-SetLevel.new) c.set_level.ensures
+    (level_tests c.args.call.cred.now c.args.call.level c.in-SetLevel.new) c.set_level.ensures
     ∙ ap (λ (r : Request). asked (c.args.checks.now.items
-    ++ table_by c.args.level c.args.cred.now r (known_path c.args.first.now) (known_path c.args.second.now)))
+    ++ table_by c.args.call.level c.args.call.cred.now r (known_path c.args.first.now) (known_path c.args.second.now)))
     (sym c.in-SetLevel.is))
     c.push-in-SetLevel.ensures

@@ -15,16 +15,17 @@ use Rattle.lfs_trees.proofs.reading.read_block.Goals as goal
 
 pub loop-number-init : goal.loop-number-init
 loop-number-init g c =
-    let bytes = bytes_of (g.F.FileStore.state c.args.store.now).content c.args.directory in
+    let place = c.args.place in
+    let bytes = bytes_of (g.F.FileStore.state c.args.store.now).content place.directory in
     let entries = c.into_iter-number-iterator.ensures.into_iter_gives ∙ c.entries-number-items.ensures.value in
     record {
       can_next = tt;
       is_finite = tt;
       part = record {
-        read = entries_below bytes c.args.index;
-        parts = ap (λ es. entries_below bytes c.args.index ++ es) (entries
+        read = entries_below bytes place.index;
+        parts = ap (λ es. entries_below bytes place.index ++ es) (entries
             ∙ ap entries_of c.block_of-block.ensures.block)
-            ∙ sym (below_further bytes c.args.index);
+            ∙ sym (below_further bytes place.index);
         reading = c.requires.reading;
         named = c.requires.named;
         entries = subst AreEntries (sym entries)
@@ -35,17 +36,18 @@ loop-number-init g c =
 
 pub loop-number-preserved : goal.loop-number-preserved
 loop-number-preserved g c =
+    let place = c.args.place in
     let content = (g.F.FileStore.state c.args.store.now).content in
-    let bytes = bytes_of content c.args.directory in
+    let bytes = bytes_of content place.directory in
     let whole = c.requires.whole in
     let entry : Entry = (c.in-Some.number, c.in-Some.name.now) in
-    let behind = by_block bytes c.args.index whole.whole (subst (λ n. c.args.index < n) whole.counted c.requires.within)
+    let behind = by_block bytes place.index whole.whole (subst (λ n. place.index < n) whole.counted c.requires.within)
     in
     record {
       can_next = tt;
       is_finite = tt;
-      part = part_more content c.args.walk.now c.loop-number.walk c.loop-number.names c.args.directory
-          (entries_below bytes (c.args.index + 1))
+      part = part_more content c.args.walk.now c.loop-number.walk c.loop-number.names place.directory
+          (entries_below bytes (place.index + 1))
           c.loop-number.number-iterator c.next.new.self behind.0 entry c.loop-number.invariant.part
           c.in-Some.ensures.steps behind.1 c.enter.new.walk c.enter.new.names
           (subst (λ (x : Content). IsEntered x c.loop-number.walk c.loop-number.names entry c.enter.new.walk
@@ -56,19 +58,20 @@ loop-number-preserved g c =
 
 pub returns-in_err-enter-clause-fault : goal.returns-in_err-enter-clause-fault
 returns-in_err-enter-clause-fault g c =
+    let place = c.args.place in
     let content = (g.F.FileStore.state c.args.store.now).content in
-    let bytes = bytes_of content c.args.directory in
+    let bytes = bytes_of content place.directory in
     let whole = c.requires.whole in
     let entry : Entry = (c.in-Some.number, c.in-Some.name.now) in
-    let behind = by_block bytes c.args.index whole.whole (subst (λ n. c.args.index < n) whole.counted c.requires.within)
+    let behind = by_block bytes place.index whole.whole (subst (λ n. place.index < n) whole.counted c.requires.within)
     in
     let p = err_from_is_err_and c.from_residual.result c.from_residual.ensures.1 in
     let fault = subst
-    (λ (x : Content). IsEntryFault x c.loop-number.walk c.loop-number.names c.args.directory entry
+    (λ (x : Content). IsEntryFault x c.loop-number.walk c.loop-number.names place.directory entry
     c.in_err-enter.field-0.0)
     (same_content c.loop-number.invariant.state) c.in_err-enter.ensures.fault in
-    let is = part_fault content c.args.walk.now c.loop-number.walk c.loop-number.names c.args.directory
-    (entries_below bytes (c.args.index + 1))
+    let is = part_fault content c.args.walk.now c.loop-number.walk c.loop-number.names place.directory
+    (entries_below bytes (place.index + 1))
     c.loop-number.number-iterator c.next.new.self behind.0 entry c.loop-number.invariant.part
     c.in-Some.ensures.steps behind.1 c.in_err-enter.field-0.0 fault in
     subst (λ r. IfErr r (IsTreeFaultOf content)) (sym p.1) (subst (IsTreeFaultOf content) (sym p.2) is)

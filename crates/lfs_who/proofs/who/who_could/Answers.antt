@@ -10,9 +10,9 @@ use Rattle.lfs_who.proofs.who.who_could.Goals as goal
 pub returns : goal.returns
 returns g c = record {
   who = IfOk-weaker c.who_calls.result
-      (λ (who : Who). InWorld (g.F.FileStore.state c.args.tree.now) (λ w. w.level ≡ c.args.level
+      (λ (who : Who). InWorld (g.F.FileStore.state c.args.store.now) (λ w. w.level ≡ c.args.level
       → IsWhoCalls w c.in_ok-request.request who))
-      (λ (who : Who). InWorld (g.F.FileStore.state c.args.tree.now) (λ w. w.level ≡ c.args.level
+      (λ (who : Who). InWorld (g.F.FileStore.state c.args.store.now) (λ w. w.level ≡ c.args.level
       → IsWho w c.args.act c.args.path.now who))
       (λ who is w v at. calls_are w c.args.path.now who c.args.act c.in_default.not-Search c.in_default.not-Move
       (subst (λ (r : Request). IsWhoCalls w r who) c.in_ok-request.ensures (is w v at)))

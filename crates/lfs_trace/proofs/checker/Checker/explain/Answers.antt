@@ -3,5 +3,5 @@ use Rattle.lfs_trace.proofs.checker.Checker.explain.Goals as goal
 
 pub invariant_of-self : goal.invariant_of-self
 invariant_of-self c =
-    still_stands c.self.inside.tree c.explain.new.tree c.self.inside.level c.self.inside.segments
+    still_stands c.self.inside.store c.explain.new.store c.self.inside.level c.self.inside.segments
     c.explain.ensures.state c.self.inside.numbers c.self.invariant

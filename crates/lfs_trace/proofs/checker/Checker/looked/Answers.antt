@@ -10,8 +10,8 @@ use Rattle.lfs_trace.proofs.checker.Checker.looked.Goals as goal
 
 pub invariant_of-self : goal.invariant_of-self
 invariant_of-self c =
-    still_stands c.self.inside.tree c.serve.new.store c.self.inside.level c.self.inside.segments
-    (looked_on c.args.request.now (plain_state c.self.inside.tree)
+    still_stands c.self.inside.store c.serve.new.store c.self.inside.level c.self.inside.segments
+    (looked_on c.args.request.now (plain_state c.self.inside.store)
     (plain_state c.serve.new.store) c.requires c.serve.ensures.call.looks)
     c.self.inside.numbers c.self.invariant
 
@@ -20,14 +20,14 @@ returns-clause-ruled c =
     subst (λ v. IfOk c.enough.result (λ answer. (w : World) → StandsAt v w
     → IsRuled (numbers_of v) w c.args.cred.now c.args.request.now answer)) c.self.view_is
     (IfOk-weaker c.enough.result _ _ (λ answer h w at.
-    ruled (plain_state c.self.inside.tree) w c.args.cred.now c.args.request.now answer c.is_plain.ensures at.shown
-    (subst (IsOutcome (plain_state c.self.inside.tree) w c.args.cred.now c.args.request.now)
+    ruled (plain_state c.self.inside.store) w c.args.cred.now c.args.request.now answer c.is_plain.ensures at.shown
+    (subst (IsOutcome (plain_state c.self.inside.store) w c.args.cred.now c.args.request.now)
     (sym (h.0 ∙ c.answered.ensures)) (c.serve.ensures.call.outcome w at.shown at.at_level)) h.1)
     c.enough.ensures)
 
 pub returns-clause-same : goal.returns-clause-same
 returns-clause-same c =
     subst (λ v. IsSameStanding v (standing c.serve.new.store c.self.inside.level c.self.inside.segments)) c.self.view_is
-    (same_standing c.self.inside.tree c.serve.new.store c.self.inside.level c.self.inside.segments
-    (looked_on c.args.request.now (plain_state c.self.inside.tree)
+    (same_standing c.self.inside.store c.serve.new.store c.self.inside.level c.self.inside.segments
+    (looked_on c.args.request.now (plain_state c.self.inside.store)
     (plain_state c.serve.new.store) c.requires c.serve.ensures.call.looks))

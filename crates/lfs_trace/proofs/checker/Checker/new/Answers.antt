@@ -8,14 +8,14 @@ use Rattle.lfs_trace.proofs.checker.Checker.new.Goals as goal
 
 pub invariant_of-result : goal.invariant_of-result
 invariant_of-result c =
-    let same : plain_state c.in_ok-tree.tree ≡ opening_state c.args.numbers = ap plain_state c.in_ok-tree.ensures
+    let same : plain_state c.in_ok-store.store ≡ opening_state c.args.numbers = ap plain_state c.in_ok-store.ensures
     ∙ c.in_ok-files.ensures.opening in (
       sym (ap (λ (s : StoreState). s.shape.numbers) same),
       opening_world,
-      opening_stands c.in_ok-tree.tree c.args.numbers c.args.segments same,
+      opening_stands c.in_ok-store.store c.args.numbers c.args.segments same,
     )
 
 pub returns-clause-opening : goal.returns-clause-opening
 returns-clause-opening c =
-    opening_stands c.in_ok-tree.tree c.args.numbers c.args.segments (ap plain_state c.in_ok-tree.ensures
+    opening_stands c.in_ok-store.store c.args.numbers c.args.segments (ap plain_state c.in_ok-store.ensures
     ∙ c.in_ok-files.ensures.opening)

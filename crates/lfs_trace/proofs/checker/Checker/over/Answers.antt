@@ -16,17 +16,17 @@ invariant_of-result g c =
     let w = c.requires.world.0 in
     let v = c.requires.world.1 in
     let from = (g.F.FileStore.state c.args.store.now).content in
-    let same : content_of c.in_ok-tree.tree.places.items ≡ from =
-    ap (λ (s : FlatFiles). content_of s.places.items) c.in_ok-tree.ensures ∙ c.in_ok-files.ensures.content in (
-      sym (ap (λ (s : FlatFiles). vec_len s.places) c.in_ok-tree.ensures ∙ c.in_ok-files.ensures.numbers),
+    let same : content_of c.in_ok-cached.cached.places.items ≡ from =
+    ap (λ (s : FlatFiles). content_of s.places.items) c.in_ok-cached.ensures ∙ c.in_ok-files.ensures.content in (
+      sym (ap (λ (s : FlatFiles). vec_len s.places) c.in_ok-cached.ensures ∙ c.in_ok-files.ensures.numbers),
       record { level = c.args.level; rows = w.rows },
-      over_stands c.in_ok-tree.tree from c.args.level c.args.segments (record { level = c.args.level; rows = w.rows })
+      over_stands c.in_ok-cached.cached from c.args.level c.args.segments (record { level = c.args.level; rows = w.rows })
           same (relevelled from w v.shows v.tree c.args.level) v.tree refl,
     )
 
 pub returns-clause-stands : goal.returns-clause-stands
 returns-clause-stands g c w v at =
     let from = (g.F.FileStore.state c.args.store.now).content in
-    over_stands c.in_ok-tree.tree from c.args.level c.args.segments w
-    (ap (λ (s : FlatFiles). content_of s.places.items) c.in_ok-tree.ensures ∙ c.in_ok-files.ensures.content)
+    over_stands c.in_ok-cached.cached from c.args.level c.args.segments w
+    (ap (λ (s : FlatFiles). content_of s.places.items) c.in_ok-cached.ensures ∙ c.in_ok-files.ensures.content)
     v.shows v.tree at

@@ -23,7 +23,7 @@ returns c =
     (subst (λ v. (w : World) → StandsAt v w → IsTrue c.is_number_left-is_number_left.result
     ↔ ¬ (AllUsed (numbers_of v) w.rows)) c.self.view_is
     (λ w at. either c.is_number_left-is_number_left.result
-    (AllUsed (plain_state c.self.inside.tree).shape.numbers w.rows)
+    (AllUsed (plain_state c.self.inside.store).shape.numbers w.rows)
     (c.is_number_left-is_number_left.ensures.left w at.shown)
     (c.is_number_left-is_number_left.ensures.none w at.shown)))
     c.may_be_refused.ensures)

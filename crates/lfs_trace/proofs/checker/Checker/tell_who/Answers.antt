@@ -9,7 +9,7 @@ use Rattle.lfs_trace.proofs.checker.Checker.tell_who.Goals as goal
 
 pub invariant_of-self : goal.invariant_of-self
 invariant_of-self c =
-    still_stands c.self.inside.tree c.tell_who.new.tree c.self.inside.level c.self.inside.segments
+    still_stands c.self.inside.store c.tell_who.new.store c.self.inside.level c.self.inside.segments
     c.tell_who.ensures.state c.self.inside.numbers c.self.invariant
 
 pub returns-clause-told : goal.returns-clause-told

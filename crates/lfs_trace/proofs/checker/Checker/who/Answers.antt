@@ -3,5 +3,5 @@ use Rattle.lfs_trace.proofs.checker.Checker.who.Goals as goal
 
 pub invariant_of-self : goal.invariant_of-self
 invariant_of-self c =
-    still_stands c.self.inside.tree c.who_could.new.tree c.self.inside.level c.self.inside.segments
+    still_stands c.self.inside.store c.who_could.new.store c.self.inside.level c.self.inside.segments
     c.who_could.ensures.state c.self.inside.numbers c.self.invariant

@@ -9,14 +9,14 @@ use Rattle.lfs_volume.proofs.volume.Volume.make.Goals as goal
 pub returns-in-User-clause-made : goal.returns-in-User-clause-made
 returns-in-User-clause-made g c = λ from begins.
     let s = g.F.CleanedStore in
-    let r = cleaner_of g.F.FileStore.state g.F.FileStore.is_settled g.F.FileStore.made s.cleaner in
+    let r = cleaner_of g.F.FileStore.state g.F.FileStore.is_flushed g.F.FileStore.made s.cleaner in
     let old = c.args.self.now in
     let new = c.call.new.self in
     let e = c.call.ensures in
     subst (λ (act : Act). IsActMade r old.limit from old.journal old.store c.args.step.cred act
     (User c.call.result) new.store) (sym c.in-User.is)
     (record {
-      made = call_made r.state r.is_settled from old new c.args.step.cred c.in-User.request c.call.result e.full e.at_limit
+      made = call_made r.state r.is_flushed from old new c.args.step.cred c.in-User.request c.call.result e.full e.at_limit
           (e.shown from begins) (λ room. e.outcome room from begins)
           (e.entries from begins) e.unserved e.looks e.unasked e.synced e.follows;
       asked = e.asked;

@@ -21,7 +21,7 @@ loop-session-preserved g c =
     let before = c.loop-session.self in
     let next = call.new.self in
     let state = g.F.FileStore.state in
-    let settled = g.F.FileStore.is_settled in
+    let flushed = g.F.FileStore.is_flushed in
     let said = g.F.FileStore.made in
     let opening = c.args.self.now in
     let journal = opening.journal ++ kept c.loop-session.yielded c.loop-session.answers.items in
@@ -34,18 +34,18 @@ loop-session-preserved g c =
     ∷ c.next.new.self.rest.items = c.in-Some.ensures.steps.0 in
     record {
       each = λ from begins. let here = still from begins in
-          subst (λ answers. AreCallsAsked state settled said opening.limit from opening.journal opening.store
+          subst (λ answers. AreCallsAsked state flushed said opening.limit from opening.journal opening.store
           (c.loop-session.yielded ++ one ∷ []) answers next.store) (sym pushed)
           (AreMadeSo-append (λ j this call told left.
-          IsCallAsked state settled said opening.limit from j this call.cred call.request told left)
+          IsCallAsked state flushed said opening.limit from j this call.cred call.request told left)
           opening.journal opening.store before.store next.store
           c.loop-session.yielded c.loop-session.answers.items one answer (i.each from begins)
-          (subst (λ n. IsCallAsked state settled said n from journal before.store one.cred one.request answer next.store)
+          (subst (λ n. IsCallAsked state flushed said n from journal before.store one.cred one.request answer next.store)
           i.limit
-          (subst (λ j. IsCallAsked state settled said before.limit from j before.store one.cred one.request answer
+          (subst (λ j. IsCallAsked state flushed said before.limit from j before.store one.cred one.request answer
           next.store) i.entered
           (record {
-            made = call_made state settled from before next one.cred one.request answer made.full made.at_limit
+            made = call_made state flushed from before next one.cred one.request answer made.full made.at_limit
                 (made.shown from here) (λ room. made.outcome room from here)
                 (made.entries from here) made.unserved made.looks made.unasked made.synced made.follows;
             asked = made.asked;

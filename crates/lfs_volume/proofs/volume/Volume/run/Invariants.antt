@@ -8,7 +8,7 @@ use Rattle.lfs_volume.proofs.volume.Volume.run.Given as goal
 abbrev pub invariant-loop-session : goal.invariant-loop-session
 invariant-loop-session g l = record {
   each : Since (g.F.FileStore.state l.fn.self.since) l.fn.self.since_level
-      (λ from. AreCallsAsked g.F.FileStore.state g.F.FileStore.is_settled g.F.FileStore.made l.fn.self.limit from
+      (λ from. AreCallsAsked g.F.FileStore.state g.F.FileStore.is_flushed g.F.FileStore.made l.fn.self.limit from
       l.fn.self.journal l.fn.self.store l.yielded l.answers.items l.self.store);
   entered : l.self.journal ≡ l.fn.self.journal ++ kept l.yielded l.answers.items;
   legal : Since (g.F.FileStore.state l.self.since) l.self.since_level

@@ -15,7 +15,7 @@ use Rattle.lfs_volume.proofs.volume.Volume.run_steps.Goals as goal
 pub loop-step-preserved : goal.loop-step-preserved
 loop-step-preserved g c =
     let i = c.loop-step.invariant in
-    let r = cleaner_of g.F.FileStore.state g.F.FileStore.is_settled g.F.FileStore.made g.F.CleanedStore.cleaner in
+    let r = cleaner_of g.F.FileStore.state g.F.FileStore.is_flushed g.F.FileStore.made g.F.CleanedStore.cleaner in
     let answer = c.make-answered.result in
     let made = c.make-answered.ensures in
     let step = c.in-Some.step in

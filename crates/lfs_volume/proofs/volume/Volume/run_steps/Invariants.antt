@@ -10,7 +10,7 @@ invariant-loop-step g l =
     let r = g.F.CleanedStore in
     record {
       each : Since (g.F.FileStore.state l.fn.self.since) l.fn.self.since_level
-          (λ from. AreSteps (cleaner_of g.F.FileStore.state g.F.FileStore.is_settled g.F.FileStore.made r.cleaner) l.fn.self.limit from
+          (λ from. AreSteps (cleaner_of g.F.FileStore.state g.F.FileStore.is_flushed g.F.FileStore.made r.cleaner) l.fn.self.limit from
           l.fn.self.journal l.fn.self.store l.yielded l.answers.items l.self.store);
       entered : l.self.journal ≡ l.fn.self.journal ++ kept_steps l.yielded l.answers.items;
       legal : Since (g.F.FileStore.state l.self.since) l.self.since_level
