@@ -1,4 +1,4 @@
 pub mod ReadLemmas
-pub mod SettledLemmas
+pub mod FlushedLemmas
 pub mod StandingLemmas
 pub mod VolumeLemmas

@@ -1,19 +1,23 @@
--- The image of a store of which nothing waits is that of a volume.
+-- The image of a store of which nothing waits is that of a volume: `flushed_now`, `flushed_volume`, `well_told` and
+-- `flushed_told`, for `check_store`. If no record and no block waits, all that the store has stands in its log, so a
+-- store over this log has the same content and shows the same world (`flushed_world`). A log has one image and bytes
+-- are the image of one log, so a verdict on these bytes is on this log; and it can't be a fault, as that would say that
+-- they are no volume.
 use Rattle.std.proofs.Common.{◌≡◌, ℕ, zero, suc, ◌||◌, Bool, true, false, List, [], ◌∷◌, length, refl, sym, ap, subst, ◌∙◌, arith}
-use Rattle.std.specs.Prelude.{nat_lt, codes}
+use Rattle.std.specs.Prelude.{nat_lt}
 use Rattle.std.proofs.lemmas.Bool.{false≢true, lt-ltb}
 use Rattle.lfs_types.specs.Ranges.{least_frames}
 use Rattle.lfs_types.specs.declared.level.Level.{Level}
 use Rattle.lfs_parts.specs.declared.parts.Parts.{Parts}
 use Rattle.lfs_parts.specs.Files.{content_of}
-use Rattle.lfs_parts.specs.Store.{IsSettled, IsStore}
+use Rattle.lfs_parts.specs.Store.{IsFlushed, IsStore}
 use Rattle.lfs_parts.proofs.SameContentLemmas.{content_of-same}
 use Rattle.lfs_logstore.specs.States.{shape_of, state_of}
 use Rattle.lfs_calls.specs.Volumes.{HasWorld}
 use Rattle.lfs_fsck.specs.Stored.{stored}
 use Rattle.lfs_image.specs.Image.{IsImageOf, IsLabelled, image_bytes}
 use Rattle.lfs_image.proofs.ImageLemmas.{one_image}
-use Rattle.lfs_checking.proofs.SettledLemmas.{settled_files, settled_stored}
+use Rattle.lfs_checking.proofs.FlushedLemmas.{flushed_files, flushed_stored}
 use Rattle.lfs_checking.specs.Standing.{check_text, waits}
 use Rattle.lfs_checking.specs.Volumes.{IsVerdict, IsVolume, well_text}
 
@@ -26,29 +30,29 @@ neither true b none = absurd (cc)
 neither false b none = (refl, none)
 
 -- nothing waits
-pub settled_now : (p : Parts) → waits p ≡ false → IsSettled p
-settled_now p none =
+pub flushed_now : (p : Parts) → waits p ≡ false → IsFlushed p
+flushed_now p none =
     let both = neither (nat_lt 0 (length p.cache.locked)) (nat_lt 0 (length p.waiting)) none in
     record { no_record = no_length p.waiting both.1; no_frame = no_length p.cache.locked both.0 }
 
 -- what such a store shows, one over its log shows
-pub settled_world : (p : Parts) (frames : ℕ) → IsSettled p → HasWorld (state_of p) → HasWorld (state_of (stored frames p.log))
-settled_world p frames done world =
+pub flushed_world : (p : Parts) (frames : ℕ) → IsFlushed p → HasWorld (state_of p) → HasWorld (state_of (stored frames p.log))
+flushed_world p frames done world =
     let same : content_of (stored frames p.log) ≡ content_of p =
-    content_of-same p (stored frames p.log) refl (λ k low. settled_files p done frames k) in
+    content_of-same p (stored frames p.log) refl (λ k low. flushed_files p done frames k) in
     subst (λ c. HasWorld (record {
       content = c;
       clean = p.log.clean;
       shape = shape_of (length p.log.tables.rows) p.log.memory.segments;
     })) (sym same) world
 
-pub settled_volume : (p : Parts) (level : Level) → IsSettled p → IsStore p → HasWorld (state_of p) → IsLabelled p.log
+pub flushed_volume : (p : Parts) (level : Level) → IsFlushed p → IsStore p → HasWorld (state_of p) → IsLabelled p.log
     → IsVolume (image_bytes p.log level) p.log level
-settled_volume p level done store world labelled = record {
+flushed_volume p level done store world labelled = record {
   image = record { parts = store.whole.parts; spelled = refl };
   labelled = labelled;
-  stored = settled_stored p done store;
-  world = settled_world p least_frames done world;
+  stored = flushed_stored p done store;
+  world = flushed_world p least_frames done world;
 }
 
 -- so the verdict on it is that it is well
@@ -63,10 +67,5 @@ well_told p level bytes zero text is volume verdict =
 well_told p level bytes (suc n) text is volume verdict =
     absurd (verdict.1.none p.log level (subst (λ b. IsVolume b p.log level) (sym is) volume))
 
--- what is told of a store that waits, and of one that doesn't
-pub waiting_told : (p : Parts) (text : List ℕ) → waits p ≡ true → text ≡ codes "waiting: sync comes first\n"
-    → text ≡ check_text p
-waiting_told p text holds is = rw holds is
-
-pub settled_told : (p : Parts) (text : List ℕ) → waits p ≡ false → text ≡ well_text p.log → text ≡ check_text p
-settled_told p text none is = rw none is
+pub flushed_told : (p : Parts) (text : List ℕ) → waits p ≡ false → text ≡ well_text p.log → text ≡ check_text p
+flushed_told p text none is = rw none is

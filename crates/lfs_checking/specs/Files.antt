@@ -6,7 +6,7 @@ use Rattle.lfs_types.specs.declared.level.Level.{Level}
 use Rattle.lfs_types.specs.declared.store.Params.{Params}
 use Rattle.lfs_log.specs.Parts.{LogParts}
 use Rattle.lfs_parts.specs.Opening.{IsOpeningWith}
-use Rattle.lfs_parts.specs.Store.{IsSettled}
+use Rattle.lfs_parts.specs.Store.{IsFlushed}
 use Rattle.lfs_parts.specs.declared.parts.Parts.{Parts}
 use Rattle.lfs_logstore.specs.States.{state_of}
 use Rattle.lfs_calls.specs.Volumes.{HasWorld}
@@ -27,7 +27,7 @@ IsFreshStore serials params store =
 pub record IsLoaded (frames : ℕ) (store : Parts) (level : Level) : Type 0 where
   pub bytes : List ℕ
   pub image : IsVolume bytes store.log level
-  pub settled : store ≡ stored frames store.log
+  pub flushed : store ≡ stored frames store.log
   pub world : HasWorld (state_of store)
 
 -- a file, whose bytes these are where they are known, got the image of a log and a securelevel
@@ -40,6 +40,6 @@ pub record HasImage {F : Type 0} (contents : F → Option (List ℕ)) (log : Log
 pub record IsSaved {F : Type 0} (contents : F → Option (List ℕ)) (are : StoreState → Level → Type 0) : Type 0 where
   pub store : Parts
   pub level : Level
-  pub settled : IsSettled store
+  pub flushed : IsFlushed store
   pub shown : are (state_of store) level
   pub image : HasImage contents store.log level

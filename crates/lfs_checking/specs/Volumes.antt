@@ -5,7 +5,7 @@ use Rattle.lfs_log.specs.Parts.{LogParts}
 use Rattle.lfs_parts.specs.Files.{content_of}
 use Rattle.lfs_logstore.specs.States.{state_of}
 use Rattle.lfs_calls.specs.Volumes.{HasWorld}
-use Rattle.lfs_fsck.specs.Stored.{IsStored, settled}
+use Rattle.lfs_fsck.specs.Stored.{IsStored, flushed}
 use Rattle.lfs_trees.specs.declared.fault.TreeFault.{TreeFault}
 use Rattle.lfs_trees.specs.declared.fault.TreeFault.TheVariants as tree_fault
 use Rattle.lfs_trees.specs.Faults.{IsTreeFaultOf}
@@ -21,14 +21,14 @@ pub record IsVolume (bytes : List ℕ) (l : LogParts) (level : Level) : Type 0 w
   pub image : IsImageOf bytes l level
   pub labelled : IsLabelled l
   pub stored : IsStored l
-  pub world : HasWorld (state_of (settled l))
+  pub world : HasWorld (state_of (flushed l))
 
 -- the names of the store whose image the bytes are have this fault
 pub record HasTreeFault (bytes : List ℕ) (fault : TreeFault) : Type 0 where
   pub log : LogParts
   pub level : Level
   pub image : IsImageOf bytes log level
-  pub is : IsTreeFaultOf (content_of (settled log)) fault
+  pub is : IsTreeFaultOf (content_of (flushed log)) fault
 
 -- what a fault says of bytes; want of memory says nothing of them
 abbrev pub IsVolumeFaultOf : List ℕ → VolumeFault → Type 0
@@ -38,7 +38,7 @@ IsVolumeFaultOf bytes Memory = Unit {0}
 
 -- what is told of a volume: that it is well, and how full it is
 abbrev pub well_text : LogParts → List ℕ
-well_text l = codes "ok\n" ++ space_text (settled l)
+well_text l = codes "ok\n" ++ space_text (flushed l)
 
 -- bytes are the image of a volume, of which this is told
 pub record IsTold (bytes text : List ℕ) : Type 0 where

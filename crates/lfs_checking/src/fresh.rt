@@ -10,8 +10,8 @@ use lfs_types::fault::FormatFault;
 use lfs_types::store::Params;
 use std::alloc::Global;
 
-/// A store with the root directory alone, of the sizes that are told. Its summaries have serials, the first 1, where they
-/// are asked for, and else none.
+/// A store with the root directory alone, of the sizes that are told. Its summaries have serials, the first 1, where
+/// they are asked for, and else none.
 ///
 /// # Errors
 ///

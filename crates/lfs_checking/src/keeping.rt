@@ -1,7 +1,7 @@
 //! A volume in a file: loaded from its image, and kept as one.
 
 ghost use Rattle.std.specs.Prelude.{IfOk, IfSome, OnOk};
-ghost use Rattle.lfs_parts.specs.Store.{IsSettled};
+ghost use Rattle.lfs_parts.specs.Store.{IsFlushed};
 ghost use Rattle.lfs_checking.specs.Files.{HasImage, IsLoaded};
 
 use crate::fault::{CheckFault, KeepFault};
@@ -69,7 +69,7 @@ pub fn save_file<S: Files>(
     level: Level,
     path: &str,
 ) -> Result<(), KeepFault>
-    requires { IsSettled store.now }
+    requires { IsFlushed store.now }
     ensures { OnOk result (HasImage S.File.contents store.now.log level) }
 {
     let new = format!(in alloc; "{path}.new")?;
@@ -89,7 +89,7 @@ fn write<S: Files>(
     level: Level,
     path: &str,
 ) -> Result<(), KeepFault>
-    requires { IsSettled store.now }
+    requires { IsFlushed store.now }
     ensures { OnOk result (HasImage S.File.contents store.now.log level) }
 {
     let _ = fs::remove_file(files, path);

@@ -2,7 +2,7 @@
 
 ghost use Rattle.std.specs.Prelude.{◌≡◌, IfOk, OnOk};
 ghost use Rattle.std.specs.Io.KnownBytes.{Appends};
-ghost use Rattle.lfs_parts.specs.Store.{IsSettled};
+ghost use Rattle.lfs_parts.specs.Store.{IsFlushed};
 ghost use Rattle.lfs_image.specs.Image.{image_bytes};
 
 use crate::fault::CheckFault;
@@ -25,7 +25,7 @@ pub fn save_volume<W: Write>(
     level: Level,
     writer: &mut W,
 ) -> Result<(), CheckFault>
-    requires { IsSettled store.now }
+    requires { IsFlushed store.now }
     ensures { OnOk result (Appends (W.contents writer.old) (W.contents writer.new)
         (image_bytes store.now.log level)) }
 {

@@ -33,8 +33,9 @@ impl ChecksLog for LogStore {
     }
 }
 
-/// What a check of a store tells at a securelevel: while something waits, that a sync comes first; else what `lfs_check` tells
-/// of its image, which is read back for that. So it takes memory for the image, and for a store besides.
+/// What a check of a store tells at a securelevel: while something waits, that a sync comes first; else what
+/// `lfs_check` tells of its image, which is read back for that. So it takes memory for the image, and for a store
+/// besides.
 pub fn check_store(alloc: Global, store: &LogStore, level: Level) -> Result<Vec<u8>, AllocError>
     ensures { IfOk result (λ text. HasWorld (state_of store.now) → IsCheckTold store.now text.items) }
 {

@@ -6,7 +6,7 @@ ghost use Rattle.lfs_calls.specs.Volumes.{HasWorld};
 ghost use Rattle.lfs_log.specs.Parts.{LogParts};
 ghost use Rattle.lfs_logstore.specs.States.{state_of};
 ghost use Rattle.lfs_view.specs.SpaceText.{space_text};
-ghost use Rattle.lfs_fsck.specs.Stored.{IsStored, settled, stored};
+ghost use Rattle.lfs_fsck.specs.Stored.{IsStored, flushed, stored};
 ghost use Rattle.lfs_types.specs.Ranges.{least_frames, most_frames};
 ghost use Rattle.lfs_image.specs.Image.{IsImageOf, IsLabelled};
 ghost use Rattle.lfs_checking.specs.declared.fault.VolumeFault.TheVariants.{Memory};
@@ -46,8 +46,8 @@ fn volume_text(alloc: Global, bytes: &[u8]) -> Result<Vec<u8>, VolumeFault>
 }
 
 /// The store and the securelevel of the volume whose image these bytes are, whoever made them, with a cache of so many
-/// frames, 32 to 1,024, all empty: else what is wrong with them, or `Memory`. Nothing waits in the store. The bytes are read
-/// twice: once to look at the names, which fills the cache, and once for what is given.
+/// frames, 32 to 1,024, all empty: else what is wrong with them, or `Memory`. Nothing waits in the store. The bytes are
+/// read twice: once to look at the names, which fills the cache, and once for what is given.
 pub fn load_volume(
     alloc: Global,
     bytes: &[u8],
@@ -56,7 +56,7 @@ pub fn load_volume(
     requires at_least { least_frames ≤ frames }
     requires at_most { frames ≤ most_frames }
     ensures volume { IfOk result (λ both. IsVolume bytes.now both.0.log both.1) }
-    ensures settled { IfOk result (λ both. both.0 ≡ stored frames both.0.log) }
+    ensures flushed { IfOk result (λ both. both.0 ≡ stored frames both.0.log) }
     ensures world { IfOk result (λ both. HasWorld (state_of both.0)) }
     ensures fault { IfErr result (IsVolumeFaultOf bytes.now) }
 {
@@ -72,7 +72,7 @@ fn store_in(alloc: Global, bytes: &[u8], frames: u32) -> Result<(LogStore, Level
     requires at_most { frames ≤ most_frames }
     ensures image { IfOk result (λ both. IsImageOf bytes.now both.0.log both.1) }
     ensures stored { IfOk result (λ both. IsStored both.0.log) }
-    ensures settled { IfOk result (λ both. both.0 ≡ stored frames both.0.log) }
+    ensures flushed { IfOk result (λ both. both.0 ≡ stored frames both.0.log) }
     ensures labelled { IfOk result (λ both. IsLabelled both.0.log) }
     ensures fault { IfErr result (IsVolumeFaultOf bytes.now) }
 {
@@ -105,8 +105,8 @@ fn check_names(
     bytes: &[u8],
 ) -> Result<(), VolumeFault>
     requires image { IsImageOf bytes.now store.old.log level }
-    requires settled { store.old ≡ settled store.old.log }
-    ensures world { OnOk result (HasWorld (state_of (settled store.old.log))) }
+    requires flushed { store.old ≡ flushed store.old.log }
+    ensures world { OnOk result (HasWorld (state_of (flushed store.old.log))) }
     ensures fault { IfErr result (IsVolumeFaultOf bytes.now) }
 {
     let numbers = store.parts().log.inodes();

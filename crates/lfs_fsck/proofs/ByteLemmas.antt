@@ -1,4 +1,5 @@
--- Blocks of zeros.
+-- Blocks of zeros: `zeros_are` and `are_zeros`, for `is_zeros`. A block has 512 bytes, so it is the block of zeros just
+-- where the byte at each of these places is 0.
 use Rattle.std.proofs.Common.{◌≡◌, ℕ, ◌<◌, ◌≤◌, List, length, sym, ap, ◌∙◌, arith}
 use Rattle.std.specs.Prelude.{slice_index}
 use Rattle.std.proofs.lemmas.List.{ext_get_or}

@@ -34,28 +34,28 @@ use Rattle.lfs_parts.specs.View.{root_in, tree_of}
 use Rattle.lfs_parts.proofs.KeyLemmas.{place-block, place-record, placed_at, unplaced}
 use Rattle.lfs_parts.proofs.ViewLemmas.{held_cell, nowhere, record_of-unused}
 use Rattle.lfs_fsck.specs.Checks.{IsCounted, IsKept, IsKey, LieBelow, live_before}
-use Rattle.lfs_fsck.specs.Stored.{keys_of, settled}
-use Rattle.lfs_fsck.proofs.SettledLemmas.{used_row}
+use Rattle.lfs_fsck.specs.Stored.{keys_of, flushed}
+use Rattle.lfs_fsck.proofs.FlushedLemmas.{used_row}
 use Rattle.lfs_fsck.proofs.SumLemmas.{live-first, live-more, live-most, total-first, total-more, total-most}
 use Rattle.lfs_fsck.proofs.SumLemmas.{weight-most}
 
 -- the place of a block of a file
 pub at_block : (l : LogParts) (number : ℕ) (block : FileBlock) → IsFileBlock block → code_of block ≢ 0
-    → (keys_of l).at number (code_of block) ≡ 4 * address (tree_of (settled l) number) (way_to block)
+    → (keys_of l).at number (code_of block) ≡ 4 * address (tree_of (flushed l) number) (way_to block)
 at_block l number block can other =
-    place-block (settled l) number (code_of block) other
-    ∙ ap (λ w. 4 * address (tree_of (settled l) number) w) (way_of-code_of block can)
+    place-block (flushed l) number (code_of block) other
+    ∙ ap (λ w. 4 * address (tree_of (flushed l) number) w) (way_of-code_of block can)
 
 -- of a block whose address is known, by its code
 pub key_at : (l : LogParts) (number : ℕ) (block : FileBlock) (code a : ℕ) → IsFileBlock block → code_of block ≢ 0 → code
     ≡ code_of block
-    → a ≡ address (tree_of (settled l) number) (way_to block) → (keys_of l).at number code ≡ 4 * a
+    → a ≡ address (tree_of (flushed l) number) (way_to block) → (keys_of l).at number code ≡ 4 * a
 key_at l number block code a can other coded is =
     ap ((keys_of l).at number) coded ∙ at_block l number block can other ∙ ap (λ x. 4 * x) (sym is)
 
 pub key_placed : (l : LogParts) (number : ℕ) (block : FileBlock) (code a : ℕ) → IsFileBlock block → code_of block ≢ 0
     → code ≡ code_of block
-    → a ≡ address (tree_of (settled l) number) (way_to block) → number < length l.tables.rows → a ≢ 0
+    → a ≡ address (tree_of (flushed l) number) (way_to block) → number < length l.tables.rows → a ≢ 0
     → IsPlaced (keys_of l) number code
 key_placed l number block code a can other coded is low some = record {
   number_below = low;
@@ -70,14 +70,14 @@ pub record_at : (l : LogParts) (number : ℕ) (place : InodePlace) → place_of 
 record_at l number place here some =
     let row = used_row (row_of l.tables number) place here in
     let other : (row_of l.tables number).address ≢ 0 = λ e. some (row.1 ∙ e) in
-    place-record (settled l) number ∙ placed_at l.tables number other
+    place-record (flushed l) number ∙ placed_at l.tables number other
     ∙ ap (λ a. 4 * a + (row_of l.tables number).slot) (sym row.1) ∙ ap (λ k. 4 * place.addr + k) (sym row.2)
 
 pub record_none : (l : LogParts) (number : ℕ) (place : InodePlace) → place_of l.tables number ≡ Some place → place.addr
     ≡ 0 → (keys_of l).at number 0 ≡ 0
 record_none l number place here none =
     let row = used_row (row_of l.tables number) place here in
-    place-record (settled l) number ∙ unplaced l.tables number (sym row.1 ∙ none)
+    place-record (flushed l) number ∙ unplaced l.tables number (sym row.1 ∙ none)
 
 pub slot_low : (l : LogParts) (number : ℕ) (place : InodePlace) → IsParts l → number < length l.tables.rows
     → place_of l.tables number ≡ Some place
@@ -102,13 +102,13 @@ pub lie_below : (l : LogParts) (number code : ℕ) → ((c : ℕ) → c < code �
 lie_below l number code kept some = record {
   each = λ t can low.
       let way = way_of-code_of t can in
-      let a : ℕ = address (tree_of (settled l) number) (way_to t) in
+      let a : ℕ = address (tree_of (flushed l) number) (way_to t) in
       elim (cases_eq a 0) [
         | inl none ↦ let e : a ≡ 0 = none in omega arith
         | inr there ↦ elim (cases_eq (code_of t) 0) [
           | inl record_ ↦
               let nil : way_to t ≡ [] = sym way ∙ ap way_of record_ ∙ way_of-zero in
-              absurd (there (ap (address (tree_of (settled l) number)) nil ∙ address-root (tree_of (settled l) number)))
+              absurd (there (ap (address (tree_of (flushed l) number)) nil ∙ address-root (tree_of (flushed l) number)))
           | inr other ↦
               let at = at_block l number t can other in
               let key = kept (code_of t) low (λ e. there (omega (arith, at, e))) in
@@ -256,13 +256,13 @@ free_nowhere l number code parts low unused =
     elim (cases_eq code 0) [
       | inl record_ ↦
           let row = parts.formed.each_row number fresh_row low in
-          ap ((keys_of l).at number) record_ ∙ place-record (settled l) number
+          ap ((keys_of l).at number) record_ ∙ place-record (flushed l) number
           ∙ unplaced l.tables number (row.unused_address free)
       | inr block ↦
-          let root : (tree_of (settled l) number).root ≡ [] = ap root_in (record_of-unused (settled l) number unused) in
-          let none = nowhere (tree_of (settled l) number) (λ i. ap (λ ys. slice_index ys i) root) (λ way. refl)
+          let root : (tree_of (flushed l) number).root ≡ [] = ap root_in (record_of-unused (flushed l) number unused) in
+          let none = nowhere (tree_of (flushed l) number) (λ i. ap (λ ys. slice_index ys i) root) (λ way. refl)
           (way_of code) in
-          place-block (settled l) number code block ∙ ap (λ a. 4 * a) none
+          place-block (flushed l) number code block ∙ ap (λ a. 4 * a) none
     ]
 
 pub count_free : (l : LogParts) (number : ℕ) (counts : List ℕ) → IsParts l → number < length l.tables.rows
@@ -276,10 +276,10 @@ count_free l number counts parts low unused h =
 
 -- a child without address has no blocks
 pub child_none : (l : LogParts) (number child j : ℕ) → child < 128 → j < 128
-    → address (tree_of (settled l) number) (way_to (Child child)) ≡ 0
+    → address (tree_of (flushed l) number) (way_to (Child child)) ≡ 0
     → (keys_of l).at number (271 + 128 * child + j) ≡ 0
 child_none l number child j low inside none =
-    let t = tree_of (settled l) number in
+    let t = tree_of (flushed l) number in
     let up : List ℕ = way_to (Child child) in
     let n : ℕ = 140 + 128 * child + j in
     let code : 271 + 128 * child + j ≡ 131 + n = omega arith in
@@ -291,11 +291,11 @@ child_none l number child j low inside none =
     let held : slice_index (cells zero_block) j ≡ address t (j ∷ up) =
     held_cell t j up zero_block 0 (λ e. let bad : child ∷ 13 ∷ [] ≡ [] = e in cc) (sym none) (sym (via-none t up refl))
     in
-    ap ((keys_of l).at number) code ∙ place-block (settled l) number (131 + n) (λ e. absurd (omega arith))
+    ap ((keys_of l).at number) code ∙ place-block (flushed l) number (131 + n) (λ e. absurd (omega arith))
     ∙ ap (λ a. 4 * a) (ap (address t) way ∙ sym held ∙ slice_index-cells_zero_block j)
 
 pub count_childless : (l : LogParts) (number child : ℕ) (counts : List ℕ) → child < 128
-    → address (tree_of (settled l) number) (way_to (Child child)) ≡ 0
+    → address (tree_of (flushed l) number) (way_to (Child child)) ≡ 0
     → IsCounted l number (271 + 128 * child) counts → IsCounted l number (271 + 128 * child + 128) counts
 count_childless l number child counts low none h =
     count_nones l number (271 + 128 * child) 128 counts h (λ j inside. child_none l number child j low inside none)

@@ -1,6 +1,6 @@
 pub mod ReaderLemmas
 pub mod ByteLemmas
-pub mod SettledLemmas
+pub mod FlushedLemmas
 pub mod SumLemmas
 pub mod KeyLemmas
 pub mod NameLemmas

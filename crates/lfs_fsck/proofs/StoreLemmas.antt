@@ -3,7 +3,7 @@
 -- locks and mirrors holds of none, so what is left is just what was checked: files (`checked_file`), keys and their
 -- sums, reserved numbers and the end of the log. A block past a file's size has no address, as each counted key lies
 -- below it (`none_past`); whatever IsStore is made to ask of the log must be checked by `check_parts`, or
--- `settled_store` can't be built.
+-- `flushed_store` can't be built.
 use Rattle.std.proofs.Common.{◌≡◌, ◌≢◌, ℕ, ◌-◌, ◌*◌, ◌<◌, ◌≤◌, List, [], length, Some, true, false, is_some, refl, sym}
 use Rattle.std.proofs.Common.{ap, ◌∙◌, subst, inl, inr, arith}
 use Rattle.std.specs.Prelude.{IsSome}
@@ -46,7 +46,7 @@ use Rattle.lfs_parts.proofs.FileLemmas.{record_used}
 use Rattle.lfs_parts.proofs.ViewLemmas.{record_like}
 use Rattle.lfs_parts.proofs.WaitingLemmas.{none_once}
 use Rattle.lfs_fsck.specs.Checks.{AreChecked, IsChecked, IsCounted, IsKept, IsRecordOf}
-use Rattle.lfs_fsck.specs.Stored.{IsStored, keys_of, settled, stored}
+use Rattle.lfs_fsck.specs.Stored.{IsStored, keys_of, flushed, stored}
 use Rattle.lfs_fsck.proofs.KeyLemmas.{at_block}
 
 -- frames that hold nothing
@@ -118,12 +118,12 @@ used_low l number used = elim (cases_lt number (length l.tables.rows)) [
 ]
 
 -- blocks past the size have no address
-pub none_past : (l : LogParts) (number : ℕ) (f : Fields) → record_of (settled l) number ≡ Some f
+pub none_past : (l : LogParts) (number : ℕ) (f : Fields) → record_of (flushed l) number ≡ Some f
     → ((code : ℕ) → code < BLOCK_CODES → IsKept l number code)
     → (block : FileBlock) → IsFileBlock block → block_count f.attributes.size ≤ first_under block
-    → address (tree_of (settled l) number) (way_to block) ≡ 0
+    → address (tree_of (flushed l) number) (way_to block) ≡ 0
 none_past l number f is kept block can past =
-    let t = tree_of (settled l) number in
+    let t = tree_of (flushed l) number in
     elim (cases_eq (code_of block) 0) [
       | inl record_ ↦ ap (address t) (sym (way_of-code_of block can) ∙ ap way_of record_ ∙ way_of-zero) ∙ address-root t
       | inr other ↦ elim (cases_eq (address t (way_to block)) 0) [
@@ -139,7 +139,7 @@ none_past l number f is kept block can past =
 
 pub checked_file : (l : LogParts) (v : Inode) → IsRecordOf l v → AreFields (fields_of v)
     → ((code : ℕ) → code < BLOCK_CODES → IsKept l v.number code)
-    → IsPadded (data_block (tree_of (settled l) v.number)) v.size → IsChecked l v.number
+    → IsPadded (data_block (tree_of (flushed l) v.number)) v.size → IsChecked l v.number
 checked_file l v own formed kept padded = record {
   fields = fields_of v;
   is = own.is;
@@ -167,23 +167,23 @@ module _ (l : LogParts) (counts : List ℕ) (parts : IsParts l) (ready : Expects
     | inr free ↦ free
   ]
 
-  settled_files : AreFiles (settled l)
-  settled_files = record {
+  flushed_files : AreFiles (flushed l)
+  flushed_files = record {
     parts = parts;
     cache = nothing_formed least_frames;
     reserved = not_reserved;
     recorded = λ number used. ap is_some (checked number used).is;
     files = λ number f is.
-        let file = checked number (record_used (settled l) number f is) in
-        subst (IsFile (settled l) number) (same_Some file.fields f (sym file.is ∙ is)) file.file;
-    records = All-nil (λ (v : Inode). IsPresent (settled l) v.number v.version);
+        let file = checked number (record_used (flushed l) number f is) in
+        subst (IsFile (flushed l) number) (same_Some file.fields f (sym file.is ∙ is)) file.file;
+    records = All-nil (λ (v : Inode). IsPresent (flushed l) v.number v.version);
     frames = λ key locked. absurd (false≢true locked);
     coded = λ key locked. absurd (false≢true locked);
-    mirrors = mirrors_none (settled l) refl;
+    mirrors = mirrors_none (flushed l) refl;
   }
 
-  settled_log : IsLog (keys_of l) 0
-  settled_log = record {
+  flushed_log : IsLog (keys_of l) 0
+  flushed_log = record {
     segments = AreSegments-kept l (keys_of l).at parts;
     keys = λ number code placed. (counted.earlier number code placed.number_below placed.code_below
         placed.somewhere).place;
@@ -191,19 +191,19 @@ module _ (l : LogParts) (counts : List ℕ) (parts : IsParts l) (ready : Expects
     spared = omega arith;
   }
 
-  settled_store : IsStore (settled l)
-  settled_store = record {
-    whole = settled_files;
-    log = settled_log;
+  flushed_store : IsStore (flushed l)
+  flushed_store = record {
+    whole = flushed_files;
+    log = flushed_log;
     ready = ready;
     parents = record {
       records = λ key locked. absurd (false≢true locked);
       holders = λ key locked i up way. absurd (false≢true locked);
     };
-    once = none_once (settled l).waiting refl;
+    once = none_once (flushed l).waiting refl;
     few = omega arith;
     within = λ number block f is can locked. absurd (false≢true locked);
   }
 
   pub is_stored : IsStored l
-  is_stored frames = other_frames l least_frames frames settled_store
+  is_stored frames = other_frames l least_frames frames flushed_store

@@ -1,4 +1,7 @@
--- Sums that grow by one.
+-- Sums that grow by one, and how big they get, for KeyLemmas: `total-more` and `live-more` for a number or a code more,
+-- `total-most` and `live-most` for the bound. A block is four units and a record one, so each weighs at most 512 bytes
+-- (`weight-most`), and a sum over so many codes of so many numbers is at most 512 times their product; so none
+-- overflows.
 use Rattle.std.proofs.Common.{◌≡◌, ℕ, zero, suc, ◌+◌, ◌*◌, ◌≤◌, add-one, inl, inr, refl, ap, ◌∙◌, arith}
 use Rattle.std.proofs.lemmas.Bool.{cases_eq, cond-true, cond-false, eq-eqb, ne_eqb}
 use Rattle.lfs_bmap.specs.Counting.{live_bytes, seg_of, total, units, weight_of}

@@ -28,9 +28,9 @@ use Rattle.lfs_parts.specs.Store.{IsWithin}
 use Rattle.lfs_parts.specs.View.{tree_of}
 use Rattle.lfs_parts.proofs.ReadLemmas.{data_block-read}
 use Rattle.lfs_fsck.specs.Checks.{IsKept, IsRecordOf}
-use Rattle.lfs_fsck.specs.Stored.{settled}
+use Rattle.lfs_fsck.specs.Stored.{flushed}
 use Rattle.lfs_fsck.proofs.KeyLemmas.{at_block}
-use Rattle.lfs_fsck.proofs.SettledLemmas.{via_block, via_zeros}
+use Rattle.lfs_fsck.proofs.FlushedLemmas.{via_block, via_zeros}
 
 -- a block of zeros
 zeros_length : (bytes : List ℕ) → bytes ≡ zero_block → length bytes ≡ 512
@@ -39,7 +39,7 @@ zeros_length bytes is = ap length is ∙ length-zero_block
 module _ (l : LogParts) (v : Inode) (parts : IsParts l) (own : IsRecordOf l v) (kept : (code : ℕ) → code < BLOCK_CODES
     → IsKept l v.number code) where
   abbrev t : Tree
-  t = tree_of (settled l) v.number
+  t = tree_of (flushed l) v.number
 
   -- a data block is the one at its address, or zeros where it has none
   data_zeros : (n : ℕ) → n < FILE_BLOCKS → address t (way_to (Data n)) ≡ 0 → data_block t n ≡ zero_block

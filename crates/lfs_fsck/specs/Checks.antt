@@ -14,25 +14,25 @@ use Rattle.lfs_bmap.specs.Reading.{address}
 use Rattle.lfs_log.specs.Parts.{LogParts, live_of}
 use Rattle.lfs_parts.specs.Store.{IsFile, IsWithin}
 use Rattle.lfs_parts.specs.View.{blocks_of, record_of, tree_of, version_of}
-use Rattle.lfs_fsck.specs.Stored.{keys_of, settled}
+use Rattle.lfs_fsck.specs.Stored.{keys_of, flushed}
 
 -- an inode is the record that the log has of its number, which is in use
 pub record IsRecordOf (l : LogParts) (v : Inode) : Type 0 where
   pub below : v.number < length l.tables.rows
   pub in_use : (row_of l.tables v.number).used ≡ true
-  pub at_version : v.version ≡ version_of (settled l) v.number
-  pub is : record_of (settled l) v.number ≡ Some (fields_of v)
+  pub at_version : v.version ≡ version_of (flushed l) v.number
+  pub is : record_of (flushed l) v.number ≡ Some (fields_of v)
   pub formed : AreFields (fields_of v)
 
 -- the blocks of a number with codes below one lie in the volume
 pub record LieBelow (l : LogParts) (number code : ℕ) : Type 0 where
   pub each : (t : FileBlock) → IsFileBlock t → code_of t < code
-      → address (tree_of (settled l) number) (way_to t) < blocks_of (settled l)
+      → address (tree_of (flushed l) number) (way_to t) < blocks_of (flushed l)
 
 -- what holds of a key that has a place: of the place, and that the block lies below the size
 pub record IsKey (l : LogParts) (number code : ℕ) : Type 0 where
   pub place : IsPlace (keys_of l) number code ((keys_of l).at number code)
-  pub within : (f : Fields) → record_of (settled l) number ≡ Some f → code ≢ 0
+  pub within : (f : Fields) → record_of (flushed l) number ≡ Some f → code ≢ 0
       → IsWithin (block_with code) f.attributes.size
 
 -- a key has no place, or a good one
@@ -66,8 +66,8 @@ IsOwned l number code = l.owner (l.at number code) ≡ Some (owner_of l number c
 -- the record of a number in use is well formed, and its own
 pub record IsChecked (l : LogParts) (number : ℕ) : Type 0 where
   pub fields : Fields
-  pub is : record_of (settled l) number ≡ Some fields
-  pub file : IsFile (settled l) number fields
+  pub is : record_of (flushed l) number ≡ Some fields
+  pub file : IsFile (flushed l) number fields
 
 -- a number that isn't in use, or one whose file is well formed, and that may be in use
 pub record IsUsable (l : LogParts) (number : ℕ) : Type 0 where

@@ -21,29 +21,29 @@ use Rattle.lfs_fsck.specs.declared.fault.LogFault.{LogFault}
 use Rattle.lfs_fsck.specs.declared.fault.LogFault.TheVariants.{Unfinished, NotZeros, Reserved, NoRecord, OtherRecord}
 use Rattle.lfs_fsck.specs.declared.fault.LogFault.TheVariants.{Outside, Misnamed, InClean, Unwritten, PastSize, Tail}
 use Rattle.lfs_fsck.specs.declared.fault.LogFault.TheVariants.{Live, Crowded, Memory}
-use Rattle.lfs_fsck.specs.Stored.{keys_of, settled}
+use Rattle.lfs_fsck.specs.Stored.{keys_of, flushed}
 
 -- the log has a record at the place of a number, of another number or version
 pub record HasOtherRecord (l : LogParts) (number : ℕ) : Type 0 where
   pub fields : Fields
-  pub is : record_of (settled l) number ≡ Some fields
-  pub other : fields.attributes.number ≡ number → fields.attributes.version ≡ version_of (settled l) number → ⊥
+  pub is : record_of (flushed l) number ≡ Some fields
+  pub other : fields.attributes.number ≡ number → fields.attributes.version ≡ version_of (flushed l) number → ⊥
 
 -- a block of a number has an address, and lies past the size
 pub record HasPastSize (l : LogParts) (number code : ℕ) : Type 0 where
   pub fields : Fields
-  pub is : record_of (settled l) number ≡ Some fields
+  pub is : record_of (flushed l) number ≡ Some fields
   pub block : FileBlock
   pub can : IsFileBlock block
   pub coded : code_of block ≡ code
   pub past : block_count fields.attributes.size ≤ first_under block
-  pub somewhere : address (tree_of (settled l) number) (way_to block) ≢ 0
+  pub somewhere : address (tree_of (flushed l) number) (way_to block) ≢ 0
 
 -- the file of a number has a byte past its size that isn't zero
 pub record HasTail (l : LogParts) (number : ℕ) : Type 0 where
   pub fields : Fields
-  pub is : record_of (settled l) number ≡ Some fields
-  pub not_padded : IsPadded (data_block (tree_of (settled l) number)) fields.attributes.size → ⊥
+  pub is : record_of (flushed l) number ≡ Some fields
+  pub not_padded : IsPadded (data_block (tree_of (flushed l) number)) fields.attributes.size → ⊥
 
 -- What a fault says of a log; want of memory says nothing of it. A key is a number and the code of one of its blocks.
 abbrev pub IsLogFaultOf : LogParts → LogFault → Type 0
@@ -54,7 +54,7 @@ IsLogFaultOf l (NotZeros address) =
     × (block_at l.memory address ≢ zero_block)
 IsLogFaultOf l (Reserved number) = ((row_of l.tables number).used ≡ true) × (number < FIRST_INODE)
     × (number ≢ ROOT_INODE)
-IsLogFaultOf l (NoRecord number) = ((row_of l.tables number).used ≡ true) × (record_of (settled l) number ≡ None)
+IsLogFaultOf l (NoRecord number) = ((row_of l.tables number).used ≡ true) × (record_of (flushed l) number ≡ None)
 IsLogFaultOf l (OtherRecord number) = HasOtherRecord l number
 IsLogFaultOf l (Outside number code) =
     IsPlaced (keys_of l) number code × (4 * SEGMENT_BLOCKS * l.memory.segments ≤ (keys_of l).at number code)

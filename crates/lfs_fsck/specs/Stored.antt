@@ -17,9 +17,9 @@ abbrev pub IsStored : LogParts → Type 0
 IsStored l = (frames : ℕ) → IsStore (stored frames l)
 
 -- The parts by which the log's files are told here. The number of frames makes no difference.
-abbrev pub settled : LogParts → Parts
-settled l = stored least_frames l
+abbrev pub flushed : LogParts → Parts
+flushed l = stored least_frames l
 
 -- its keys
 abbrev pub keys_of : LogParts → LogState
-keys_of l = log_state (settled l)
+keys_of l = log_state (flushed l)

@@ -8,7 +8,7 @@ ghost use Rattle.lfs_bmap.specs.Reading.{address, bytes_via};
 ghost use Rattle.lfs_parts.specs.Store.{IsWithin};
 ghost use Rattle.lfs_parts.specs.View.{tree_of};
 ghost use Rattle.lfs_fsck.specs.Checks.{IsRecordOf, LieBelow};
-ghost use Rattle.lfs_fsck.specs.Stored.{settled};
+ghost use Rattle.lfs_fsck.specs.Stored.{flushed};
 
 use lfs_bmap::blocks::{Cell, FIRST_CHILD_CODE, FIRST_DATA_CODE, FileBlock};
 use lfs_inodes::addresses::{entry, root_address};
@@ -20,7 +20,7 @@ use lfs_types::block::{BLOCK_SIZE, Block, ZERO_BLOCK};
 pub(crate) fn bytes_at(log: &Log, address: u32) -> &Block
     requires { address < log.now.memory.segments * 64 }
     ensures { (number : ℕ) (way : List ℕ)
-        → result.now ≡ bytes_via (tree_of (settled log.now) number) way address }
+        → result.now ≡ bytes_via (tree_of (flushed log.now) number) way address }
 {
     if address == 0 {
         &ZERO_BLOCK
@@ -34,7 +34,7 @@ pub(crate) fn address_of(log: &Log, inode: &Inode, block: FileBlock) -> u32
     requires own { IsRecordOf log.now inode.now }
     requires can { IsFileBlock block }
     requires inside { LieBelow log.now inode.now.number (code_of block) }
-    ensures { result ≡ address (tree_of (settled log.now) inode.now.number) (way_to block) }
+    ensures { result ≡ address (tree_of (flushed log.now) inode.now.number) (way_to block) }
 {
     let Some(Cell { table, index }) = block.cell() else {
         return 0;

@@ -23,9 +23,10 @@ use lfs_bmap::blocks::{FileBlock, TABLE_CELLS};
 use lfs_inodes::inode::Inode;
 use lfs_log::Log;
 use lfs_segments::entry::SummaryEntry;
-use lfs_segments::segments::SEGMENT_BLOCKS;
 use lfs_types::block::BLOCK_SIZE;
+use lfs_types::limits::SEGMENT_BLOCKS;
 use std::alloc::{AllocError, Global};
+use std::ops::Range;
 
 /// The code of the first data block under a child of the double indirect block.
 const FIRST_CHILD_DATA: u32 = 271;
@@ -101,32 +102,31 @@ fn check_number(
     };
     let inode = record_of(log, number, place)?;
     count_record(log, names, counts, &inode, place)?;
-    count_codes(log, names, counts, &inode, 1, FIRST_CHILD_DATA)?;
+    count_codes(log, names, counts, &inode, 1..FIRST_CHILD_DATA)?;
     count_children(log, names, counts, &inode)?;
     check_tail(log, &inode)?;
     Ok(())
 }
 
-/// Counts the blocks of a file with the codes from one to before another.
+/// Counts the blocks of a file with these codes.
 fn count_codes(
     log: &Log,
     names: &[Option<SummaryEntry>],
     counts: &mut Vec<u64>,
     inode: &Inode,
-    from: u32,
-    to: u32,
+    codes: Range<u32>,
 ) -> Result<(), LogFault>
     requires parts { IsParts log.now }
     requires own { IsRecordOf log.now inode.now }
     requires names { AreNames log.now.memory (log.now.memory.segments * 64) names.now }
-    requires some { 0 < from }
-    requires ordered { from ≤ to }
-    requires few { to ≤ BLOCK_CODES }
-    requires so_far { IsCounted log.now inode.now.number from counts.old.items }
-    ensures ok { OnOk result (IsCounted log.now inode.now.number to counts.new.items) }
+    requires some { 0 < codes.start }
+    requires ordered { codes.start ≤ codes.end }
+    requires few { codes.end ≤ BLOCK_CODES }
+    requires so_far { IsCounted log.now inode.now.number codes.start counts.old.items }
+    ensures ok { OnOk result (IsCounted log.now inode.now.number codes.end counts.new.items) }
     ensures fault { IfErr result (IsLogFaultOf log.now) }
 {
-    for code in from..to {
+    for code in codes.start..codes.end {
         count_block(log, names, counts, inode, block_with(code))?;
     }
     Ok(())
@@ -173,7 +173,7 @@ fn count_child(
         return Ok(());
     }
     let first = FIRST_CHILD_DATA + TABLE_CELLS * child;
-    count_codes(log, names, counts, inode, first, first + TABLE_CELLS)
+    count_codes(log, names, counts, inode, first..first + TABLE_CELLS)
 }
 
 /// Live at the first segment whose live bytes are others than those that were counted.

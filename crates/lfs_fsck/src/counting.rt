@@ -7,7 +7,7 @@ ghost use Rattle.lfs_bmap.specs.Log.{IsPlaced};
 ghost use Rattle.lfs_fsck.specs.Checks.{IsCounted, IsLaid, IsOwned, IsRecordOf};
 ghost use Rattle.lfs_fsck.specs.Faults.{IsLogFaultOf};
 ghost use Rattle.lfs_fsck.specs.Names.{AreNames, IsNameOf, IsOfRecords};
-ghost use Rattle.lfs_fsck.specs.Stored.{keys_of, settled};
+ghost use Rattle.lfs_fsck.specs.Stored.{keys_of, flushed};
 ghost use Rattle.lfs_bmap.specs.Reading.{address};
 ghost use Rattle.lfs_log.specs.Parts.{IsParts};
 ghost use Rattle.lfs_parts.specs.Store.{IsWithin};
@@ -20,8 +20,8 @@ use lfs_ifile::{InodePlace, SegState};
 use lfs_inodes::inode::Inode;
 use lfs_log::Log;
 use lfs_segments::entry::{LogicalBlock, SummaryEntry};
-use lfs_segments::segments::SEGMENT_BLOCKS;
 use lfs_types::block::BLOCK_SIZE;
+use lfs_types::limits::SEGMENT_BLOCKS;
 
 /// Outside, InClean or Unwritten where a key may not lie at its address.
 fn check_place(log: &Log, number: u32, code: u32, address: u32) -> Result<(), LogFault>
@@ -147,7 +147,7 @@ fn check_record_name(
 fn check_size(log: &Log, inode: &Inode, block: FileBlock) -> Result<(), LogFault>
     requires own { IsRecordOf log.now inode.now }
     requires can { IsFileBlock block }
-    requires some { address (tree_of (settled log.now) inode.now.number) (way_to block) ≢ 0 }
+    requires some { address (tree_of (flushed log.now) inode.now.number) (way_to block) ≢ 0 }
     ensures ok { OnOk result (IsWithin block inode.now.size) }
     ensures fault { IfErr result (IsLogFaultOf log.now) }
 {

@@ -10,7 +10,8 @@ use crate::bytes::is_zeros;
 use crate::fault::LogFault;
 use crate::reader::Reader;
 use lfs_log::Log;
-use lfs_segments::segments::{SEGMENT_BLOCKS, log_start};
+use lfs_segments::segments::log_start;
+use lfs_types::limits::SEGMENT_BLOCKS;
 
 /// Unfinished or NotZeros where the active segment's log doesn't go on with a summary, over zeros.
 pub(crate) fn check_end(log: &Log) -> Result<(), LogFault>

@@ -8,7 +8,7 @@ ghost use Rattle.lfs_fsck.specs.Names.{AreNames};
 use crate::reader::Reader;
 use lfs_log::Log;
 use lfs_segments::entry::SummaryEntry;
-use lfs_segments::segments::SEGMENT_BLOCKS;
+use lfs_types::limits::SEGMENT_BLOCKS;
 use std::alloc::{AllocError, Global};
 
 /// For each address of the volume the entry that the log of its segment has for it.

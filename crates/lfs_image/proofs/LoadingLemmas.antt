@@ -1,4 +1,7 @@
--- An image from its pieces.
+-- An image from its pieces: `block_more` for the loop of `read_blocks`, `blocks_whole` and `same_body` for `read_log`,
+-- `image_of` for `load_parts`. The blocks that were read and the bytes behind them are all the bytes, and the next 512
+-- bytes go from the second to the first. So in the end head, blocks and ifile are the bytes in order; each of the three
+-- is what the parts would be written as, and an image is these three one behind the other.
 use Rattle.std.proofs.Common.{◌≡◌, ℕ, ◌+◌, ◌*◌, List, [], ◌∷◌, ◌++◌, length, take, drop, refl, sym, ap, subst, ◌∙◌}
 use Rattle.std.proofs.Common.{◌-◌, Option, arith, append_assoc}
 use Rattle.std.specs.List.{flat_map}

@@ -13,10 +13,10 @@ ghost use Rattle.lfs_image.specs.Image.{head_bytes, head_of, level_word, serial_
 use crate::fault::ImageFault;
 use byteorder::{BigEndian, ByteOrder};
 use lfs_log::Log;
-use lfs_segments::segments::{LEAST_SEGMENTS, MOST_SEGMENTS, SEGMENT_BLOCKS, log_start};
+use lfs_segments::segments::log_start;
 use lfs_types::block::{BLOCK_SIZE, Block, ZERO_BLOCK};
 use lfs_types::level::Level;
-use lfs_types::limits::{LEAST_INODES, MOST_INODES};
+use lfs_types::limits::{LEAST_INODES, LEAST_SEGMENTS, MOST_INODES, MOST_SEGMENTS, SEGMENT_BLOCKS};
 
 /// `LFSI`, with which an image begins.
 const MARK: u32 = 0x4c46_5349;

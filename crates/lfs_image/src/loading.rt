@@ -22,9 +22,10 @@ use lfs_ifile::{Ifile, IfileFault};
 use lfs_log::Log;
 use lfs_logstore::LogStore;
 use lfs_parts::parts::Parts;
-use lfs_segments::segments::{SEGMENT_BLOCKS, Segments};
+use lfs_segments::segments::Segments;
 use lfs_types::block::{BLOCK_SIZE, Block, ZERO_BLOCK};
 use lfs_types::level::Level;
+use lfs_types::limits::SEGMENT_BLOCKS;
 use std::alloc::{AllocError, Global};
 
 /// The first four bytes of the label, `LFS1`.
@@ -40,7 +41,7 @@ pub fn load(alloc: Global, bytes: &[u8], frames: u32) -> Result<(LogStore, Level
     ensures only { IfOk result (λ both. (l : LogParts) (level : Level) → IsImageOf bytes.now l level
         → (l ≡ both.0.log) × (level ≡ both.1)) }
     ensures stored { IfOk result (λ both. IsStored both.0.log) }
-    ensures settled { IfOk result (λ both. both.0 ≡ stored frames both.0.log) }
+    ensures flushed { IfOk result (λ both. both.0 ≡ stored frames both.0.log) }
     ensures labelled { IfOk result (λ both. IsLabelled both.0.log) }
     ensures fault { IfErr result (IsImageFaultOf bytes.now) }
     // Where there is a fault, but for want of memory, they are the image of no store.
@@ -58,7 +59,7 @@ fn load_parts(alloc: Global, bytes: &[u8], frames: u32) -> Result<(LogStore, Lev
     ensures only { IfOk result (λ both. (l : LogParts) (level : Level) → IsImageOf bytes.now l level
         → (l ≡ both.0.log) × (level ≡ both.1)) }
     ensures stored { IfOk result (λ both. IsStored both.0.log) }
-    ensures settled { IfOk result (λ both. both.0 ≡ stored frames both.0.log) }
+    ensures flushed { IfOk result (λ both. both.0 ≡ stored frames both.0.log) }
     ensures labelled { IfOk result (λ both. IsLabelled both.0.log) }
     ensures fault { IfErr result (IsImageFaultOf bytes.now) }
 {

@@ -6,8 +6,8 @@ ghost use Rattle.lfs_image.specs.Image.{head_bytes, head_of, image_bytes};
 
 use crate::head::Head;
 use lfs_log::Log;
-use lfs_segments::segments::SEGMENT_BLOCKS;
 use lfs_types::level::Level;
+use lfs_types::limits::SEGMENT_BLOCKS;
 use std::alloc::AllocError;
 
 /// Adds the image of a log and a securelevel to some bytes: the head, each block, the ifile. What waits over the log is no

@@ -13,7 +13,7 @@ use Rattle.lfs_log.specs.Parts.{LogParts, live_of, state_of}
 use Rattle.lfs_bmap.specs.Counting.{total}
 use Rattle.lfs_bmap.specs.Log.{clean_unit}
 use Rattle.lfs_parts.specs.declared.parts.Parts.{Parts}
-use Rattle.lfs_parts.specs.Store.{IsSettled, IsStore}
+use Rattle.lfs_parts.specs.Store.{IsFlushed, IsStore}
 use Rattle.lfs_segwrite.specs.Applying.{WritesWaiting, waiting_blocks}
 use Rattle.lfs_segwrite.specs.Collecting.{entries_of}
 use Rattle.lfs_segwrite.proofs.CollectingLemmas.{entries_of-length}
@@ -124,18 +124,18 @@ space_most p store =
     omega arith
 
 -- ---- each gain adds to the space
-settled_blocks : (p : Parts) → IsSettled p → waiting_blocks p ≡ 0
-settled_blocks p settled =
-    let frames : length p.cache.locked ≡ 0 = ap length settled.no_frame in
-    let records : length p.waiting ≡ 0 = ap (λ (vs : List Inode). length vs) settled.no_record in
+flushed_blocks : (p : Parts) → IsFlushed p → waiting_blocks p ≡ 0
+flushed_blocks p flushed =
+    let frames : length p.cache.locked ≡ 0 = ap length flushed.no_frame in
+    let records : length p.waiting ≡ 0 = ap (λ (vs : List Inode). length vs) flushed.no_record in
     let many : length (entries_of p) ≡ 0 = let all = entries_of-length p in omega arith in
     ap (λ n. if n == 0 then 0 else n + 1) many
 
-pub gained_more : (old new : Parts) → IsSettled old → GainsSpace old new
+pub gained_more : (old new : Parts) → IsFlushed old → GainsSpace old new
     → new.log.memory.segments ≡ old.log.memory.segments
     → 63 * new.log.memory.segments + 65 - space new < 63 * old.log.memory.segments + 65 - space old
-gained_more old new settled g same =
-    let none = settled_blocks old settled in
+gained_more old new flushed g same =
+    let none = flushed_blocks old flushed in
     let most = space_most g.between g.written.store in
     let segments = g.written.log.segments in
     let more = g.more in
@@ -157,8 +157,8 @@ kept_written old new w kept = elim w.left [
   ]
 ]
 
-pub kept_settled : (p : Parts) → IsSettled p → 0 < p.log.clean → KeepsOne p
-kept_settled p settled some = let none = settled_blocks p settled in inr (some, omega arith)
+pub kept_flushed : (p : Parts) → IsFlushed p → 0 < p.log.clean → KeepsOne p
+kept_flushed p flushed some = let none = flushed_blocks p flushed in inr (some, omega arith)
 
 pub kept_behind_gain : (old new : Parts) → GainsSpace old new → KeepsOne old → 0 < new.log.clean
 kept_behind_gain old new g kept =
@@ -166,13 +166,13 @@ kept_behind_gain old new g kept =
     let clean = g.reclaimed.clean in
     omega arith
 
-pub kept_gained : (old new : Parts) → IsSettled old → GainsSpace old new → 0 < old.log.clean → 0 < new.log.clean
-kept_gained old new settled g some = kept_behind_gain old new g (kept_settled old settled some)
+pub kept_gained : (old new : Parts) → IsFlushed old → GainsSpace old new → 0 < old.log.clean → 0 < new.log.clean
+kept_gained old new flushed g some = kept_behind_gain old new g (kept_flushed old flushed some)
 
 pub kept_room : (old new : Parts) (result : Result (Unit {0}) CleanFault) → GainsRoom old result new → KeepsOne old
     → KeepsOne new
-kept_room old new (Ok done) g kept = kept_settled new g.settled (kept_behind_gain old new g.gained kept)
-kept_room old new (Err fault) g kept = kept_settled new g.settled (kept_written old new g.written kept)
+kept_room old new (Ok done) g kept = kept_flushed new g.flushed (kept_behind_gain old new g.gained kept)
+kept_room old new (Err fault) g kept = kept_flushed new g.flushed (kept_written old new g.written kept)
 
 -- nor does it change how many numbers and segments there are
 pub room_shape : (old new : StoreState) (result : Result (Unit {0}) CleanFault)

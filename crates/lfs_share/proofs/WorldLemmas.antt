@@ -1,4 +1,5 @@
--- A store with a share shows the worlds that its log store shows, for `showing::SharedStore::check`.
+-- A store with a share shows the worlds that its log store shows: `told_shared`, for `check`. The state says besides
+-- only that there is a share, and which worlds a store shows is a matter of its content.
 use Rattle.std.proofs.Common.{Result, Ok, Err, IfOk}
 use Rattle.lfs_types.specs.StoreStates.{StoreState}
 use Rattle.lfs_types.specs.Tree.{World}

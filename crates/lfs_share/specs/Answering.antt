@@ -7,7 +7,7 @@ use Rattle.lfs_types.specs.declared.store.StoreRefusal.{StoreRefusal}
 use Rattle.lfs_types.specs.declared.store.StoreRefusal.TheVariants.{NoSpace}
 use Rattle.lfs_segwrite.specs.Applying.{MakesChanges}
 use Rattle.lfs_parts.specs.declared.parts.Parts.{Parts}
-use Rattle.lfs_parts.specs.Store.{IsSettled}
+use Rattle.lfs_parts.specs.Store.{IsFlushed}
 use Rattle.lfs_logstore.specs.States.{state_of}
 use Rattle.lfs_share.specs.Growing.{PassesShare}
 use Rattle.lfs_share.specs.Share.{IsWithinShare}
@@ -28,7 +28,7 @@ pub record MakesRoom (old new : Parts) : Type 0 where
   pub content : (state_of new).content ≡ (state_of old).content
   pub shape : (state_of new).shape ≡ (state_of old).shape
   pub idle : ENOUGH ≤ old.log.clean → new ≡ old
-  pub settled : old.log.clean < ENOUGH → IsSettled new
+  pub flushed : old.log.clean < ENOUGH → IsFlushed new
 
 -- room was made, and behind it the changes, as on any log
 pub record MakesBehind (by : Reserve) (changes : List Change) (old new : Parts) : Type 0 where

@@ -5,7 +5,7 @@ use Rattle.lfs_types.specs.declared.cleaner.BlockInfo.{BlockInfo}
 use Rattle.lfs_types.specs.declared.cleaner.CleanFault.{CleanFault}
 use Rattle.lfs_segwrite.specs.Finishing.{MarksAgain}
 use Rattle.lfs_parts.specs.declared.parts.Parts.{Parts}
-use Rattle.lfs_parts.specs.Store.{IsSettled}
+use Rattle.lfs_parts.specs.Store.{IsFlushed}
 use Rattle.lfs_logstore.specs.Cleaning.{GivesAddresses, GivesIfile, GivesInfos, Reclaims}
 use Rattle.lfs_logstore.specs.Gaining.{GainsRoom}
 use Rattle.lfs_share.specs.Answering.{MakesRoom, shared_state}
@@ -19,7 +19,7 @@ pub record WritesAgain (old : Parts) (marks : List BlockInfo) (result : Result �
   pub room : MakesRoom old between
   pub marked : IfOk result (λ count. MarksAgain marks count between new)
   pub never : OnErr result ⊥
-  pub settled : IsSettled new
+  pub flushed : IsFlushed new
   pub within : IsWithinShare (shared_state new)
 
 -- the relation of each call

@@ -6,7 +6,7 @@ ghost use Rattle.lfs_types.specs.Changes.{CanApply};
 ghost use Rattle.lfs_types.specs.StoreStates.{Applies};
 ghost use Rattle.lfs_types.specs.Stored.{Reads, bytes_of, slice_of};
 ghost use Rattle.lfs_parts.specs.Filling.{SameButClean};
-ghost use Rattle.lfs_parts.specs.Store.{IsSettled};
+ghost use Rattle.lfs_parts.specs.Store.{IsFlushed};
 ghost use Rattle.lfs_segwrite.specs.Applying.{WritesWaiting};
 ghost use Rattle.lfs_share.specs.Answering.{ComesTo, MakesBehind, shared_state};
 ghost use Rattle.lfs_share.specs.Growing.{IsEven, PassesShare};
@@ -18,12 +18,12 @@ use lfs_types::attrs::Attrs;
 use lfs_types::store::{Change, FileStore, Reserve, StoreRefusal};
 
 impl FileStore for SharedStore {
-    ghost use Rattle.lfs_parts.specs.Store.{IsSettled};
+    ghost use Rattle.lfs_parts.specs.Store.{IsFlushed};
     ghost use Rattle.lfs_share.specs.Answering.{ComesTo, shared_state};
 
     ghost state = { shared_state };
 
-    ghost is_settled = { IsSettled };
+    ghost is_flushed = { IsFlushed };
 
     ghost made = { ComesTo };
 
@@ -50,9 +50,9 @@ impl FileStore for SharedStore {
         self.store.clean_segments()
     }
 
-    /// Makes all the changes, in order, or none. `NoSpace` only where they make files take more, and more than the share.
-    /// What files take is counted anew, over all numbers, where that isn't sure; and where fewer than three segments are
-    /// clean, some are cleaned first.
+    /// Makes all the changes, in order, or none. `NoSpace` only where they make files take more, and more than the
+    /// share. What files take is counted anew, over all numbers, where that isn't sure; and where fewer than three
+    /// segments are clean, some are cleaned first.
     fn apply(&mut self, changes: &[Change<'_>], by: Reserve) -> Result<(), StoreRefusal>
         requires { CanApply (shared_state self.old).shape.numbers changes.now
             (shared_state self.old).content }
@@ -82,7 +82,7 @@ impl FileStore for SharedStore {
     /// Writes what waits. It always has room, and cleans nothing.
     fn sync(&mut self) -> Result<(), StoreRefusal>
         ensures applies { Applies (shared_state self.old) [] result (shared_state self.new) }
-        ensures settled { OnOk result (IsSettled self.new) }
+        ensures flushed { OnOk result (IsFlushed self.new) }
         ensures written { WritesWaiting self.old self.new }
         ensures never { OnErr result ⊥ }
     {

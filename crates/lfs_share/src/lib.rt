@@ -1,4 +1,5 @@
-//! A log store that always comes back: where its files take no more than a share of the volume, cleaning makes room again.
+//! A log store that always comes back: where its files take no more than a share of the volume, cleaning makes room
+//! again.
 #![tactic(auto)]
 
 mod cleaning;
@@ -12,7 +13,7 @@ mod telling;
 #[cfg(test)]
 mod tests;
 
-pub use restoring::{ENOUGH, PastShare, restore};
+pub use restoring::{ENOUGH, ShareFault, restore};
 pub use store::SharedStore;
 pub use taking::LOW_UNITS;
 pub use telling::{Outcome, apply_or_gain};

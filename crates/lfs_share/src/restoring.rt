@@ -2,11 +2,11 @@
 
 ghost use Rattle.std.specs.Prelude.{◌≡◌, ◌≤◌, OnErr, OnOk};
 ghost use Rattle.lfs_segwrite.specs.Applying.{WritesWaiting};
-ghost use Rattle.lfs_parts.specs.Store.{IsSettled};
+ghost use Rattle.lfs_parts.specs.Store.{IsFlushed};
 ghost use Rattle.lfs_logstore.specs.States.{state_of};
 ghost use Rattle.lfs_share.specs.Share.{IsWithinShare, KeepsOne, LacksShare};
 
-use lfs_logstore::{LogStore, NotGainful};
+use lfs_logstore::{GainFault, LogStore};
 use lfs_types::store::FileStore;
 
 /// The clean segments behind which any change has room.
@@ -14,10 +14,10 @@ pub const ENOUGH: u32 = 3;
 
 /// No segment is clean, or more bytes are live than the share of the volume.
 #[derive(Clone, Copy, PartialEq, Eq, Debug)]
-pub struct PastShare;
+pub struct ShareFault;
 
 /// Writes what waits.
-pub(crate) fn settle(store: &mut LogStore)
+pub(crate) fn flush(store: &mut LogStore)
     ensures { WritesWaiting store.old store.new }
 {
     match store.sync() {
@@ -27,23 +27,23 @@ pub(crate) fn settle(store: &mut LogStore)
     }
 }
 
-/// Writes what waits, and cleans segments until three are clean. `PastShare` where no segment is clean to begin with, or
-/// where more bytes are live than those of the share: never where the files take no more than the share, and a segment
-/// stays clean once what waits is written.
-pub fn restore(store: &mut LogStore) -> Result<(), PastShare>
+/// Writes what waits, and cleans segments until three are clean. `ShareFault` where no segment is clean to begin with,
+/// or where more bytes are live than those of the share: never where the files take no more than the share, and a
+/// segment stays clean once what waits is written.
+pub fn restore(store: &mut LogStore) -> Result<(), ShareFault>
     ensures restored { OnOk result (ENOUGH ≤ store.new.log.clean) }
     ensures past { OnErr result (LacksShare store.new) }
     ensures always { IsWithinShare (state_of store.old) → KeepsOne store.old
         → OnErr result ⊥ }
-    ensures settled { IsSettled store.new }
+    ensures flushed { IsFlushed store.new }
     ensures content { (state_of store.new).content ≡ (state_of store.old).content }
     ensures shape { (state_of store.new).shape ≡ (state_of store.old).shape }
 {
-    settle(store);
+    flush(store);
     while store.clean_segments() < ENOUGH {
         match store.gain() {
             Ok(()) => {}
-            Err(NotGainful) => return Err(PastShare),
+            Err(GainFault) => return Err(ShareFault),
         }
     }
     Ok(())

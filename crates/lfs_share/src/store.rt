@@ -3,7 +3,7 @@
 ghost use Rattle.std.specs.Prelude.{◌≡◌, ◌+◌, ◌^◌, ◌<◌, ◌≤◌, ◌⊎◌, ◌↔◌, IfNone, IfOk, IfSome, IsErrOf, IsFalse, IsTrue};
 ghost use Rattle.lfs_types.specs.Changes.{CanApply, applied};
 ghost use Rattle.lfs_parts.specs.Opening.{IsOpening, IsTooFew, IsTooMany};
-ghost use Rattle.lfs_parts.specs.Store.{IsSettled};
+ghost use Rattle.lfs_parts.specs.Store.{IsFlushed};
 ghost use Rattle.lfs_segwrite.specs.Applying.{MakesChanges};
 ghost use Rattle.lfs_logstore.specs.States.{opening_state, state_of};
 ghost use Rattle.lfs_share.specs.Answering.{MakesRoom, shared_state, with_share};
@@ -18,8 +18,8 @@ use lfs_types::store::{Change, FileStore, Params, Reserve};
 use std::alloc::Global;
 use std::marker::Model;
 
-/// A log store whose files take no more than its share, and of which a segment stays clean once what waits is written: so
-/// cleaning makes room again whenever it is asked to. Contracts see the log store's parts.
+/// A log store whose files take no more than its share, and of which a segment stays clean once what waits is written:
+/// so cleaning makes room again whenever it is asked to. Contracts see the log store's parts.
 #[derive(Drop)]
 pub struct SharedStore {
     pub(crate) store: LogStore,
@@ -104,7 +104,8 @@ impl SharedStore {
     ///
     /// # Errors
     ///
-    /// `TooFew` and `TooMany` for the first of the numbers that is out of its range; `Memory` where a growth is refused.
+    /// `TooFew` and `TooMany` for the first of the numbers that is out of its range; `Memory` where a growth is
+    /// refused.
     pub fn format(alloc: Global, params: Params) -> Result<SharedStore, FormatFault>
         ensures too_few { IsErrOf result FormatFault.TooFew
             ↔ IsTooFew params.segments params.inodes params.frames }
@@ -142,7 +143,7 @@ impl SharedStore {
     /// Writes what waits, and cleans segments until three are clean.
     pub fn restore(&mut self)
         ensures clean { ENOUGH ≤ (shared_state self.new).clean }
-        ensures settled { IsSettled self.new }
+        ensures flushed { IsFlushed self.new }
         ensures content { (shared_state self.new).content ≡ (shared_state self.old).content }
         ensures shape { (shared_state self.new).shape ≡ (shared_state self.old).shape }
         ensures within { IsWithinShare (shared_state self.new) }

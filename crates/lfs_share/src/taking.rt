@@ -17,7 +17,8 @@ const SINGLE: u64 = 140;
 /// The data blocks that one indirect block leads to.
 const CELLS: u64 = 128;
 
-/// The units that a file of a length takes at most: one for its record, four for each block and for each indirect block.
+/// The units that a file of a length takes at most: one for its record, four for each block and for each indirect
+/// block.
 pub(crate) fn units_of_length(len: u64) -> u64
     ensures { result ≡ units_of_length len }
 {

@@ -21,8 +21,8 @@ pub enum Outcome {
     Full,
 }
 
-/// Makes changes that give back, or that are the superuser's and take flags away; where the store refuses them, it gains
-/// room. So a refusal is told only of a full store, and is the last word only where no segment is worth cleaning.
+/// Makes changes that give back, or that are the superuser's and take flags away; where the store refuses them, it
+/// gains room. So a refusal is told only of a full store, and is the last word only where no segment is worth cleaning.
 pub fn apply_or_gain(store: &mut LogStore, changes: &[Change<'_>], by: Reserve) -> Outcome
     requires can { CanApply (state_of store.old).shape.numbers changes.now
         (state_of store.old).content }

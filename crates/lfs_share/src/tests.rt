@@ -1,5 +1,5 @@
-//! A store within its share, of 6 segments: 108 units. A file takes 1 for its record, and 4 for each block, the indirect one
-//! too. The root's file has no bytes.
+//! A store within its share, of 6 segments: 108 units. A file takes 1 for its record, and 4 for each block, the
+//! indirect one too. The root's file has no bytes.
 
 use crate::SharedStore;
 use lfs_checking::standing::ChecksLog;

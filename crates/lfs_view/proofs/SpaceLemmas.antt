@@ -1,4 +1,6 @@
--- Sums over segments and numbers grow by one.
+-- Sums over segments and numbers grow by one: `live_none` and `live_more` for `live`, `used_none`, `used_more` and
+-- `one_few` for `used`, `used_there` and `used_not` for `one_used`. A sum below n + 1 is that below n and what is at n.
+-- A number counts 1 where its row is used, which is just where the inode map has a place for it.
 use Rattle.std.proofs.Common.{◌≡◌, ℕ, suc, ◌+◌, ◌≤◌, Bool, true, false, None, Some, IsSome, IsNone, cond, if◌then◌else◌}
 use Rattle.std.proofs.Common.{subst, refl, sym, arith}
 use Rattle.lfs_ifile.specs.Tables.{place_of, row_of}

@@ -1,4 +1,9 @@
--- A segment's log, walked block by block.
+-- A segment's log, walked block by block: `passed_named`, `passed_summary` and `stands_summary` for `Walk::pass`,
+-- `walked_on` for `next_cell`, `cells_more` and `within_more` for `walked`. A walk keeps a summary's entries and how
+-- many of their blocks it has passed, which stands for what the log expects (`held`). A block that an entry names takes
+-- that entry off the front; behind the last one a summary is read, and its entries are expected; so each block is
+-- passed as the log does it (`after_block`), and at the next address both expect the same. In segment 0 the log begins
+-- behind the label, at address 1 (`first_below`).
 use Rattle.std.proofs.Common.{◌≡◌, ℕ, zero, suc, ◌+◌, ◌-◌, ◌*◌, ◌<◌, ◌≤◌, Bool, true, false, List, [], ◌∷◌, ◌++◌, All}
 use Rattle.std.proofs.Common.{Option, Some, None, if◌then◌else◌, length, get_or, take, drop, refl, sym, ap, subst, ◌∙◌}
 use Rattle.std.proofs.Common.{arith}

@@ -12,7 +12,7 @@ use crate::walk::{Standing, Walk};
 use lfs_logstore::LogStore;
 use lfs_parts::parts::Parts;
 use lfs_segments::entry::{LogicalBlock, SummaryEntry};
-use lfs_segments::segments::SEGMENT_BLOCKS;
+use lfs_types::limits::SEGMENT_BLOCKS;
 use std::alloc::{AllocError, Global};
 
 /// What stands at an address.

@@ -11,4 +11,4 @@ check_tree-requires c = λ n used.
 
 pub returns-in-Ok-clause-world : goal.returns-in-Ok-clause-world
 returns-in-Ok-clause-world c =
-    subst (λ p. HasWorld (state_of p)) c.requires.settled (subst HasWorld c.in-Ok.ensures.state c.in-Ok.ensures.ok)
+    subst (λ p. HasWorld (state_of p)) c.requires.flushed (subst HasWorld c.in-Ok.ensures.state c.in-Ok.ensures.ok)

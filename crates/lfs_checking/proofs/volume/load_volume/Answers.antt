@@ -15,5 +15,5 @@ returns-clause-world c =
     let told = c.in_ok-text.ensures.told in
     let volume = same_volume c.args.bytes.now told.log c.in_ok-both.both.0.log told.level c.in_ok-both.both.1
     told.volume c.in_ok-both.ensures.image in
-    subst (λ p. HasWorld (state_of p)) (sym c.in_ok-both.ensures.settled)
+    subst (λ p. HasWorld (state_of p)) (sym c.in_ok-both.ensures.flushed)
     (same_world c.in_ok-both.both.0.log c.args.frames volume.world)

@@ -5,18 +5,18 @@ use Rattle.lfs_bmap.proofs.ReadingLemmas.{address-root}
 use Rattle.lfs_parts.specs.View.{tree_of}
 use Rattle.lfs_parts.proofs.KeyLemmas.{code-other}
 use Rattle.lfs_parts.proofs.ViewLemmas.{held_cell, way_to-some}
-use Rattle.lfs_fsck.specs.Stored.{settled}
-use Rattle.lfs_fsck.proofs.SettledLemmas.{root_at}
+use Rattle.lfs_fsck.specs.Stored.{flushed}
+use Rattle.lfs_fsck.proofs.FlushedLemmas.{root_at}
 use Rattle.lfs_fsck.proofs.blocks.+address_of.Goals as goal
 
 pub returns-in_default : goal.returns-in_default
 returns-in_default t c =
-    let tree = tree_of (settled c.args.log.now) c.args.inode.now.number in
+    let tree = tree_of (flushed c.args.log.now) c.args.inode.now.number in
     sym (ap (address tree) c.in_default.ensures.way ∙ address-root tree)
 
 pub returns-in-Record : goal.returns-in-Record
 returns-in-Record t c =
-    let tree = tree_of (settled c.args.log.now) c.args.inode.now.number in
+    let tree = tree_of (flushed c.args.log.now) c.args.inode.now.number in
     let way : way_to c.args.block ≡ c.in-Some.field-0.index ∷ [] = c.in-Some.ensures.way
     ∙ ap (λ b. c.in-Some.field-0.index ∷ way_to b) c.in-Record.is in
     c.root_address.ensures ∙ sym (ap (address tree) way
@@ -25,7 +25,7 @@ returns-in-Record t c =
 pub returns-in-Single : goal.returns-in-Single
 returns-in-Single t c =
     let number = c.args.inode.now.number in
-    let tree = tree_of (settled c.args.log.now) number in
+    let tree = tree_of (flushed c.args.log.now) number in
     let some = way_to-some c.in-Some.field-0.table (code-other c.in-Some.field-0.table c.in-Single.is) in
     c.entry.ensures.read
     ∙ held_cell tree c.in-Some.field-0.index

@@ -1,6 +1,6 @@
 use Rattle.std.proofs.Common.{sym, ◌∙◌}
 use Rattle.lfs_types.specs.Blocks.{zero_block}
-use Rattle.lfs_fsck.proofs.SettledLemmas.{via_block, via_zeros}
+use Rattle.lfs_fsck.proofs.FlushedLemmas.{via_block, via_zeros}
 use Rattle.lfs_fsck.proofs.blocks.bytes_at.Goals as goal
 
 pub returns-then-address-eq0 : goal.returns-then-address-eq0

@@ -7,7 +7,7 @@ use Rattle.lfs_segments.specs.Memory.{block_at}
 use Rattle.lfs_fsck.specs.Names.{name_in}
 use Rattle.lfs_fsck.proofs.KeyLemmas.{record_at, record_placed, slot_low}
 use Rattle.lfs_fsck.proofs.NameLemmas.{name_record, named_record, owner}
-use Rattle.lfs_fsck.proofs.SettledLemmas.{settled_record}
+use Rattle.lfs_fsck.proofs.FlushedLemmas.{flushed_record}
 use Rattle.lfs_fsck.proofs.counting.check_record_name.Goals as goal
 
 pub returns-then-is_of_records-clause-ok : goal.returns-then-is_of_records-clause-ok
@@ -21,7 +21,7 @@ returns-then-is_of_records-clause-ok c =
     let is : name_in c.args.names.now place.addr
     ≡ entry_at m place.addr = c.requires.names.each place.addr c.requires.inside in
     let found : record_in (block_at m place.addr) place.slot ≡ Some (v.number, v.version)
-    = ap (option_map record_key) (sym (settled_record l v.number place c.requires.here) ∙ c.requires.own.is) in
+    = ap (option_map record_key) (sym (flushed_record l v.number place c.requires.here) ∙ c.requires.own.is) in
     ap (named_at m) (record_at l v.number place c.requires.here c.requires.some)
     ∙ name_record m place.addr place.slot v.number v.version (name_in c.args.names.now place.addr) is low.0
     (c.is_of_records.ensures.0 c.if-is_of_records.true) found

@@ -4,9 +4,9 @@ use Rattle.lfs_inodes.specs.Reading.{fields_in, fields_of}
 use Rattle.lfs_inodes.specs.Slots.{slot_of}
 use Rattle.lfs_ifile.specs.Tables.{row_of}
 use Rattle.lfs_parts.specs.View.{record_of, version_of}
-use Rattle.lfs_fsck.specs.Stored.{settled}
+use Rattle.lfs_fsck.specs.Stored.{flushed}
 use Rattle.lfs_fsck.proofs.KeyLemmas.{slot_low}
-use Rattle.lfs_fsck.proofs.SettledLemmas.{settled_record, used_row}
+use Rattle.lfs_fsck.proofs.FlushedLemmas.{flushed_record, used_row}
 use Rattle.lfs_fsck.proofs.records.record_of.Goals as goal
 
 pub block-requires : goal.block-requires
@@ -22,7 +22,7 @@ returns-in_default-clause-fault c =
     let l = c.args.log.now in
     let row = used_row (row_of l.tables c.args.number) c.args.place c.requires.here in (
       row.0,
-      settled_record l c.args.number c.args.place c.requires.here
+      flushed_record l c.args.number c.args.place c.requires.here
           ∙ ap (λ b. fields_in (slot_of b c.args.place.slot)) (sym c.block.ensures.block)
           ∙ sym c.in_default.ensures.reading,
     )
@@ -33,7 +33,7 @@ returns-else-is_of-clause-fault c =
     let row = used_row (row_of l.tables c.args.number) c.args.place c.requires.here in
     record {
       fields = fields_of c.in-Some.inode;
-      is = settled_record l c.args.number c.args.place c.requires.here
+      is = flushed_record l c.args.number c.args.place c.requires.here
           ∙ ap (λ b. fields_in (slot_of b c.args.place.slot)) (sym c.block.ensures.block)
           ∙ sym c.in-Some.ensures.reading;
       other = λ n v. false≢true (sym c.if-is_of.false ∙ c.is_of.ensures.1 (n, v ∙ sym row.3));
@@ -47,8 +47,8 @@ returns-then-is_of-clause-record c =
     record {
       below = subst (λ n. n < length l.tables.rows) (sym own.0) c.requires.below;
       in_use = subst (λ n. (row_of l.tables n).used ≡ true) (sym own.0) row.0;
-      at_version = own.1 ∙ row.3 ∙ ap (version_of (settled l)) (sym own.0);
-      is = ap (record_of (settled l)) own.0 ∙ settled_record l c.args.number c.args.place c.requires.here
+      at_version = own.1 ∙ row.3 ∙ ap (version_of (flushed l)) (sym own.0);
+      is = ap (record_of (flushed l)) own.0 ∙ flushed_record l c.args.number c.args.place c.requires.here
           ∙ ap (λ b. fields_in (slot_of b c.args.place.slot)) (sym c.block.ensures.block)
           ∙ sym c.in-Some.ensures.reading;
       formed = c.in-Some.ensures.bounds (fields_of c.in-Some.inode) (sym c.in-Some.ensures.reading);

@@ -6,7 +6,7 @@ use Rattle.lfs_bmap.specs.declared.blocks.FileBlock.TheVariants.{Data}
 use Rattle.lfs_bmap.specs.Blocks.{way_to}
 use Rattle.lfs_bmap.specs.Reading.{bytes_via, data_block}
 use Rattle.lfs_parts.specs.View.{tree_of}
-use Rattle.lfs_fsck.specs.Stored.{settled}
+use Rattle.lfs_fsck.specs.Stored.{flushed}
 use Rattle.lfs_fsck.proofs.KeyLemmas.{lie_below}
 use Rattle.lfs_fsck.proofs.TailLemmas.{data_logged, is_padded, last_zeros}
 use Rattle.lfs_fsck.proofs.tail.check_tail.Goals as goal
@@ -39,7 +39,7 @@ pub returns-then-is_zero_from-clause-ok : goal.returns-then-is_zero_from-clause-
 returns-then-is_zero_from-clause-ok c =
     let l = c.args.log.now in
     let v = c.args.inode.now in
-    let t = tree_of (settled l) v.number in
+    let t = tree_of (flushed l) v.number in
     let n : ℕ = v.size / 512 in
     let sized = v.sized in
     let some = c.if-start-eq0.false in
@@ -54,7 +54,7 @@ pub returns-else-is_zero_from-clause-fault : goal.returns-else-is_zero_from-clau
 returns-else-is_zero_from-clause-fault c =
     let l = c.args.log.now in
     let v = c.args.inode.now in
-    let t = tree_of (settled l) v.number in
+    let t = tree_of (flushed l) v.number in
     let n : ℕ = v.size / 512 in
     let sized = v.sized in
     let some = c.if-start-eq0.false in

@@ -1,32 +1,32 @@
 use Rattle.std.proofs.Common.{ap, ◌∙◌, arith}
 use Rattle.lfs_types.specs.StoreStates.{Shape}
 use Rattle.lfs_logstore.specs.States.{shape_of}
-use Rattle.lfs_share.proofs.ShareLemmas.{gained_more, kept_gained, kept_settled, kept_written, never, past}
+use Rattle.lfs_share.proofs.ShareLemmas.{gained_more, kept_gained, kept_flushed, kept_written, never, past}
 use Rattle.lfs_share.proofs.restoring.restore.Goals as goal
 
 pub loop-store-init : goal.loop-store-init
 loop-store-init c =
-    let written = c.settle.ensures in
+    let written = c.flush.ensures in
     record {
-      settled = written.settled;
+      flushed = written.flushed;
       content = written.content;
       shape = λ i. shape_of (written.log.numbers i) (written.log.segments i);
-      kept = λ kept. kept_written c.args.store.now c.settle.new.store written kept;
+      kept = λ kept. kept_written c.args.store.now c.flush.new.store written kept;
     }
 
 pub loop-store-preserved : goal.loop-store-preserved
 loop-store-preserved c =
     let before = c.loop-store.invariant in
     record {
-      settled = c.in-Ok.ensures.settled;
+      flushed = c.in-Ok.ensures.flushed;
       content = c.in-Ok.ensures.content ∙ before.content;
       shape = c.in-Ok.ensures.shape ∙ before.shape;
-      kept = λ kept. kept_gained c.loop-store.store c.gain.new.self before.settled c.in-Ok.ensures.gained
+      kept = λ kept. kept_gained c.loop-store.store c.gain.new.self before.flushed c.in-Ok.ensures.gained
           (before.kept kept);
     }
 
 pub loop-store-smaller : goal.loop-store-smaller
-loop-store-smaller c = gained_more c.loop-store.store c.gain.new.self c.loop-store.invariant.settled
+loop-store-smaller c = gained_more c.loop-store.store c.gain.new.self c.loop-store.invariant.flushed
     c.in-Ok.ensures.gained (ap (λ (s : Shape). s.segments) c.in-Ok.ensures.shape)
 
 pub returns-in-Err-clause-past : goal.returns-in-Err-clause-past
@@ -39,9 +39,9 @@ pub returns-in-Err-clause-always : goal.returns-in-Err-clause-always
 returns-in-Err-clause-always c within kept =
     let written = c.in-Err.ensures.written in
     let old = c.loop-store.store in
-    let settled = c.loop-store.invariant.settled in
+    let flushed = c.loop-store.invariant.flushed in
     never c.args.store.now c.gain.new.self written.store (c.in-Err.ensures.content ∙ c.loop-store.invariant.content)
     (c.in-Err.ensures.shape ∙ c.loop-store.invariant.shape) within
-    (kept_written old c.gain.new.self written (kept_settled old settled (c.loop-store.invariant.kept kept)))
+    (kept_written old c.gain.new.self written (kept_flushed old flushed (c.loop-store.invariant.kept kept)))
     (past c.gain.new.self written.store
     (omega (arith, written.log.clean, c.loop-store-test.true, c.clean_segments.ensures)) c.in-Err.ensures.full)

@@ -1,13 +1,13 @@
 use Rattle.std.proofs.Common.{◌≡◌, ◌+◌, ◌-◌, ◌*◌, ◌<◌}
 use Rattle.lfs_segwrite.specs.Gaining.{space}
-use Rattle.lfs_parts.specs.Store.{IsSettled}
+use Rattle.lfs_parts.specs.Store.{IsFlushed}
 use Rattle.lfs_logstore.specs.States.{state_of}
 use Rattle.lfs_share.specs.Share.{KeepsOne}
 use Rattle.lfs_share.proofs.restoring.restore.Given as goal
 
 abbrev pub invariant-loop-store : goal.invariant-loop-store
 invariant-loop-store l = record {
-  settled : IsSettled l.store;
+  flushed : IsFlushed l.store;
   content : (state_of l.store).content ≡ (state_of l.fn.store).content;
   shape : (state_of l.store).shape ≡ (state_of l.fn.store).shape;
   kept : KeepsOne l.fn.store → 0 < l.store.log.clean;

@@ -1,5 +1,5 @@
--- The parts over the log of a store of which nothing waits are those of one (`settled_stored`), and show the same files
--- (`settled_files`): neither clean frames nor their number make a difference.
+-- The parts over the log of a store of which nothing waits are those of one (`flushed_stored`), and show the same files
+-- (`flushed_files`): neither clean frames nor their number make a difference.
 use Rattle.std.proofs.Common.{◌≡◌, ℕ, List, [], refl, sym, ap, ◌∙◌, subst, arith}
 use Rattle.std.specs.Prelude.{IsSome, option_map}
 use Rattle.std.proofs.lemmas.Bool.{false≢true}
@@ -21,7 +21,7 @@ use Rattle.lfs_log.specs.Parts as log
 use Rattle.lfs_parts.specs.declared.parts.Parts.{Parts}
 use Rattle.lfs_parts.specs.Files.{file_at, file_with}
 use Rattle.lfs_parts.specs.Keys.{log_state}
-use Rattle.lfs_parts.specs.Store.{IsFile, IsPresent, IsSettled, IsStore}
+use Rattle.lfs_parts.specs.Store.{IsFile, IsPresent, IsFlushed, IsStore}
 use Rattle.lfs_parts.specs.View.{key_of, record_of, root_in, tree_of, version_of, waiting_in}
 use Rattle.lfs_parts.proofs.CleanLemmas.{mirrors_none}
 use Rattle.lfs_parts.proofs.ViewLemmas.{record_like}
@@ -44,7 +44,7 @@ tree_over p number root locked = record {
   block = λ a. block_at p.log.memory a;
 }
 
-module _ (p : Parts) (done : IsSettled p) (n : ℕ) where
+module _ (p : Parts) (done : IsFlushed p) (n : ℕ) where
   abbrev q : Parts
   q = stored n p.log
 
@@ -69,8 +69,8 @@ module _ (p : Parts) (done : IsSettled p) (n : ℕ) where
     padded = subst (λ (t : Tree). IsPadded (data_block t) f.attributes.size) (sym (same_tree k)) h.padded;
   }
 
-  settled_over : IsStore p → IsStore q
-  settled_over h = record {
+  flushed_over : IsStore p → IsStore q
+  flushed_over h = record {
     whole = record {
       parts = h.whole.parts;
       cache = nothing_formed n;
@@ -93,12 +93,12 @@ module _ (p : Parts) (done : IsSettled p) (n : ℕ) where
     within = λ k block f is can locked. absurd (false≢true locked);
   }
 
-  pub settled_files : (k : ℕ) → file_at q k ≡ file_at p k
+  pub flushed_files : (k : ℕ) → file_at q k ≡ file_at p k
   unfolding file_at
-  settled_files k =
+  flushed_files k =
       ap (λ t. option_map (file_with t) (record_of q k)) (same_tree k)
       ∙ ap (λ r. option_map (file_with (tree_of p k)) r) (same_record k)
 
 -- a store may stand on the log of one of which nothing waits
-pub settled_stored : (p : Parts) → IsSettled p → IsStore p → IsStored p.log
-settled_stored p done store = λ frames. settled_over p done frames store
+pub flushed_stored : (p : Parts) → IsFlushed p → IsStore p → IsStored p.log
+flushed_stored p done store = λ frames. flushed_over p done frames store

@@ -1,4 +1,7 @@
--- The files of a log over which nothing waits.
+-- The files of a log over which nothing waits, for KeyLemmas, TailLemmas and the functions that read blocks and
+-- records: `via_block`, `via_zeros`, `root_at`, `used_row` and `flushed_record`. With an empty cache a block reads as
+-- what stands in the log at its address, and as zeros at address 0; a record is what stands at the place that the inode
+-- map has for its number, which it has just for a number in use.
 use Rattle.std.proofs.Common.{◌≡◌, ◌≢◌, ℕ, List, [], ◌∷◌, Some, true, refl, sym, ap, ◌∙◌, inl, inr}
 use Rattle.std.specs.Prelude.{slice_index}
 use Rattle.std.proofs.lemmas.Bool.{cases_Bool, cond-true, cond-false}
@@ -17,23 +20,23 @@ use Rattle.lfs_log.specs.Parts.{LogParts}
 use Rattle.lfs_parts.specs.View.{fields_at, record_of, root_in, tree_of}
 use Rattle.lfs_parts.proofs.ViewLemmas.{record_of-logged}
 use Rattle.lfs_fsck.specs.Checks.{IsRecordOf}
-use Rattle.lfs_fsck.specs.Stored.{settled}
+use Rattle.lfs_fsck.specs.Stored.{flushed}
 
 -- a block that has an address is the one there
 pub via_block : (l : LogParts) (number : ℕ) (way : List ℕ) (a : ℕ) → a ≢ 0
-    → bytes_via (tree_of (settled l) number) way a ≡ block_at l.memory a
-via_block l number way a some = via-log (tree_of (settled l) number) way a refl some
+    → bytes_via (tree_of (flushed l) number) way a ≡ block_at l.memory a
+via_block l number way a some = via-log (tree_of (flushed l) number) way a refl some
 
 pub via_zeros : (l : LogParts) (number : ℕ) (way : List ℕ) (a : ℕ) → a ≡ 0
-    → bytes_via (tree_of (settled l) number) way a ≡ zero_block
-via_zeros l number way a none = ap (bytes_via (tree_of (settled l) number) way) none
-    ∙ via-none (tree_of (settled l) number) way refl
+    → bytes_via (tree_of (flushed l) number) way a ≡ zero_block
+via_zeros l number way a none = ap (bytes_via (tree_of (flushed l) number) way) none
+    ∙ via-none (tree_of (flushed l) number) way refl
 
 -- an address that stands in the record
-pub root_at : (l : LogParts) (v : Inode) (i : ℕ) → IsRecordOf l v → address (tree_of (settled l) v.number) (i ∷ [])
+pub root_at : (l : LogParts) (v : Inode) (i : ℕ) → IsRecordOf l v → address (tree_of (flushed l) v.number) (i ∷ [])
     ≡ slice_index (addresses v) i
 root_at l v i own =
-    let t = tree_of (settled l) v.number in
+    let t = tree_of (flushed l) v.number in
     address-cell t i [] ∙ ap (λ ys. slice_index ys i) (table-root t ∙ ap root_in own.is)
 
 -- what a place in the inode map says of the row
@@ -53,6 +56,6 @@ used_row row place h =
     ]
 
 -- the record of a number in use is what stands at its place
-pub settled_record : (l : LogParts) (number : ℕ) (place : InodePlace) → place_of l.tables number ≡ Some place
-    → record_of (settled l) number ≡ fields_at l.memory place
-settled_record l number place here = record_of-logged (settled l) number place here refl
+pub flushed_record : (l : LogParts) (number : ℕ) (place : InodePlace) → place_of l.tables number ≡ Some place
+    → record_of (flushed l) number ≡ fields_at l.memory place
+flushed_record l number place here = record_of-logged (flushed l) number place here refl
