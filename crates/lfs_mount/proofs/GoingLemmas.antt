@@ -44,9 +44,9 @@ use Rattle.lfs_opens.specs.declared.kept.Kept.{Kept}
 use Rattle.lfs_mount.proofs.LookedLemmas.{look_goes}
 use Rattle.lfs_mount.proofs.TendingLemmas.{goes_on_again, goes_on_none}
 
-module _ {F : Type 0} (state : F → StoreState) (is_settled : F → Type 0) (caller : Caller) where
+module _ {F : Type 0} (state : F → StoreState) (is_flushed : F → Type 0) (caller : Caller) where
   made_goes : (requests : List Request) (answers : List Answer) (old new : Seen F)
-      → AreMade state is_settled caller requests answers old new → GoesOn state old new
+      → AreMade state is_flushed caller requests answers old new → GoesOn state old new
   made_goes requests answers old new made = record {
     more = kept (calls_as caller (take (length answers) requests)) answers;
     entered = made.entered;
@@ -58,11 +58,11 @@ module _ {F : Type 0} (state : F → StoreState) (is_settled : F → Type 0) (ca
   }
 
   once_goes : (request : Request) (Tells : List Answer → Type 0) (old new : Seen F)
-      → IsCalledOnce state is_settled caller request Tells old new → GoesOn state old new
+      → IsCalledOnce state is_flushed caller request Tells old new → GoesOn state old new
   once_goes request Tells old new once = made_goes (request ∷ []) once.answers old new once.made
 
   done_goes : (request : Request) (reply : Told) (old new : Seen F)
-      → IsDone state is_settled caller request reply old new → GoesOn state old new
+      → IsDone state is_flushed caller request reply old new → GoesOn state old new
   done_goes request reply old new (inl done) = once_goes request _ old new done
   done_goes request reply old new (inr refused) = goes_on_none state old new refused.none
 
@@ -72,7 +72,7 @@ module _ {F : Type 0} (state : F → StoreState) (is_settled : F → Type 0) (ca
 
   module _ (nodes nodes_after : Parts) (node : ℕ) (reply : Told) where
     handled_goes : (message : Said) (old new : Seen F)
-        → IsHandled state is_settled caller nodes nodes_after node message reply old new → GoesOn state old new
+        → IsHandled state is_flushed caller nodes nodes_after node message reply old new → GoesOn state old new
     handled_goes message old new (inl called) =
         made_goes (asked message called.made.path) called.answers old new called.made.made
     handled_goes message old new (inr refused) = goes_on_none state old new refused.0.none
@@ -88,14 +88,14 @@ module _ {F : Type 0} (state : F → StoreState) (is_settled : F → Type 0) (ca
 
     looked_goes : (message : Said) (old new : Seen F) (Goes : Seen F → Attrs → Type 0)
         → ((between : Seen F) (present : Attrs) → Goes between present → GoesOn state between new)
-        → IsLookedAt state is_settled caller (hangs_in nodes) node message reply old new Goes → GoesOn state old new
+        → IsLookedAt state is_flushed caller (hangs_in nodes) node message reply old new Goes → GoesOn state old new
     looked_goes message old new Goes goes h =
         goes_on_again state old h.between new
         (made_goes (asked message h.looked.path) h.answers old h.between h.looked.made)
         (behind_goes h.between new (Goes h.between) (goes h.between) (refusal_in h.answers) (seen_in h.answers) h.behind)
 
     set_goes : (fields : SetAttr) (old new : Seen F) (present : Attrs)
-        → IsSet state is_settled caller (hangs_in nodes) node fields reply old new present → GoesOn state old new
+        → IsSet state is_flushed caller (hangs_in nodes) node fields reply old new present → GoesOn state old new
     set_goes fields old new present (inl set) =
         made_goes (asked_to_set fields present set.path) set.answers old new set.made
     set_goes fields old new present (inr refused) = goes_on_none state old new refused.none
@@ -106,17 +106,17 @@ module _ {F : Type 0} (state : F → StoreState) (is_settled : F → Type 0) (ca
     unless_goes old new Goes goes None h = goes h
 
     set_attr_goes : (fields : SetAttr) (old new : Seen F)
-        → IsSetAttr state is_settled caller (hangs_in nodes) node fields reply old new → GoesOn state old new
+        → IsSetAttr state is_flushed caller (hangs_in nodes) node fields reply old new → GoesOn state old new
     set_attr_goes fields old new (inl looked) =
         looked_goes (setattr fields) old new
-        (λ between present. IsSetJudged state is_settled caller (hangs_in nodes) node fields reply between new present)
+        (λ between present. IsSetJudged state is_flushed caller (hangs_in nodes) node fields reply between new present)
         (λ between present h. unless_goes between new _ (set_goes fields between new present)
         (dating_refusal caller fields present) h)
         looked
     set_attr_goes fields old new (inr refused) = goes_on_none state old new refused.none
 
     flags_goes : (asks : Command) (old new : Seen F) (present : ℕ)
-        → GoesOnFlags state is_settled caller (hangs_in nodes) node asks reply old new present → GoesOn state old new
+        → GoesOnFlags state is_flushed caller (hangs_in nodes) node asks reply old new present → GoesOn state old new
     flags_goes command.GetFlags old new present h = goes_on_none state old new h.1
     flags_goes command.GetExtended old new present h = goes_on_none state old new h.1
     flags_goes (command.SetFlags bits) old new present (inl set) = once_goes _ _ old new set.made
@@ -124,16 +124,16 @@ module _ {F : Type 0} (state : F → StoreState) (is_settled : F → Type 0) (ca
     flags_goes (command.Other number) old new present h = goes_on_none state old new h.1
 
     flagged_goes : (fields : Ioctl) (old new : Seen F)
-        → IsFlagged state is_settled caller (hangs_in nodes) node fields reply old new → GoesOn state old new
+        → IsFlagged state is_flushed caller (hangs_in nodes) node fields reply old new → GoesOn state old new
     flagged_goes fields old new (inl looked) =
         looked_goes (ioctl fields) old new
-        (λ between (present : Attrs). GoesOnFlags state is_settled caller (hangs_in nodes) node fields.command reply between new
+        (λ between (present : Attrs). GoesOnFlags state is_flushed caller (hangs_in nodes) node fields.command reply between new
         present.flags)
         (λ between present h. flags_goes fields.command between new present.flags h) looked
     flagged_goes fields old new (inr refused) = goes_on_none state old new refused.none
 
     released_goes : (due : Option ℕ) (old new : Seen F)
-        → IsReleased state is_settled caller (hangs_in nodes) node due reply old new → GoesOn state old new
+        → IsReleased state is_flushed caller (hangs_in nodes) node due reply old new → GoesOn state old new
     released_goes None old new h = goes_on_none state old new h.1
     released_goes (Some mode) old new (done, inl given) = made_goes _ given.answers old new given.made
     released_goes (Some mode) old new (done, inr same) = goes_on_none state old new same
@@ -142,26 +142,26 @@ module _ {F : Type 0} (state : F → StoreState) (is_settled : F → Type 0) (ca
 
     module _ (name : List ℕ) (directory : ℕ) (new_name : List ℕ) where
       renamed_goes : (old new : Seen F)
-          → IsRenamed state is_settled caller (hangs_in nodes) node name directory new_name reply old new → GoesOn state old new
+          → IsRenamed state is_flushed caller (hangs_in nodes) node name directory new_name reply old new → GoesOn state old new
       renamed_goes old new (inl moved) = done_goes _ reply old new moved.made
       renamed_goes old new (inr refused) = goes_on_none state old new refused.none
 
       missing_goes : (between new : Seen F) (error : Errno) (b : Bool)
           → BehindMissing b error reply (new ≡ between)
-          (IsRenamed state is_settled caller (hangs_in nodes) node name directory new_name reply between new)
+          (IsRenamed state is_flushed caller (hangs_in nodes) node name directory new_name reply between new)
           → GoesOn state between new
       missing_goes between new error true h = renamed_goes between new h
       missing_goes between new error false h = goes_on_none state between new h.1
 
       free_goes : (between new : Seen F) (o : Option Errno)
           → BehindFree o reply (new ≡ between)
-          (IsRenamed state is_settled caller (hangs_in nodes) node name directory new_name reply between new)
+          (IsRenamed state is_flushed caller (hangs_in nodes) node name directory new_name reply between new)
           → GoesOn state between new
       free_goes between new None h = goes_on_none state between new h.1
       free_goes between new (Some error) h = missing_goes between new error (is_missing error) h
 
       to_free_goes : (old new : Seen F)
-          → IsRenamedToFree state is_settled caller (hangs_in nodes) node name directory new_name reply old new
+          → IsRenamedToFree state is_flushed caller (hangs_in nodes) node name directory new_name reply old new
           → GoesOn state old new
       to_free_goes old new (inl sought) =
           goes_on_again state old sought.between new (made_goes _ sought.answers old sought.between sought.made)
@@ -169,8 +169,8 @@ module _ {F : Type 0} (state : F → StoreState) (is_settled : F → Type 0) (ca
       to_free_goes old new (inr refused) = goes_on_none state old new refused.none
 
       rename_goes : (how : RenameMode) (old new : Seen F)
-          → IsRename how (IsRenamed state is_settled caller (hangs_in nodes) node name directory new_name reply old new)
-          (IsRenamedToFree state is_settled caller (hangs_in nodes) node name directory new_name reply old new) reply old new
+          → IsRename how (IsRenamed state is_flushed caller (hangs_in nodes) node name directory new_name reply old new)
+          (IsRenamedToFree state is_flushed caller (hangs_in nodes) node name directory new_name reply old new) reply old new
           → GoesOn state old new
       rename_goes mode.Replace old new h = renamed_goes old new h
       rename_goes mode.NoReplace old new h = to_free_goes old new h
@@ -180,21 +180,21 @@ module _ {F : Type 0} (state : F → StoreState) (is_settled : F → Type 0) (ca
     -- ---- any message
 
     node_goes : (kind : Option FileKind) (message : Said) (old new : Seen F)
-        → IsMade kind (IsHandled state is_settled caller nodes nodes_after node message reply old new) reply old new
+        → IsMade kind (IsHandled state is_flushed caller nodes nodes_after node message reply old new) reply old new
         → GoesOn state old new
     node_goes (Some Regular) message old new h = handled_goes message old new h
     node_goes (Some Directory) message old new h = idle_goes _ reply old new h
     node_goes None message old new h = idle_goes _ reply old new h
 
     listed_goes : (fields : Open) (lists listed : Listings) (old new : Seen F)
-        → IsDirectoryOpened state is_settled caller (hangs_in nodes) node fields lists listed reply old new
+        → IsDirectoryOpened state is_flushed caller (hangs_in nodes) node fields lists listed reply old new
         → GoesOn state old new
     listed_goes fields lists listed old new (inl opened) =
         made_goes (asked (opendir fields) opened.made.path) opened.answers old new opened.made.made
     listed_goes fields lists listed old new (inr unlisted) = goes_on_none state old new unlisted.refused.none
 
     told_goes : (sizes : Sizes) (due : Option ℕ) (lists listed : Listings) (message : Said) (old new : Seen F)
-        → IsTold state is_settled sizes due caller nodes nodes_after lists listed node message reply old new
+        → IsTold state is_flushed sizes due caller nodes nodes_after lists listed node message reply old new
         → GoesOn state old new
     told_goes sizes due lists listed (init fields) old new h = idle_goes _ reply old new h
     told_goes sizes due lists listed destroy old new h = idle_goes _ reply old new h
@@ -230,7 +230,7 @@ module _ {F : Type 0} (state : F → StoreState) (is_settled : F → Type 0) (ca
 
   dated_goes : (sizes : Sizes) (now : Time) (nodes nodes_after : Parts) (node : ℕ) (message : Said) (reply : Told)
       (old new : Seen F) (before after : Beside)
-      → IsToldDated state is_settled sizes now caller nodes nodes_after node message reply old new before after
+      → IsToldDated state is_flushed sizes now caller nodes nodes_after node message reply old new before after
       → GoesOn state old new
   dated_goes sizes now nodes nodes_after node message reply old new before after h =
       goes_on_again state old h.between new (look_goes state old h.between h.looked)
@@ -240,7 +240,7 @@ module _ {F : Type 0} (state : F → StoreState) (is_settled : F → Type 0) (ca
   kept_goes : (sizes : Sizes) (now : Time) (nodes nodes_after : Parts) (node : ℕ) (message : Said) (reply : Told)
       (old new : Seen F) (before after : Beside) (o : Option Kept)
       → OnKept o (IsToldKept now caller node message reply old new before after)
-      (IsToldDated state is_settled sizes now caller nodes nodes_after node message reply old new before after)
+      (IsToldDated state is_flushed sizes now caller nodes nodes_after node message reply old new before after)
       → GoesOn state old new
   kept_goes sizes now nodes nodes_after node message reply old new before after (Some kept) h =
       goes_on_none state old new h.none
@@ -248,13 +248,13 @@ module _ {F : Type 0} (state : F → StoreState) (is_settled : F → Type 0) (ca
       dated_goes sizes now nodes nodes_after node message reply old new before after h
 
 -- what comes of bytes, by whether they are a message
-pub heard_goes : {F : Type 0} (state : F → StoreState) (is_settled : F → Type 0) (sizes : Sizes) (now : Time)
+pub heard_goes : {F : Type 0} (state : F → StoreState) (is_flushed : F → Type 0) (sizes : Sizes) (now : Time)
     (caller : Caller) (nodes nodes_after : Parts) (node : ℕ) (message : Option Said) (reply : Told) (wanted : Bool)
     (old new : Seen F) (before after : Beside)
-    → IsHeard state is_settled sizes now caller nodes nodes_after node message reply wanted old new before after
+    → IsHeard state is_flushed sizes now caller nodes nodes_after node message reply wanted old new before after
     → GoesOn state old new
-heard_goes state is_settled sizes now caller nodes nodes_after node None reply wanted old new before after h =
+heard_goes state is_flushed sizes now caller nodes nodes_after node None reply wanted old new before after h =
     goes_on_none state old new h.2
-heard_goes state is_settled sizes now caller nodes nodes_after node (Some message) reply wanted old new before after h =
-    kept_goes state is_settled caller sizes now nodes nodes_after node message reply old new before after
+heard_goes state is_flushed sizes now caller nodes nodes_after node (Some message) reply wanted old new before after h =
+    kept_goes state is_flushed caller sizes now nodes nodes_after node message reply old new before after
     (kept_for nodes message before.opens.files.items node caller) h.0

@@ -1,4 +1,9 @@
--- What the calls of a message did to the tree.
+-- What the calls of a message did to the tree: `judged_made` for StayLemmas, the rest for TreeLemmas. A volume tells of
+-- each call by its journal: it was answered in the world to which the journal led, and its entry leads to what the
+-- answer leaves (`entry_leaves`), so the calls are answers in worlds, one behind the other (`AreJudged`). A call that
+-- was served found room in the journal, or it would have been refused for it, so the rules decided it (`judged_one`).
+-- Of a lone call without a refusal follows that it was served (`served_once`), and of a Stat then that it saw the row
+-- that hangs where its path leads (`sees_row`), also behind a call that shows nothing (`sees_made`).
 use Rattle.std.proofs.Common.{◌≡◌, ◌≢◌, ◌↔◌, ℕ, ◌<◌, ◌≤◌, ◌==◌, false, List, [], ◌∷◌, ◌++◌, length, take}
 use Rattle.std.proofs.Common.{None, Some, refl, sym, ap, subst, ◌∙◌, arith, append_assoc, append-nil, length-append, ne_eqb}
 use Rattle.lfs_types.specs.Caller.{Caller}
@@ -74,21 +79,21 @@ judged_one s w caller request (Served shown) count limit full outcome fits =
 judged_one s w caller request (Denied denial) count limit full outcome fits = tt
 judged_one s w caller request (Refused resource) count limit full outcome fits = tt
 
-are_judged : {F : Type 0} (state : F → StoreState) (is_settled : F → Type 0) (limit : ℕ) (from : World)
+are_judged : {F : Type 0} (state : F → StoreState) (is_flushed : F → Type 0) (limit : ℕ) (from : World)
     (caller : Caller) (requests : List Request) (answers : List Answer) (journal : List Entry) (old new : F)
-    → AreAnswers state is_settled limit from journal old (calls_as caller (take (length answers) requests)) answers new
+    → AreAnswers state is_flushed limit from journal old (calls_as caller (take (length answers) requests)) answers new
     → OnAny answers (length (journal ++ kept (calls_as caller (take (length answers) requests)) answers) ≤ limit)
     → AreJudged (state old).shape.numbers caller (world_after (state old).shape.numbers journal from) requests answers
     (world_after (state new).shape.numbers
     (journal ++ kept (calls_as caller (take (length answers) requests)) answers) from)
-are_judged {F} state is_settled limit from caller [] [] journal old new are room =
+are_judged {F} state is_flushed limit from caller [] [] journal old new are room =
     ap (λ (s : F). world_after (state s).shape.numbers (journal ++ []) from) are
     ∙ ap (λ j. world_after (state old).shape.numbers j from) (append-nil journal)
-are_judged {F} state is_settled limit from caller (request ∷ requests) [] journal old new are room =
+are_judged {F} state is_flushed limit from caller (request ∷ requests) [] journal old new are room =
     ap (λ (s : F). world_after (state s).shape.numbers (journal ++ []) from) are
     ∙ ap (λ j. world_after (state old).shape.numbers j from) (append-nil journal)
-are_judged state is_settled limit from caller [] (answer ∷ answers) journal old new are room = absurd are
-are_judged {F} state is_settled limit from caller (request ∷ requests) (answer ∷ answers) journal old new are room =
+are_judged state is_flushed limit from caller [] (answer ∷ answers) journal old new are room = absurd are
+are_judged {F} state is_flushed limit from caller (request ∷ requests) (answer ∷ answers) journal old new are room =
     let numbers = (state old).shape.numbers in
     let entry = kept_entry 0 caller request answer in
     let rest = kept (calls_as caller (take (length answers) requests)) answers in
@@ -99,7 +104,7 @@ are_judged {F} state is_settled limit from caller (request ∷ requests) (answer
     let end : List Entry → World = λ j. world_after (state new).shape.numbers j from in
     let leads : world_after numbers (journal ++ entry) from ≡ after_answer numbers before caller request answer =
     world_after-append numbers journal entry from ∙ entry_leaves numbers 0 before caller request answer in
-    let later = are_judged state is_settled limit from caller requests answers (journal ++ entry) are.0 new are.2
+    let later = are_judged state is_flushed limit from caller requests answers (journal ++ entry) are.0 new are.2
     (any_of _ answers (subst (λ j. length j ≤ limit) (sym behind) room)) in (
       made.shown.tree,
       judged_one (state old) before caller request answer (length journal) limit made.full made.outcome
@@ -112,18 +117,18 @@ are_judged {F} state is_settled limit from caller (request ∷ requests) (answer
     )
 
 -- the calls of a message, in the trees that the volume showed
-pub judged_made : {F : Type 0} (state : F → StoreState) (is_settled : F → Type 0) (caller : Caller)
+pub judged_made : {F : Type 0} (state : F → StoreState) (is_flushed : F → Type 0) (caller : Caller)
     (requests : List Request) (answers : List Answer) (old new : Seen F)
-    → AreMade state is_settled caller requests answers old new
+    → AreMade state is_flushed caller requests answers old new
     → Since (state old.since) old.since_level (λ from. AreJudged (state old.store).shape.numbers caller
     (world_after (state old.store).shape.numbers old.journal from) requests answers
     (world_after (state new.store).shape.numbers new.journal from))
-judged_made state is_settled caller requests answers old new made = λ from begins.
+judged_made state is_flushed caller requests answers old new made = λ from begins.
     let entries = kept (calls_as caller (take (length answers) requests)) answers in
     subst (λ j. AreJudged (state old.store).shape.numbers caller
     (world_after (state old.store).shape.numbers old.journal from) requests answers
     (world_after (state new.store).shape.numbers j from)) (sym made.entered)
-    (are_judged state is_settled old.limit from caller requests answers old.journal old.store new.store
+    (are_judged state is_flushed old.limit from caller requests answers old.journal old.store new.store
     (made.each from begins)
     (on_any _ _ answers (λ within.
     subst (λ n. length (old.journal ++ entries) ≤ n) made.limit

@@ -20,13 +20,13 @@ use Rattle.lfs_fuse_calls.specs.declared.told.Told.{Told}
 use Rattle.lfs_fuse_calls.specs.declared.told.Told.TheVariants as told
 use Rattle.lfs_mount.specs.Answered.{IsHeard, IsToldDated, IsToldKept}
 use Rattle.lfs_mount.specs.Keeping.{AreStillKept, IsStillKept, StaysUnless, ChangesIf, is_closed, is_slot}
-use Rattle.lfs_opens.specs.Opens.{AreLeft, AreSettled, AreUnkept, IsFree}
+use Rattle.lfs_opens.specs.Opens.{AreLeft, AreKeptWhereDone, AreUnkept, IsFree}
 use Rattle.lfs_mount.specs.Leaving.{ArePreparedFor, IsLeaving, IsPrepared, OnKept, is_taken, taken_at}
 use Rattle.lfs_opens.specs.Opens.{closed_at, opened_in, slot_of, unkept}
 use Rattle.lfs_mount.specs.Leaving.{kept_for, OnOpener, IsKept}
 use Rattle.lfs_opens.specs.Rewritten.{AreChangedIf, Shown, bytes_kept, file_behind, is_rewrite, kept_behind, shown_slot}
 use Rattle.lfs_opens.specs.declared.kept.Kept.{Kept}
-use Rattle.lfs_opens.specs.declared.kept.Lack.{Lack}
+use Rattle.lfs_opens.specs.declared.kept.KeepingFault.{KeepingFault}
 use Rattle.lfs_opens.specs.declared.kept.OpenFile.{OpenFile}
 use Rattle.lfs_mount.specs.declared.mount.Beside.{Beside}
 use Rattle.lfs_mount.specs.declared.mount.Sizes.{Sizes}
@@ -60,7 +60,7 @@ leaving_other nodes node message id own leaves gone same =
 
 -- ---- the last look
 
-prepared_other : (Looks : Caller → Kept → Type 0) (Lacks : Caller → Lack → Type 0) (b : Bool) (file : OpenFile)
+prepared_other : (Looks : Caller → Kept → Type 0) (Lacks : Caller → KeepingFault → Type 0) (b : Bool) (file : OpenFile)
     (after : Option OpenFile) → b ≡ false
     → OnOpener (if b then Some file.cred else None) (λ caller. IsKept (Looks caller) (Lacks caller) (Some file) after)
     (after ≡ Some file)
@@ -71,7 +71,7 @@ prepared_other Looks Lacks false file after other h = h
 not_node : (own id : ℕ) → own ≢ id → (own == id) ≡ false
 not_node own id other = grind arith
 
-prepared_stays : (Looks : ℕ → Caller → Kept → Type 0) (Lacks : ℕ → ℕ → Caller → Lack → Type 0)
+prepared_stays : (Looks : ℕ → Caller → Kept → Type 0) (Lacks : ℕ → ℕ → Caller → KeepingFault → Type 0)
     (nodes : Parts) (node : ℕ) (message : Said) (left : Option ℕ)
     (before prepared : List (Option OpenFile)) (slot : ℕ) (file : OpenFile)
     → IfSome left (IsLeaving nodes node message) → ArePreparedFor Looks Lacks left before prepared
@@ -129,22 +129,22 @@ module _ (nodes : Parts) (node : ℕ) (before after : List (Option OpenFile)) (s
   unkept_stays id other are =
       are slot ∙ ap (λ o. unkept id o) is ∙ unkept_other id (file.node == id) (not_node file.node id other)
 
-  settled_stays : (left : Option ℕ) (reply : Told) → IfSome left (λ id. file.node ≢ id)
-      → AreSettled left reply before after → slice_index_or after slot None ≡ Some file
-  settled_stays None reply other same = same_slot same
-  settled_stays (Some id) (told.Error error) other are = unkept_stays id other are
-  settled_stays (Some id) told.Done other same = same_slot same
-  settled_stays (Some id) (told.Entry entry) other are = unkept_stays id other are
-  settled_stays (Some id) (told.Attr attr) other are = unkept_stays id other are
-  settled_stays (Some id) (told.Open opened) other are = unkept_stays id other are
-  settled_stays (Some id) (told.Create entry opened) other are = unkept_stays id other are
-  settled_stays (Some id) (told.Written count) other are = unkept_stays id other are
-  settled_stays (Some id) (told.Bytes bytes) other are = unkept_stays id other are
-  settled_stays (Some id) (told.Statfs room) other are = unkept_stays id other are
-  settled_stays (Some id) (told.Init reply) other are = unkept_stays id other are
-  settled_stays (Some id) told.Ioctl other are = unkept_stays id other are
-  settled_stays (Some id) (told.Flags flags) other are = unkept_stays id other are
-  settled_stays (Some id) (told.Extended flags) other are = unkept_stays id other are
+  flushed_stays : (left : Option ℕ) (reply : Told) → IfSome left (λ id. file.node ≢ id)
+      → AreKeptWhereDone left reply before after → slice_index_or after slot None ≡ Some file
+  flushed_stays None reply other same = same_slot same
+  flushed_stays (Some id) (told.Error error) other are = unkept_stays id other are
+  flushed_stays (Some id) told.Done other same = same_slot same
+  flushed_stays (Some id) (told.Entry entry) other are = unkept_stays id other are
+  flushed_stays (Some id) (told.Attr attr) other are = unkept_stays id other are
+  flushed_stays (Some id) (told.Open opened) other are = unkept_stays id other are
+  flushed_stays (Some id) (told.Create entry opened) other are = unkept_stays id other are
+  flushed_stays (Some id) (told.Written count) other are = unkept_stays id other are
+  flushed_stays (Some id) (told.Bytes bytes) other are = unkept_stays id other are
+  flushed_stays (Some id) (told.Statfs room) other are = unkept_stays id other are
+  flushed_stays (Some id) (told.Init reply) other are = unkept_stays id other are
+  flushed_stays (Some id) told.Ioctl other are = unkept_stays id other are
+  flushed_stays (Some id) (told.Flags flags) other are = unkept_stays id other are
+  flushed_stays (Some id) (told.Extended flags) other are = unkept_stays id other are
 
   module _ (caller : Caller) (reply : Told) (left found : Option ℕ) (other : IfSome left (λ id. file.node ≢ id))
       (free : IfSome found (λ s. IsFree before s)) where
@@ -153,33 +153,33 @@ module _ (nodes : Parts) (node : ℕ) (before after : List (Option OpenFile)) (s
     left_stays (release fields) same = closed_stays (slot_of fields.handle) same
     left_stays (create fields name) same = opened_stays found _ fields.flags.access caller free same
     left_stays (opening fields) same = opened_stays found _ fields.flags.access caller free same
-    left_stays (init fields) are = settled_stays left reply other are
-    left_stays destroy are = settled_stays left reply other are
-    left_stays (lookup name) are = settled_stays left reply other are
-    left_stays (forget fields) are = settled_stays left reply other are
-    left_stays (batch_forget bytes) are = settled_stays left reply other are
-    left_stays (interrupt number) are = settled_stays left reply other are
-    left_stays (getattr fields) are = settled_stays left reply other are
-    left_stays (setattr fields) are = settled_stays left reply other are
-    left_stays (access fields) are = settled_stays left reply other are
-    left_stays (mknod fields name) are = settled_stays left reply other are
-    left_stays (mkdir fields name) are = settled_stays left reply other are
-    left_stays (unlink name) are = settled_stays left reply other are
-    left_stays (rmdir name) are = settled_stays left reply other are
-    left_stays (rename fields name new_name) are = settled_stays left reply other are
-    left_stays (read fields) are = settled_stays left reply other are
-    left_stays (write fields bytes) are = settled_stays left reply other are
-    left_stays (flush fields) are = settled_stays left reply other are
-    left_stays (fsync fields) are = settled_stays left reply other are
-    left_stays (opendir fields) are = settled_stays left reply other are
-    left_stays (readdir fields) are = settled_stays left reply other are
-    left_stays (readdirplus fields) are = settled_stays left reply other are
-    left_stays (releasedir fields) are = settled_stays left reply other are
-    left_stays (fsyncdir fields) are = settled_stays left reply other are
-    left_stays statfs are = settled_stays left reply other are
-    left_stays (ioctl fields) are = settled_stays left reply other are
-    left_stays (unserved kind) are = settled_stays left reply other are
-    left_stays (unknown number) are = settled_stays left reply other are
+    left_stays (init fields) are = flushed_stays left reply other are
+    left_stays destroy are = flushed_stays left reply other are
+    left_stays (lookup name) are = flushed_stays left reply other are
+    left_stays (forget fields) are = flushed_stays left reply other are
+    left_stays (batch_forget bytes) are = flushed_stays left reply other are
+    left_stays (interrupt number) are = flushed_stays left reply other are
+    left_stays (getattr fields) are = flushed_stays left reply other are
+    left_stays (setattr fields) are = flushed_stays left reply other are
+    left_stays (access fields) are = flushed_stays left reply other are
+    left_stays (mknod fields name) are = flushed_stays left reply other are
+    left_stays (mkdir fields name) are = flushed_stays left reply other are
+    left_stays (unlink name) are = flushed_stays left reply other are
+    left_stays (rmdir name) are = flushed_stays left reply other are
+    left_stays (rename fields name new_name) are = flushed_stays left reply other are
+    left_stays (read fields) are = flushed_stays left reply other are
+    left_stays (write fields bytes) are = flushed_stays left reply other are
+    left_stays (flush fields) are = flushed_stays left reply other are
+    left_stays (fsync fields) are = flushed_stays left reply other are
+    left_stays (opendir fields) are = flushed_stays left reply other are
+    left_stays (readdir fields) are = flushed_stays left reply other are
+    left_stays (readdirplus fields) are = flushed_stays left reply other are
+    left_stays (releasedir fields) are = flushed_stays left reply other are
+    left_stays (fsyncdir fields) are = flushed_stays left reply other are
+    left_stays statfs are = flushed_stays left reply other are
+    left_stays (ioctl fields) are = flushed_stays left reply other are
+    left_stays (unserved kind) are = flushed_stays left reply other are
+    left_stays (unknown number) are = flushed_stays left reply other are
 
 -- ---- any message
 
@@ -201,12 +201,12 @@ changed_if true change node before after slot file is are =
     are slot ∙ ap (λ o. file_behind change node (shown_slot o)) is
 changed_if false change node before after slot file is are = are slot ∙ ap (λ o. shown_slot o) is
 
-module _ {F : Type 0} (state : F → StoreState) (is_settled : F → Type 0) (sizes : Sizes) (now : Time) (caller : Caller)
+module _ {F : Type 0} (state : F → StoreState) (is_flushed : F → Type 0) (sizes : Sizes) (now : Time) (caller : Caller)
     (nodes nodes_after : Parts) (node : ℕ) (reply : Told) (old new : Seen F) (before after : Beside) where
   still_kept : (message : Said) (o : Option Kept) (slot : ℕ) (file : OpenFile)
       → slice_index_or before.opens.files.items slot None ≡ Some file → hang_in (known nodes file.node) ≡ Some Gone
       → OnKept o (IsToldKept now caller node message reply old new before after)
-      (IsToldDated state is_settled sizes now caller nodes nodes_after node message reply old new before after)
+      (IsToldDated state is_flushed sizes now caller nodes nodes_after node message reply old new before after)
       → IsStillKept now caller node message reply o slot file (slice_index_or after.opens.files.items slot None)
   still_kept message (Some kept) slot file is gone h =
       changed_if (is_rewrite message reply) (kept_behind now caller message) node before.opens.files.items
@@ -218,7 +218,7 @@ module _ {F : Type 0} (state : F → StoreState) (is_settled : F → Type 0) (si
       (free_slot _ h.prepared h.slot h.free) message h.opens
 
   pub heard_keeps : (message : Option Said) (wanted : Bool)
-      → IsHeard state is_settled sizes now caller nodes nodes_after node message reply wanted old new before after
+      → IsHeard state is_flushed sizes now caller nodes nodes_after node message reply wanted old new before after
       → IfSome message (λ m. AreStillKept now caller nodes node m reply before.opens.files.items
       after.opens.files.items)
   heard_keeps None wanted h = tt

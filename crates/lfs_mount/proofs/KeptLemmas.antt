@@ -1,4 +1,8 @@
--- What comes of a message that may be answered by what is kept.
+-- What comes of a message that may be answered by what is kept of a removed file: `write_kept`, for `Mount::kept_told`,
+-- and `told_kept` and `told_dated`. Something is kept for a message where its node is gone and its handle's slot has a
+-- file of this node; the promise has a case for each, so the facts that the code found are put in for them (`subst`).
+-- Then either the answer is the one that was told by what is kept, or nothing is kept and the message goes its usual
+-- way.
 use Rattle.std.proofs.Common.{◌≡◌, ℕ, List, length, Option, None, Some, refl, sym, subst}
 use Rattle.std.specs.Prelude.{IsSomeAnd}
 use Rattle.lfs_types.specs.Caller.{Caller}

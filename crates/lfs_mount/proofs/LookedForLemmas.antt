@@ -22,8 +22,8 @@ use Rattle.lfs_opens.specs.Opens.{opener_of}
 use Rattle.lfs_opens.specs.Rewritten.{bytes_kept}
 use Rattle.lfs_opens.specs.declared.kept.Kept.{Kept}
 use Rattle.lfs_opens.specs.declared.kept.OpenFile.{OpenFile}
-use Rattle.lfs_opens.specs.declared.kept.Lack.{Lack}
-use Rattle.lfs_opens.specs.declared.kept.Lack.TheVariants as lack
+use Rattle.lfs_opens.specs.declared.kept.KeepingFault.{KeepingFault}
+use Rattle.lfs_opens.specs.declared.kept.KeepingFault.TheVariants as lack
 use Rattle.lfs_mount.specs.Leaving.{ArePrepared, IsAnswerOf, IsKept, IsLastLook, IsLastMiss, IsLooked, IsLookedFor, bytes_at}
 use Rattle.lfs_mount.specs.Leaving.{IsPrepared, IsReadBy, IsSeenIn, IsSight, IsSightOr, IsUnseen, IsUnseenIn, OnOpener}
 use Rattle.lfs_mount.specs.declared.sight.Sight.{Sight}
@@ -33,7 +33,7 @@ use Rattle.lfs_mount.proofs.LookedLemmas.{before_look}
 
 module _ {F : Type 0} (state : F → StoreState) (old : Seen F) (caller : Caller) (path : List (List ℕ))
     (off len : ℕ) where
-  why_lacks : (why : Lack) (answer : Answer) → IsAnswerOf why answer
+  why_lacks : (why : KeepingFault) (answer : Answer) → IsAnswerOf why answer
       → AtPresent state old (λ w. IsOutcome (state old.store) w caller (Read path off len) answer)
       → (room : ℕ) → IsUnseen state old path room caller why
   why_lacks lack.Denied (Denied denial) is outcome room = λ from begins none.
@@ -46,7 +46,7 @@ module _ {F : Type 0} (state : F → StoreState) (old : Seen F) (caller : Caller
   why_lacks lack.Absent answer is outcome room = absurd is
   why_lacks lack.Memory answer is outcome room = tt
 
-  pub piece_lacks : {A : Type 0} (answer : Answer) (result : Result A Lack)
+  pub piece_lacks : {A : Type 0} (answer : Answer) (result : Result A KeepingFault)
       → IfErr result (λ why. IsAnswerOf why answer)
       → AtPresent state old (λ w. IsOutcome (state old.store) w caller (Read path off len) answer)
       → IfErr result (λ why. (room : ℕ) → IsUnseen state old path room caller why)
@@ -55,7 +55,7 @@ module _ {F : Type 0} (state : F → StoreState) (old : Seen F) (caller : Caller
 
 -- the volume was looked at meanwhile
 pub unseen_before : {F : Type 0} (state : F → StoreState) (old now : Seen F) (path : List (List ℕ)) (room : ℕ)
-    (caller : Caller) (why : Lack) → IsLooked state old now → IsUnseen state now path room caller why
+    (caller : Caller) (why : KeepingFault) → IsLooked state old now → IsUnseen state now path room caller why
     → IsUnseen state old path room caller why
 unseen_before state old now path room caller lack.Denied looked u =
     before_look state (λ w. decide w caller (Read path 0 0) ≢ None) old now looked u
@@ -74,9 +74,9 @@ err_map : {A E : Type 0} (r : Result A E) (P Q : E → Type 0) → ((e : E) → 
 err_map (Ok a) P Q f h = tt
 err_map (Err e) P Q f h = f e h
 
-module _ (Looks Looks2 : Caller → Kept → Type 0) (Lacks Lacks2 : Caller → Lack → Type 0)
+module _ (Looks Looks2 : Caller → Kept → Type 0) (Lacks Lacks2 : Caller → KeepingFault → Type 0)
     (seen : (c : Caller) (k : Kept) → Looks c k → Looks2 c k)
-    (unseen : (c : Caller) (why : Lack) → Lacks c why → Lacks2 c why) where
+    (unseen : (c : Caller) (why : KeepingFault) → Lacks c why → Lacks2 c why) where
   opener_map : (o : Option Caller) (before after : Option OpenFile)
       → OnOpener o (λ c. IsKept (Looks c) (Lacks c) before after) (after ≡ before)
       → OnOpener o (λ c. IsKept (Looks2 c) (Lacks2 c) before after) (after ≡ before)
@@ -93,7 +93,7 @@ module _ (Looks Looks2 : Caller → Kept → Type 0) (Lacks Lacks2 : Caller → 
   prepared_map node before after h = opener_map (opener_of before node) before after h
 
 -- the volume was looked at meanwhile
-seen_in_before : {F : Type 0} (state : F → StoreState) (old now : Seen F) (sight : Result Sight Lack) (caller : Caller)
+seen_in_before : {F : Type 0} (state : F → StoreState) (old now : Seen F) (sight : Result Sight KeepingFault) (caller : Caller)
     (kept : Kept) → IsLooked state old now → IsSeenIn state now sight caller kept → IsSeenIn state old sight caller kept
 seen_in_before state old now (Ok sight) caller kept looked s = record {
   bytes = before_look state (λ w. IsReadBy w caller sight.path kept.bytes.items) old now looked s.bytes;
@@ -101,14 +101,14 @@ seen_in_before state old now (Ok sight) caller kept looked s = record {
 }
 seen_in_before state old now (Err lacking) caller kept looked s = s
 
-unseen_in_before : {F : Type 0} (state : F → StoreState) (old now : Seen F) (sight : Result Sight Lack) (room : ℕ)
-    (caller : Caller) (why : Lack) → IsLooked state old now → IsUnseenIn state now sight room caller why
+unseen_in_before : {F : Type 0} (state : F → StoreState) (old now : Seen F) (sight : Result Sight KeepingFault) (room : ℕ)
+    (caller : Caller) (why : KeepingFault) → IsLooked state old now → IsUnseenIn state now sight room caller why
     → IsUnseenIn state old sight room caller why
 unseen_in_before state old now (Ok sight) room caller why looked u =
     unseen_before state old now sight.path room caller why looked u
 unseen_in_before state old now (Err lacking) room caller why looked u = u
 
-pub prepared_before : {F : Type 0} (state : F → StoreState) (old now : Seen F) (sight : Result Sight Lack)
+pub prepared_before : {F : Type 0} (state : F → StoreState) (old now : Seen F) (sight : Result Sight KeepingFault)
     (room node : ℕ) (before after : Option OpenFile) → IsLooked state old now
     → IsPrepared (IsSeenIn state now sight) (IsUnseenIn state now sight room) node before after
     → IsPrepared (IsSeenIn state old sight) (IsUnseenIn state old sight room) node before after
@@ -119,7 +119,7 @@ prepared_before state old now sight room node before after looked h =
     (λ c why u. unseen_in_before state old now sight room c why looked u)
     node before after h
 
-module _ (Looks : Caller → Kept → Type 0) (Lacks : ℕ → Caller → Lack → Type 0) (node : ℕ)
+module _ (Looks : Caller → Kept → Type 0) (Lacks : ℕ → Caller → KeepingFault → Type 0) (node : ℕ)
     (before : List (Option OpenFile)) where
   looked_for_on : (slot s : ℕ) (mid after : List (Option OpenFile)) → s < slot
       → IsLookedFor Looks Lacks node s before mid
@@ -206,13 +206,13 @@ module _ (Looks : Caller → Kept → Type 0) (Lacks : ℕ → Caller → Lack �
 -- ---- what is seen of a node's file, by a path that leads to it
 
 module _ {F : Type 0} (state : F → StoreState) (times : List Stamps) (nodes : Parts) (old : Seen F) (node : ℕ) where
-  last_seen : (sight : Result Sight Lack) (caller : Caller) (kept : Kept)
+  last_seen : (sight : Result Sight KeepingFault) (caller : Caller) (kept : Kept)
       → IsSightOr state times nodes old node sight → IsSeenIn state old sight caller kept
       → IsLastLook state times nodes old node caller kept
   last_seen (Ok sight) caller kept is s = record { sight = sight; is = is; looks = s }
   last_seen (Err lacking) caller kept is s = absurd s
 
-  missed_by : (sight : Sight) (room : ℕ) (caller : Caller) (why : Lack)
+  missed_by : (sight : Sight) (room : ℕ) (caller : Caller) (why : KeepingFault)
       → IsSight state times nodes old node sight → IsUnseen state old sight.path room caller why
       → IsLastMiss state nodes old node room caller why
   missed_by sight room caller lack.Denied is u = record { path = sight.path; leads = is.leads; lacks = u }
@@ -220,21 +220,21 @@ module _ {F : Type 0} (state : F → StoreState) (times : List Stamps) (nodes : 
   missed_by sight room caller lack.Absent is u = absurd u
   missed_by sight room caller lack.Memory is u = tt
 
-  missed_for : (room : ℕ) (caller : Caller) (why : Lack) → IsSightOr state times nodes old node (Err why)
+  missed_for : (room : ℕ) (caller : Caller) (why : KeepingFault) → IsSightOr state times nodes old node (Err why)
       → IsLastMiss state nodes old node room caller why
   missed_for room caller lack.Denied is = absurd is
   missed_for room caller lack.Room is = absurd is
   missed_for room caller lack.Absent is = is
   missed_for room caller lack.Memory is = tt
 
-  last_missed : (sight : Result Sight Lack) (room : ℕ) (caller : Caller) (why : Lack)
+  last_missed : (sight : Result Sight KeepingFault) (room : ℕ) (caller : Caller) (why : KeepingFault)
       → IsSightOr state times nodes old node sight → IsUnseenIn state old sight room caller why
       → IsLastMiss state nodes old node room caller why
   last_missed (Ok sight) room caller why is u = missed_by sight room caller why is u
   last_missed (Err lacking) room caller why is u =
       missed_for room caller why (subst (λ l. IsSightOr state times nodes old node (Err l)) (sym u) is)
 
-  pub last_prepared : (sight : Result Sight Lack) (before after : List (Option OpenFile))
+  pub last_prepared : (sight : Result Sight KeepingFault) (before after : List (Option OpenFile))
       → IsSightOr state times nodes old node sight
       → ArePrepared (IsSeenIn state old sight) (IsUnseenIn state old sight) node before after
       → ArePrepared (IsLastLook state times nodes old node) (IsLastMiss state nodes old node) node before after

@@ -1,4 +1,8 @@
--- Calls that were made, with one more.
+-- Calls that were made, with one more, for the loop of `make`. A message's calls are made while each is served in full
+-- (`AllFull`); all of them were, or the first that wasn't is the last (`up_to_all`, `up_to_one`). Each is answered
+-- behind the entries of those before it, and neither the journal's beginning nor its limit moves; so a further one is
+-- one of a longer run from the same beginning (`one_more`, `entered_more`). `are_made` puts this together: the calls
+-- that were made are the first of those that were asked for, as many as there are answers.
 use Rattle.std.proofs.Common.{◌≡◌, true, false, List, [], ◌∷◌, ◌++◌, length, take, refl, sym, ap, subst, ◌∙◌}
 use Rattle.std.proofs.Math.Seq.{take-append_seam}
 use Rattle.lfs_types.specs.Caller.{Caller}
@@ -61,32 +65,32 @@ up_to_one (r ∷ requests) rest (a ∷ answers) request answer all not_full =
     (up_to_one requests rest answers request answer all.1 not_full)
 
 -- one more call was answered
-pub one_more : {F : Type 0} (state : F → StoreState) (is_settled : F → Type 0) (caller : Caller)
+pub one_more : {F : Type 0} (state : F → StoreState) (is_flushed : F → Type 0) (caller : Caller)
     (old before next : Seen F) (done : List Request) (answers : List Answer) (request : Request) (answer : Answer)
     → Since (state old.since) old.since_level
-    (λ from. AreAnswers state is_settled old.limit from old.journal old.store
+    (λ from. AreAnswers state is_flushed old.limit from old.journal old.store
     (calls_as caller done) answers before.store)
     → before.journal ≡ old.journal ++ kept (calls_as caller done) answers
     → before.since ≡ old.since → before.since_level ≡ old.since_level → before.limit ≡ old.limit
     → Since (state before.since) before.since_level
-    (λ from. IsCallMade state is_settled before.limit from before.journal before.store caller request answer
+    (λ from. IsCallMade state is_flushed before.limit from before.journal before.store caller request answer
     next.store)
     → Since (state old.since) old.since_level
-    (λ from. AreAnswers state is_settled old.limit from old.journal old.store
+    (λ from. AreAnswers state is_flushed old.limit from old.journal old.store
     (calls_as caller (done ++ request ∷ [])) (answers ++ answer ∷ []) next.store)
-one_more {F} state is_settled caller old before next done answers request answer each entered since since_level limit
+one_more {F} state is_flushed caller old before next done answers request answer each entered since since_level limit
     made =
     λ from begins.
     let here : Begins (state before.since) before.since_level from =
     subst (λ l. Begins (state before.since) l from) (sym since_level)
     (subst (λ (s : F). Begins (state s) old.since_level from) (sym since) begins) in
-    subst (λ calls. AreAnswers state is_settled old.limit from old.journal old.store calls (answers ++ answer
+    subst (λ calls. AreAnswers state is_flushed old.limit from old.journal old.store calls (answers ++ answer
     ∷ []) next.store) (sym (calls_as-append caller done request))
-    (AreAnswers-append state is_settled old.limit from old.journal old.store before.store next.store
+    (AreAnswers-append state is_flushed old.limit from old.journal old.store before.store next.store
     (calls_as caller done) answers (call_as caller request) answer (each from begins)
-    (subst (λ n. IsCallMade state is_settled n from (old.journal
+    (subst (λ n. IsCallMade state is_flushed n from (old.journal
     ++ kept (calls_as caller done) answers) before.store caller request answer next.store) limit
-    (subst (λ j. IsCallMade state is_settled before.limit from j before.store caller request answer next.store) entered
+    (subst (λ j. IsCallMade state is_flushed before.limit from j before.store caller request answer next.store) entered
     (made from here))))
 
 -- no call was made
@@ -121,25 +125,25 @@ entered_more caller old before next done answers request answer count entered mo
     ∙ ap (λ calls. kept calls (answers ++ answer ∷ [])) (sym (calls_as-append caller done request)))
 
 -- calls that have answers, of those that were asked for
-pub are_made : {F : Type 0} (state : F → StoreState) (is_settled : F → Type 0) (caller : Caller)
+pub are_made : {F : Type 0} (state : F → StoreState) (is_flushed : F → Type 0) (caller : Caller)
     (requests done rest : List Request) (answers : List Answer) (old new : Seen F)
     → done ++ rest ≡ requests → length answers ≡ length done
     → Since (state old.since) old.since_level
-    (λ from. AreAnswers state is_settled old.limit from old.journal old.store
+    (λ from. AreAnswers state is_flushed old.limit from old.journal old.store
     (calls_as caller done) answers new.store)
     → new.journal ≡ old.journal ++ kept (calls_as caller done) answers
     → OnAny answers (Since (state old.since) old.since_level (λ from. length new.journal ≤ new.limit))
     → GoUpTo requests answers
     → new.since ≡ old.since → new.since_level ≡ old.since_level → new.limit ≡ old.limit
     → (state new.store).shape ≡ (state old.store).shape → (IsRun state old → IsRun state new)
-    → AreMade state is_settled caller requests answers old new
-are_made state is_settled caller requests done rest answers old new all count each entered within up_to since
+    → AreMade state is_flushed caller requests answers old new
+are_made state is_flushed caller requests done rest answers old new all count each entered within up_to since
     since_level limit shape legal =
     let made : take (length answers) requests ≡ done =
     ap (λ n. take n requests) count ∙ ap (take (length done)) (sym all) ∙ take-append_seam done rest in
     record {
       each = subst (λ l. Since (state old.since) old.since_level
-          (λ from. AreAnswers state is_settled old.limit from old.journal old.store
+          (λ from. AreAnswers state is_flushed old.limit from old.journal old.store
           (calls_as caller l) answers new.store)) (sym made) each;
       entered = entered ∙ ap (λ l. old.journal ++ kept (calls_as caller l) answers) (sym made);
       within = within;

@@ -176,15 +176,15 @@ left_unless : (refusal : Option Errno) (Goes : Type 0) (before after : Parts) �
 left_unless None Goes before after left goes = left goes
 left_unless (Some error) Goes before after left same = same
 
-pub handled_left : {F : Type 0} (state : F → StoreState) (is_settled : F → Type 0) (caller : Caller)
+pub handled_left : {F : Type 0} (state : F → StoreState) (is_flushed : F → Type 0) (caller : Caller)
     (nodes nodes_after : Parts) (node : ℕ) (message : Said) (reply : Told) (old new : Seen F)
     → ((seen : Option Stat) → NodesFollow message node seen reply nodes nodes_after → nodes_after ≡ nodes)
-    → IsHandled state is_settled caller nodes nodes_after node message reply old new → nodes_after ≡ nodes
-handled_left state is_settled caller nodes nodes_after node message reply old new left (inl called) =
+    → IsHandled state is_flushed caller nodes nodes_after node message reply old new → nodes_after ≡ nodes
+handled_left state is_flushed caller nodes nodes_after node message reply old new left (inl called) =
     left_unless (refusal_told message called.answers)
     (NodesFollow message node (seen_in called.answers) reply nodes nodes_after) nodes nodes_after
     (left (seen_in called.answers)) called.follows
-handled_left state is_settled caller nodes nodes_after node message reply old new left (inr refused) = refused.1
+handled_left state is_flushed caller nodes nodes_after node message reply old new left (inr refused) = refused.1
 
 -- ---- what is told has times and a handle
 

@@ -1,4 +1,7 @@
--- A file's bytes, read in parts one behind the other.
+-- A file's bytes, read in parts one behind the other: `read_on`, `read_last` and `room_lacks`, for
+-- `leaving::all_shown`. The bytes so far are the front of the file's, so with the rest of the file they are all of it,
+-- and the next part is the front of that rest; so it stays that way (`next_part`). A part that is shorter than was
+-- asked is all of the rest (`last_part`). If more was read than there is room for, the file is bigger than the room.
 use Rattle.std.proofs.Common.{◌≡◌, ℕ, zero, suc, ◌+◌, ◌<◌, List, [], ◌∷◌, ◌++◌, ◌∙◌, length, take, drop, refl, sym, ap}
 use Rattle.std.proofs.Common.{subst, arith, append_assoc, length-append}
 use Rattle.std.proofs.lemmas.List.{drop-drop}

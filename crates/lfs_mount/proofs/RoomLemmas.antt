@@ -1,4 +1,5 @@
--- Sums over inode numbers.
+-- Sums over inode numbers: `taken_none` and `taken_more` for `room::taken`, `used_none` and `used_more` for
+-- `room::used`. A sum below n + 1 is that below n and what number n adds.
 use Rattle.std.proofs.Common.{◌≡◌, ℕ, suc, ◌+◌, refl, arith}
 use Rattle.lfs_types.specs.Stored.{shown_attrs}
 use Rattle.lfs_types.specs.Tree.{Content}

@@ -1,4 +1,8 @@
--- Nodes that are true of a tree of some content are true of each tree of that content.
+-- Nodes that are true of a tree of some content are true of each tree of that content: `shown_on`, `gone_on` and
+-- `went`, for the law `stay_true`. Which row hangs under a name is told by the bytes of the directory's file, and these
+-- are the content's; so two trees that are shown of one content have the same names with the same numbers
+-- (`shown_child`), and nodes are about nothing else. A volume that looked, let entries go or went on without a change
+-- has the content that it had.
 use Rattle.std.proofs.Common.{◌≡◌, ℕ, List, Option, None, Some, refl, sym, ap, subst, ◌∙◌}
 use Rattle.std.specs.Prelude.{option_map}
 use Rattle.std.specs.FinMap as map

@@ -1,4 +1,9 @@
--- Nodes stay true of the tree that a volume shows.
+-- Nodes stay true of the tree that a volume shows: `handled_stay` for `NodeTree::once`, `renamed_stay` and `known_stay`
+-- for `rename_paths`, `set_attr_stay`, `flagged_stay`, `listed_stay` and others for `told`. TreeLemmas has this for the
+-- worlds of a message's calls; the calls lead from what the old journal leads to, to what the new one does, wherever it
+-- began (`stay_true`). So by the message it is said what its calls do to nodes (`handled_nodes`): most take no name
+-- away and leave the nodes as they are. A message that looks first is its look, which takes no name away, and then what
+-- follows or nothing (`looked_stay`).
 use Rattle.std.proofs.Common.{◌≡◌, ℕ, List, [], ◌∷◌, Option, None, Some, refl, sym, subst, inl, inr}
 use Rattle.lfs_types.specs.Caller.{Caller}
 use Rattle.lfs_types.specs.StoreStates.{StoreState}
@@ -114,10 +119,10 @@ handled_nodes numbers caller w v node (unknown number) path answers nodes after 
 
 -- ---- a volume
 
-module _ {F : Type 0} (state : F → StoreState) (is_settled : F → Type 0) where
+module _ {F : Type 0} (state : F → StoreState) (is_flushed : F → Type 0) where
   -- where the trees of a message's calls keep nodes true, the volume does
   stay_true : (caller : Caller) (requests : List Request) (answers : List Answer) (old new : Seen F)
-      (nodes after : Parts) → AreMade state is_settled caller requests answers old new
+      (nodes after : Parts) → AreMade state is_flushed caller requests answers old new
       → ((numbers : ℕ) (w v : World) → AreJudged numbers caller w requests answers v → AreNodes w.rows (known nodes)
       → AreNodes v.rows (known after))
       → StayTrue state old nodes new after
@@ -125,7 +130,7 @@ module _ {F : Type 0} (state : F → StoreState) (is_settled : F → Type 0) whe
       let here : Begins (state old.since) old.since_level from =
       subst (λ (s : F). Begins (state s) old.since_level from) made.since
       (subst (λ (l : Level). Begins (state new.since) l from) made.since_level begins) in
-      step _ _ _ (judged_made state is_settled caller requests answers old new made from here) (are from here)
+      step _ _ _ (judged_made state is_flushed caller requests answers old new made from here) (are from here)
 
   -- nothing changed
   pub unchanged : (old new : Seen F) (nodes : Parts) → new ≡ old → StayTrue state old nodes new nodes
@@ -134,7 +139,7 @@ module _ {F : Type 0} (state : F → StoreState) (is_settled : F → Type 0) whe
   -- a message was handled
   pub handled_stay : (caller : Caller) (node : ℕ) (message : Said) (answers : List Answer) (old new : Seen F)
       (nodes after : Parts) (o : Option Errno)
-      → AreLedAndMade state is_settled caller nodes node message answers old new → refusal_told message answers ≡ o
+      → AreLedAndMade state is_flushed caller nodes node message answers old new → refusal_told message answers ≡ o
       → UnlessRefused o (LeavesNodes message node (seen_in answers) nodes after) nodes after
       → StayTrue state old nodes new after
   handled_stay caller node message answers old new nodes after o led refusal leaves =
@@ -154,7 +159,7 @@ module _ {F : Type 0} (state : F → StoreState) (is_settled : F → Type 0) whe
   pub renamed_stay : (caller : Caller) (from to : List (List ℕ)) (node : ℕ) (name : List ℕ) (directory : ℕ)
       (new_name : List ℕ) (answers : List Answer) (old new : Seen F) (nodes between after : Parts)
       → ((q : ℕ) → known between q ≡ known nodes q)
-      → AreMade state is_settled caller (Rename from to ∷ []) answers old new
+      → AreMade state is_flushed caller (Rename from to ∷ []) answers old new
       → UnlessRefused (refusal_in answers) (MovesRow node name directory new_name between after) between after
       → LeadsToRow (known nodes) node (Some name) from → LeadsToRow (known nodes) directory (Some new_name) to
       → StayTrue state old nodes new after
@@ -172,7 +177,7 @@ module _ {F : Type 0} (state : F → StoreState) (is_settled : F → Type 0) whe
   module _ (nodes : Parts) where
     -- calls were made that take no name away
     pub kept_stay : (caller : Caller) (requests : List Request) (answers : List Answer) (old new : Seen F)
-        → KeepNames requests → AreMade state is_settled caller requests answers old new
+        → KeepNames requests → AreMade state is_flushed caller requests answers old new
         → StayTrue state old nodes new nodes
     kept_stay caller requests answers old new keep made =
         stay_true caller requests answers old new nodes nodes made
@@ -190,7 +195,7 @@ module _ {F : Type 0} (state : F → StoreState) (is_settled : F → Type 0) whe
         (old new : Seen F) (Goes : Seen F → Attrs → Type 0)
         → ((path : List (List ℕ)) → KeepNames (asked message path))
         → ((between : Seen F) (present : Attrs) → Goes between present → StayTrue state between nodes new nodes)
-        → IsLookedAt state is_settled caller hangs node message reply old new Goes
+        → IsLookedAt state is_flushed caller hangs node message reply old new Goes
         → StayTrue state old nodes new nodes
     looked_stay caller hangs node message reply old new Goes keep goes h = λ are.
         behind_stay h.between new reply (Goes h.between) (goes h.between) (refusal_in h.answers) (seen_in h.answers)
@@ -199,7 +204,7 @@ module _ {F : Type 0} (state : F → StoreState) (is_settled : F → Type 0) whe
 
     set_stay : (caller : Caller) (hangs : ℕ → Option Hang) (node : ℕ) (fields : SetAttr) (reply : Told)
         (old new : Seen F) (present : Attrs)
-        → IsSet state is_settled caller hangs node fields reply old new present → StayTrue state old nodes new nodes
+        → IsSet state is_flushed caller hangs node fields reply old new present → StayTrue state old nodes new nodes
     set_stay caller hangs node fields reply old new present (inl set) =
         kept_stay caller (asked_to_set fields present set.path) set.answers old new (keep_set fields present set.path)
         set.made
@@ -213,10 +218,10 @@ module _ {F : Type 0} (state : F → StoreState) (is_settled : F → Type 0) whe
     -- attributes were set
     pub set_attr_stay : (caller : Caller) (hangs : ℕ → Option Hang) (node : ℕ) (fields : SetAttr) (reply : Told)
         (old new : Seen F)
-        → IsSetAttr state is_settled caller hangs node fields reply old new → StayTrue state old nodes new nodes
+        → IsSetAttr state is_flushed caller hangs node fields reply old new → StayTrue state old nodes new nodes
     set_attr_stay caller hangs node fields reply old new (inl looked) =
         looked_stay caller hangs node (setattr fields) reply old new
-        (λ between present. IsSetJudged state is_settled caller hangs node fields reply between new present)
+        (λ between present. IsSetJudged state is_flushed caller hangs node fields reply between new present)
         (λ path. (tt, tt))
         (λ between present h. unless_stay between new reply _
         (set_stay caller hangs node fields reply between new present) (dating_refusal caller fields present) h)
@@ -225,7 +230,7 @@ module _ {F : Type 0} (state : F → StoreState) (is_settled : F → Type 0) whe
 
     flags_stay : (caller : Caller) (hangs : ℕ → Option Hang) (node : ℕ) (asks : Command) (reply : Told)
         (old new : Seen F) (present : ℕ)
-        → GoesOnFlags state is_settled caller hangs node asks reply old new present
+        → GoesOnFlags state is_flushed caller hangs node asks reply old new present
         → StayTrue state old nodes new nodes
     flags_stay caller hangs node command.GetFlags reply old new present h = unchanged old new nodes h.1
     flags_stay caller hangs node command.GetExtended reply old new present h = unchanged old new nodes h.1
@@ -239,10 +244,10 @@ module _ {F : Type 0} (state : F → StoreState) (is_settled : F → Type 0) whe
     -- a control call
     pub flagged_stay : (caller : Caller) (hangs : ℕ → Option Hang) (node : ℕ) (fields : Ioctl) (reply : Told)
         (old new : Seen F)
-        → IsFlagged state is_settled caller hangs node fields reply old new → StayTrue state old nodes new nodes
+        → IsFlagged state is_flushed caller hangs node fields reply old new → StayTrue state old nodes new nodes
     flagged_stay caller hangs node fields reply old new (inl looked) =
         looked_stay caller hangs node (ioctl fields) reply old new
-        (λ between (present : Attrs). GoesOnFlags state is_settled caller hangs node fields.command reply between new
+        (λ between (present : Attrs). GoesOnFlags state is_flushed caller hangs node fields.command reply between new
         present.flags)
         (λ path. (tt, tt))
         (λ between present h. flags_stay caller hangs node fields.command reply between new present.flags h) looked
@@ -250,14 +255,14 @@ module _ {F : Type 0} (state : F → StoreState) (is_settled : F → Type 0) whe
 
     -- what waited was written
     pub synced_stay : (caller : Caller) (reply : Told) (old new : Seen F)
-        → IsSynced state is_settled caller reply old new → StayTrue state old nodes new nodes
+        → IsSynced state is_flushed caller reply old new → StayTrue state old nodes new nodes
     synced_stay caller reply old new (inl done) = kept_stay caller (Sync ∷ []) done.answers old new (tt, tt) done.made
     synced_stay caller reply old new (inr refused) = unchanged old new nodes refused.none
 
     -- a directory was opened
     pub listed_stay : (caller : Caller) (hangs : ℕ → Option Hang) (node : ℕ) (fields : Open) (lists listed : Listings)
         (reply : Told) (old new : Seen F)
-        → IsDirectoryOpened state is_settled caller hangs node fields lists listed reply old new
+        → IsDirectoryOpened state is_flushed caller hangs node fields lists listed reply old new
         → StayTrue state old nodes new nodes
     listed_stay caller hangs node fields lists listed reply old new (inl opened) =
         kept_stay caller (asked (opendir fields) opened.made.path) opened.answers old new (tt, tt) opened.made.made
@@ -267,7 +272,7 @@ module _ {F : Type 0} (state : F → StoreState) (is_settled : F → Type 0) whe
     -- a file was closed
     pub released_stay : (caller : Caller) (hangs : ℕ → Option Hang) (node : ℕ) (due : Option ℕ) (reply : Told)
         (old new : Seen F)
-        → IsReleased state is_settled caller hangs node due reply old new → StayTrue state old nodes new nodes
+        → IsReleased state is_flushed caller hangs node due reply old new → StayTrue state old nodes new nodes
     released_stay caller hangs node None reply old new h = unchanged old new nodes h.1
     released_stay caller hangs node (Some mode) reply old new (done, inl given) =
         kept_stay caller (Chmod given.path mode ∷ []) given.answers old new (tt, tt) given.made
@@ -275,7 +280,7 @@ module _ {F : Type 0} (state : F → StoreState) (is_settled : F → Type 0) whe
 
   -- a Stat was made
   pub stat_stay : (caller : Caller) (path : List (List ℕ)) (answers : List Answer) (old new : Seen F)
-      (nodes after : Parts) → AreMade state is_settled caller (Stat path ∷ []) answers old new → after ≡ nodes
+      (nodes after : Parts) → AreMade state is_flushed caller (Stat path ∷ []) answers old new → after ≡ nodes
       → StayTrue state old nodes new after
   stat_stay caller path answers old new nodes after made same =
       subst (λ (n : Parts). StayTrue state old nodes new n) (sym same)

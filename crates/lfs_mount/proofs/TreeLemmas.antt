@@ -1,4 +1,10 @@
--- Nodes stay true of the tree behind the calls of a message.
+-- Nodes stay true of the tree behind the calls of a message, for StayLemmas: `plain_nodes` for calls that take no name
+-- away, `found_nodes`, `made_nodes`, `unlinked_nodes`, `emptied_nodes` and `renamed_nodes` for the others by what they
+-- do. A call that takes no name away changes what a row has besides its place, or puts one at an unused number, so that
+-- all that nodes say stays (`judged_kept`). What `FindsRow`, `LosesRow` and `MovesRow` say of nodes holds for a tree in
+-- which the row hangs under the name, and in which a row that goes has none beneath; that is so because the call was
+-- served, by the rule that asked for it (`lost_row`, `renamed_row`). A call that was refused leaves the tree and the
+-- nodes.
 use Rattle.std.proofs.Common.{◌≡◌, ◌≢◌, ℕ, ◌==◌, Bool, true, false, List, [], ◌∷◌, ◌++◌, length, Option, None, Some, refl}
 use Rattle.std.proofs.Common.{sym, ap, subst, ◌∙◌, arith, eqb-true, ne_eqb, suc, zero, ◌-◌, drop}
 use Rattle.std.specs.FinMap as map

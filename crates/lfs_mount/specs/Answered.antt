@@ -50,7 +50,7 @@ live_in parts node = live_of (hang_in (known parts node)) (rows_in parts node)
 -- present time, all others keep theirs, and attributes are told with their times; what is put down of files that are
 -- made with more than their mode; and which files and directories are open then. Before a node is taken from its place,
 -- its file may be looked at as each who opened it, which changes nothing that the store shows.
-pub record IsToldDated {F : Type 0} (state : F → StoreState) (is_settled : F → Type 0)
+pub record IsToldDated {F : Type 0} (state : F → StoreState) (is_flushed : F → Type 0)
     (sizes : Sizes) (now : Time)
     (caller : Caller) (nodes nodes_after : Parts) (node : ℕ) (message : Said) (reply : Told)
     (old new : Seen F)
@@ -64,7 +64,7 @@ pub record IsToldDated {F : Type 0} (state : F → StoreState) (is_settled : F �
   pub prepared : List (Option OpenFile)
   pub kept : ArePreparedFor (IsLastLook state before.times.stamps.items nodes old)
       (IsLastMiss state nodes old) left before.opens.files.items prepared
-  pub is : IsTold state is_settled sizes (due message before.loans.modes.items (live_in nodes node))
+  pub is : IsTold state is_flushed sizes (due message before.loans.modes.items (live_in nodes node))
       caller nodes nodes_after before.listings after.listings node message told between new
   pub listed : AreListed message before.listings after.listings
   pub times : after.times.stamps.items ≡ stamped now (rows_in nodes node)
@@ -91,11 +91,11 @@ pub record IsToldKept {F : Type 0} (now : Time) (caller : Caller) (node : ℕ) (
 -- what comes of a message: what is kept that answers it, or its calls
 abbrev pub IsToldKeptOrDated : {F : Type 0} → (F → StoreState) → (F → Type 0) → Sizes → Time
     → Caller → Parts → Parts → ℕ → Said → Told → Seen F → Seen F → Beside → Beside → Type 0
-IsToldKeptOrDated state is_settled sizes now caller nodes nodes_after node message reply old new
+IsToldKeptOrDated state is_flushed sizes now caller nodes nodes_after node message reply old new
     before after =
     OnKept (kept_for nodes message before.opens.files.items node caller)
     (IsToldKept now caller node message reply old new before after)
-    (IsToldDated state is_settled sizes now caller nodes nodes_after node message reply old new
+    (IsToldDated state is_flushed sizes now caller nodes nodes_after node message reply old new
     before after)
 
 -- what comes of a message, or of bytes that are none: those are EINVAL, and no call is made; and whether a reply is
@@ -103,12 +103,12 @@ IsToldKeptOrDated state is_settled sizes now caller nodes nodes_after node messa
 abbrev pub IsHeard : {F : Type 0} → (F → StoreState) → (F → Type 0) → Sizes → Time → Caller → Parts
     → Parts → ℕ → Option Said
     → Told → Bool → Seen F → Seen F → Beside → Beside → Type 0
-IsHeard state is_settled sizes now caller nodes nodes_after node None reply wanted old new before
+IsHeard state is_flushed sizes now caller nodes nodes_after node None reply wanted old new before
     after =
     (reply ≡ Error EINVAL) × (wanted ≡ true) × (new ≡ old) × (after ≡ before)
-IsHeard state is_settled sizes now caller nodes nodes_after node
+IsHeard state is_flushed sizes now caller nodes nodes_after node
     (Some message) reply wanted old new before after =
-    IsToldKeptOrDated state is_settled sizes now caller nodes nodes_after node message reply old new
+    IsToldKeptOrDated state is_flushed sizes now caller nodes nodes_after node message reply old new
     before after
     × (wanted ≡ has_reply message)
 
@@ -120,14 +120,14 @@ replied false unique reply out = out
 -- One reply to the message of a header, with its own number, or none where none is wanted; its calls were made as the
 -- header's caller, with the other groups of the process; what is kept of removed files is kept still; and nodes are what
 -- the message, told so, makes of them.
-pub record IsReplied {F : Type 0} (state : F → StoreState) (is_settled : F → Type 0) (sizes : Sizes)
+pub record IsReplied {F : Type 0} (state : F → StoreState) (is_flushed : F → Type 0) (sizes : Sizes)
     (now : Time)
     (nodes nodes_after : Parts) (others : List ℕ) (header : Header) (message : Option Said)
     (out_before out_after : List ℕ)
     (old new : Seen F) (before after : Beside) : Type 0 where
   pub reply : Told
   pub wanted : Bool
-  pub heard : IsHeard state is_settled sizes now
+  pub heard : IsHeard state is_flushed sizes now
       (caller_of header others) nodes nodes_after header.node message reply wanted old new before
       after
   pub keeps : IfSome message (λ m.
@@ -140,18 +140,18 @@ pub record IsReplied {F : Type 0} (state : F → StoreState) (is_settled : F →
 abbrev pub IsAnsweredOf : {F : Type 0} → (F → StoreState) → (F → Type 0) → Sizes → Time → Parts
     → Parts → List ℕ → Option Header
     → Option Said → List ℕ → List ℕ → Seen F → Seen F → Beside → Beside → Type 0
-IsAnsweredOf state is_settled sizes now nodes nodes_after others None message out_before out_after
+IsAnsweredOf state is_flushed sizes now nodes nodes_after others None message out_before out_after
     old new before after =
     (out_after ≡ out_before) × (new ≡ old) × (after ≡ before)
-IsAnsweredOf state is_settled sizes now nodes nodes_after others
+IsAnsweredOf state is_flushed sizes now nodes nodes_after others
     (Some header) message out_before out_after old new before after =
-    IsReplied state is_settled sizes now nodes nodes_after others header message out_before
+    IsReplied state is_flushed sizes now nodes nodes_after others header message out_before
     out_after old new before after
 
 abbrev pub IsAnswered : {F : Type 0} → (F → StoreState) → (F → Type 0) → Sizes → Time → Parts
     → Parts → List ℕ → List ℕ → List ℕ
     → List ℕ → Seen F → Seen F → Beside → Beside → Type 0
-IsAnswered state is_settled sizes now nodes nodes_after others bytes out_before out_after old new
+IsAnswered state is_flushed sizes now nodes nodes_after others bytes out_before out_after old new
     before after =
-    IsAnsweredOf state is_settled sizes now nodes nodes_after others (header_in bytes)
+    IsAnsweredOf state is_flushed sizes now nodes nodes_after others (header_in bytes)
     (said bytes) out_before out_after old new before after

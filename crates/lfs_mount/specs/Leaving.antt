@@ -32,8 +32,8 @@ use Rattle.lfs_stamps.specs.declared.stamps.Stamps.{Stamps}
 use Rattle.lfs_mount.specs.Handled.{hangs_in}
 use Rattle.lfs_opens.specs.Rewritten.{bytes_kept}
 use Rattle.lfs_opens.specs.declared.kept.Kept.{Kept}
-use Rattle.lfs_opens.specs.declared.kept.Lack.{Lack}
-use Rattle.lfs_opens.specs.declared.kept.Lack.TheVariants as lack
+use Rattle.lfs_opens.specs.declared.kept.KeepingFault.{KeepingFault}
+use Rattle.lfs_opens.specs.declared.kept.KeepingFault.TheVariants as lack
 use Rattle.lfs_opens.specs.declared.kept.OpenFile.{OpenFile}
 use Rattle.lfs_mount.specs.declared.sight.Sight.{Sight}
 use Rattle.lfs_opens.specs.Opens.{kept_by, node_of, opener_of, with_seen}
@@ -117,14 +117,14 @@ pub record IsSeenSo {F : Type 0} (state : F → StoreState) (old : Seen F) (sigh
   pub attr : kept.attr ≡ sight.attr
 
 -- An answer of a look from which no bytes come: the call was denied, or memory was wanting.
-abbrev pub IsAnswerOf : Lack → Answer → Type 0
+abbrev pub IsAnswerOf : KeepingFault → Answer → Type 0
 IsAnswerOf lack.Denied (answers.Denied denial) = ⊤
 IsAnswerOf lack.Memory answer = ⊤
 IsAnswerOf why answer = ⊥
 
 -- Why somebody sees nothing of the file of a path: the rules don't let him read it now, it has more bytes than there is
 -- room for, or memory is wanting.
-abbrev pub IsUnseen : {F : Type 0} → (F → StoreState) → Seen F → List (List ℕ) → ℕ → Caller → Lack
+abbrev pub IsUnseen : {F : Type 0} → (F → StoreState) → Seen F → List (List ℕ) → ℕ → Caller → KeepingFault
     → Type 0
 IsUnseen state old path room caller lack.Denied =
     AtPresent state old (λ w. decide w caller (Read path 0 0) ≢ None)
@@ -150,20 +150,20 @@ IsAbsent state nodes old node =
 
 -- where a node's file is to be looked at, or why it can't be: the store shows none, or memory for its path is wanting
 abbrev pub IsSightOr : {F : Type 0} → (F → StoreState) → List Stamps → Parts → Seen F → ℕ
-    → Result Sight Lack → Type 0
+    → Result Sight KeepingFault → Type 0
 IsSightOr state times nodes old node (Ok sight) = IsSight state times nodes old node sight
 IsSightOr state times nodes old node (Err lack.Absent) = IsAbsent state nodes old node
 IsSightOr state times nodes old node (Err lack.Memory) = ⊤
 IsSightOr state times nodes old node (Err why) = ⊥
 
 -- what somebody sees of a file there, or why he sees nothing of it
-abbrev pub IsSeenIn : {F : Type 0} → (F → StoreState) → Seen F → Result Sight Lack → Caller → Kept
+abbrev pub IsSeenIn : {F : Type 0} → (F → StoreState) → Seen F → Result Sight KeepingFault → Caller → Kept
     → Type 0
 IsSeenIn state old (Ok sight) caller kept = IsSeenSo state old sight caller kept
 IsSeenIn state old (Err lacking) caller kept = ⊥
 
-abbrev pub IsUnseenIn : {F : Type 0} → (F → StoreState) → Seen F → Result Sight Lack → ℕ → Caller
-    → Lack
+abbrev pub IsUnseenIn : {F : Type 0} → (F → StoreState) → Seen F → Result Sight KeepingFault → ℕ → Caller
+    → KeepingFault
     → Type 0
 IsUnseenIn state old (Ok sight) room caller why = IsUnseen state old sight.path room caller why
 IsUnseenIn state old (Err lacking) room caller why = why ≡ lacking
@@ -179,14 +179,14 @@ pub record IsLastLook {F : Type 0} (state : F → StoreState) (times : List Stam
 -- a path leads to a node, and somebody sees nothing of its file
 pub record IsMiss {F : Type 0} (state : F → StoreState) (nodes : Parts) (old : Seen F)
     (node room : ℕ)
-    (caller : Caller) (why : Lack) : Type 0 where
+    (caller : Caller) (why : KeepingFault) : Type 0 where
   pub path : List (List ℕ)
   pub leads : IsPathOf (hangs_in nodes) node None path
   pub lacks : IsUnseen state old path room caller why
 
 -- Why nothing is kept of a node's file for somebody: the rules don't let him read it now, it has more bytes than there is
 -- room for, or the store shows no file of its number; or memory is wanting, which no clause sees.
-abbrev pub IsLastMiss : {F : Type 0} → (F → StoreState) → Parts → Seen F → ℕ → ℕ → Caller → Lack
+abbrev pub IsLastMiss : {F : Type 0} → (F → StoreState) → Parts → Seen F → ℕ → ℕ → Caller → KeepingFault
     → Type 0
 IsLastMiss state nodes old node room caller lack.Denied =
     IsMiss state nodes old node room caller lack.Denied
@@ -196,9 +196,9 @@ IsLastMiss state nodes old node room caller lack.Absent = IsAbsent state nodes o
 IsLastMiss state nodes old node room caller lack.Memory = ⊤
 
 -- a slot in which what was seen is kept for who opened its file, or why nothing was seen
-pub record IsKept (Looks : Kept → Type 0) (Lacks : Lack → Type 0)
+pub record IsKept (Looks : Kept → Type 0) (Lacks : KeepingFault → Type 0)
     (before after : Option OpenFile) : Type 0 where
-  pub seen : Result Kept Lack
+  pub seen : Result Kept KeepingFault
   pub is : after ≡ with_seen seen before
   pub looks : IfOk seen Looks
   pub lacks : IfErr seen Lacks
@@ -208,7 +208,7 @@ OnOpener (Some caller) Keeps Stays = Keeps caller
 OnOpener None Keeps Stays = Stays
 
 -- a slot, before and after the last look: what is kept is what who opened the file sees; other slots stay
-abbrev pub IsPrepared : (Caller → Kept → Type 0) → (Caller → Lack → Type 0) → ℕ → Option OpenFile
+abbrev pub IsPrepared : (Caller → Kept → Type 0) → (Caller → KeepingFault → Type 0) → ℕ → Option OpenFile
     → Option OpenFile → Type 0
 IsPrepared Looks Lacks node before after =
     OnOpener (opener_of before node) (λ caller. IsKept (Looks caller) (Lacks caller) before after)
@@ -220,7 +220,7 @@ pub record AreBetween (slot : ℕ) (before after between : List (Option OpenFile
   pub rest : (s : ℕ) → slot ≤ s → slice_index_or between s None ≡ slice_index_or before s None
 
 -- a slot so, for which there was the room that what is kept then leaves of 33,554,432 bytes
-pub record IsLookedFor (Looks : Caller → Kept → Type 0) (Lacks : ℕ → Caller → Lack → Type 0)
+pub record IsLookedFor (Looks : Caller → Kept → Type 0) (Lacks : ℕ → Caller → KeepingFault → Type 0)
     (node slot : ℕ) (before after : List (Option OpenFile)) : Type 0 where
   pub between : List (Option OpenFile)
   pub at : AreBetween slot before after between
@@ -228,13 +228,13 @@ pub record IsLookedFor (Looks : Caller → Kept → Type 0) (Lacks : ℕ → Cal
       (slice_index_or before slot None) (slice_index_or after slot None)
 
 -- each slot so
-abbrev pub ArePrepared : (Caller → Kept → Type 0) → (ℕ → Caller → Lack → Type 0) → ℕ
+abbrev pub ArePrepared : (Caller → Kept → Type 0) → (ℕ → Caller → KeepingFault → Type 0) → ℕ
     → List (Option OpenFile) → List (Option OpenFile) → Type 0
 ArePrepared Looks Lacks node before after =
     (slot : ℕ) → IsLookedFor Looks Lacks node slot before after
 
 -- the same where a node is looked at; else nothing changes
-abbrev pub ArePreparedFor : (ℕ → Caller → Kept → Type 0) → (ℕ → ℕ → Caller → Lack → Type 0)
+abbrev pub ArePreparedFor : (ℕ → Caller → Kept → Type 0) → (ℕ → ℕ → Caller → KeepingFault → Type 0)
     → Option ℕ → List (Option OpenFile) → List (Option OpenFile) → Type 0
 ArePreparedFor Looks Lacks None before after = after ≡ before
 ArePreparedFor Looks Lacks (Some node) before after =

@@ -41,10 +41,10 @@ OnAny (answer ∷ answers) P = P
 -- The calls that were made of those that were asked for: as many as have answers, all as one caller, each answered as a
 -- call of the volume is, on the store that the one before it left, and each entered, for which the journal had room, and
 -- which stays a legal run; up to the first that isn't served in full.
-pub record AreMade {F : Type 0} (state : F → StoreState) (is_settled : F → Type 0) (caller : Caller)
+pub record AreMade {F : Type 0} (state : F → StoreState) (is_flushed : F → Type 0) (caller : Caller)
     (requests : List Request) (answers : List Answer) (old new : Seen F) : Type 0 where
   pub each : Since (state old.since) old.since_level
-      (λ from. AreAnswers state is_settled old.limit from old.journal old.store
+      (λ from. AreAnswers state is_flushed old.limit from old.journal old.store
       (calls_as caller (take (length answers) requests)) answers new.store)
   pub entered : new.journal ≡ old.journal ++ kept (calls_as caller (take (length answers) requests))
       answers

@@ -29,13 +29,13 @@ StayTrue state old before new after = AreTrue state old before → AreTrue state
 
 -- The calls that a message asks for were made, of a path that leads to its node's row, or to the name that it tells
 -- there, in each tree that nodes are true of.
-pub record AreLedAndMade {F : Type 0} (state : F → StoreState) (is_settled : F → Type 0)
+pub record AreLedAndMade {F : Type 0} (state : F → StoreState) (is_flushed : F → Type 0)
     (caller : Caller)
     (nodes : Parts) (node : ℕ) (message : Said) (answers : List Answer)
     (old new : Seen F) : Type 0 where
   pub path : List (List ℕ)
   pub leads : LeadsToRow (known nodes) node (named_in message) path
-  pub made : AreMade state is_settled caller (asked message path) answers old new
+  pub made : AreMade state is_flushed caller (asked message path) answers old new
 
 -- ---- behind calls that were served
 

@@ -35,10 +35,10 @@ use lfs_fuse_wire::attributes::Time;
 use lfs_fuse_wire::header::Header;
 use lfs_fuse_wire::message::Message;
 use lfs_nodes::NodeId;
+use lfs_opens::head::Head;
 use lfs_opens::loans::with_handle;
 use lfs_opens::rewriting::{MAX_WRITE, new_size};
 use lfs_stamps::change::{change_of, other_node};
-use lfs_types::cred::Cred;
 use lfs_types::store::FileStore;
 use std::alloc::{AllocError, Global};
 
@@ -69,26 +69,22 @@ fn part_told(alloc: Global, bytes: &[u8], offset: u64, size: u32) -> Told
 impl<F: FileStore + Drop> Mount<F> {
     /// What is told of a file that was removed while it was open, where that answers a message,
     /// which may change what is kept of the file.
-    fn kept_told(
-        &mut self,
-        alloc: Global,
-        now: Time,
-        node: u64,
-        message: &Message<'_>,
-        cred: &Cred,
-    ) -> Option<Told>
+    fn kept_told(&mut self, alloc: Global, head: &Head, message: &Message<'_>) -> Option<Told>
         ensures told { OnKept (kept_for self.old.tree.nodes (view message.now)
-            self.old.beside.opens.files.items node cred.now)
-            (λ kept. IsSomeAnd result (λ told. IsToldKept now cred.now node (view message.now) told
+            self.old.beside.opens.files.items head.now.node head.now.cred)
+            (λ kept. IsSomeAnd result (λ told. IsToldKept head.now.time head.now.cred head.now.node
+            (view message.now) told
             self.old.tree.volume self.new.tree.volume self.old.beside self.new.beside kept))
             (result ≡ None) }
         ensures none { result ≡ None → self.new ≡ self.old }
         ensures plain { IsSome result → ForgetsNothing (view message.now) }
-        ensures behind { IfSome result (λ told. NodesBehind (view message.now) node told
+        ensures behind { IfSome result (λ told. NodesBehind (view message.now) head.now.node told
             self.old.tree.nodes self.new.tree.nodes) }
         ensures tree { self.new.tree ≡ self.old.tree }
         ensures sizes { self.new.sizes ≡ self.old.sizes }
     {
+        let node = head.node;
+        let cred = &head.cred;
         if !self.tree.nodes.is_gone(NodeId(node)) {
             return None;
         }
@@ -104,18 +100,14 @@ impl<F: FileStore + Drop> Mount<F> {
             Message::Write(fields, bytes) => {
                 let kept = self.beside.opens.to_write(fields.handle, node, cred)?;
                 let size = kept.bytes.len() as u64;
-                Some(
-                    self.beside
-                        .opens
-                        .write(now, node, fields, bytes, cred, size),
-                )
+                Some(self.beside.opens.write(head, fields, bytes, size))
             }
             Message::SetAttr(fields) => {
                 new_size(fields)?;
                 let kept = self.beside.opens.to_cut(node, cred)?;
                 let attr = kept.attr;
                 let size = kept.bytes.len() as u64;
-                Some(self.beside.opens.cut(now, node, fields, cred, attr, size))
+                Some(self.beside.opens.cut(head, fields, attr, size))
             }
             _ => None,
         }
@@ -124,75 +116,53 @@ impl<F: FileStore + Drop> Mount<F> {
     #[tactic(auto, using(crate::proofs::KeptLemmas::told_kept, crate::proofs::KeptLemmas::told_dated))]
     /// What a message comes to, which comes now: what is kept of a file that was removed, or its
     /// calls.
-    fn told(
-        &mut self,
-        alloc: Global,
-        now: Time,
-        node: u64,
-        message: &Message<'_>,
-        cred: &Cred,
-    ) -> Told
-        ensures told { IsToldKeptOrDated F.state F.is_settled self.old.sizes now cred.now
-            self.old.tree.nodes self.new.tree.nodes node
+    fn told(&mut self, alloc: Global, head: &Head, message: &Message<'_>) -> Told
+        ensures told { IsToldKeptOrDated F.state F.is_flushed self.old.sizes
+            head.now.time head.now.cred self.old.tree.nodes self.new.tree.nodes head.now.node
             (view message.now) result self.old.tree.volume self.new.tree.volume
             self.old.beside self.new.beside }
-        ensures forgets { IsForgetting (view message.now) node
+        ensures forgets { IsForgetting (view message.now) head.now.node
             self.old.tree.nodes self.new.tree.nodes }
-        ensures behind { NodesBehind (view message.now) node result
+        ensures behind { NodesBehind (view message.now) head.now.node result
             self.old.tree.nodes self.new.tree.nodes }
         ensures stay { StayTrue F.state self.old.tree.volume self.old.tree.nodes
             self.new.tree.volume self.new.tree.nodes }
         ensures ids { IdsStay self.old.tree.nodes self.new.tree.nodes }
         ensures sizes { self.new.sizes ≡ self.old.sizes }
     {
-        match self.kept_told(alloc, now, node, message, cred) {
+        match self.kept_told(alloc, head, message) {
             Some(told) => told,
-            None => self.called(alloc, now, node, message, cred),
+            None => self.called(alloc, head, message),
         }
     }
 
     /// What the calls of a message come to, which comes now: what it changed has the present time,
     /// and attributes are told with their times. Of a file that it removes, and that is open, the
     /// bytes are kept.
-    fn called(
-        &mut self,
-        alloc: Global,
-        now: Time,
-        node: u64,
-        message: &Message<'_>,
-        cred: &Cred,
-    ) -> Told
-        ensures told { IsToldDated F.state F.is_settled self.old.sizes now cred.now
-            self.old.tree.nodes self.new.tree.nodes node
+    fn called(&mut self, alloc: Global, head: &Head, message: &Message<'_>) -> Told
+        ensures told { IsToldDated F.state F.is_flushed self.old.sizes
+            head.now.time head.now.cred self.old.tree.nodes self.new.tree.nodes head.now.node
             (view message.now) result self.old.tree.volume self.new.tree.volume
             self.old.beside self.new.beside }
-        ensures forgets { IsForgetting (view message.now) node
+        ensures forgets { IsForgetting (view message.now) head.now.node
             self.old.tree.nodes self.new.tree.nodes }
-        ensures behind { NodesBehind (view message.now) node result
+        ensures behind { NodesBehind (view message.now) head.now.node result
             self.old.tree.nodes self.new.tree.nodes }
         ensures stay { StayTrue F.state self.old.tree.volume self.old.tree.nodes
             self.new.tree.volume self.new.tree.nodes }
         ensures ids { IdsStay self.old.tree.nodes self.new.tree.nodes }
         ensures sizes { self.new.sizes ≡ self.old.sizes }
     {
-        let row = self.tree.nodes.row(NodeId(node));
+        let row = self.tree.nodes.row(NodeId(head.node));
         let other = self.tree.nodes.row(NodeId(other_node(message)));
-        let live = self.live_row(node);
+        let live = self.live_row(head.node);
         let due = self.beside.loans.due(message, live);
-        let left = self.prepare(alloc, node, message);
-        let told = self.tree.told(
-            alloc,
-            &mut self.beside.listings,
-            self.sizes,
-            due,
-            node,
-            message,
-            cred,
-        );
+        let left = self.prepare(alloc, head.node, message);
+        let told = self.handled(alloc, head, message, due);
         let change = change_of(message, &told);
         self.beside.loans.note(message, &told);
-        let slot = self.beside.opens.note(message, node, &told, cred, left);
-        self.beside.times.stamp(now, row, other, &change);
+        let slot = self.beside.opens.note(head, message, &told, left);
+        self.beside.times.stamp(head.time, row, other, &change);
         self.beside.times.dated(with_handle(slot, message, told))
     }
 
@@ -209,21 +179,14 @@ impl<F: FileStore + Drop> Mount<F> {
 
     /// What the bytes of a message come to, and whether a reply is wanted: an error where they are
     /// no message.
-    fn heard(
-        &mut self,
-        alloc: Global,
-        now: Time,
-        header: &Header,
-        bytes: &[u8],
-        cred: &Cred,
-    ) -> (Told, bool)
-        ensures heard { IsHeard F.state F.is_settled self.old.sizes now cred.now self.old.tree.nodes
-            self.new.tree.nodes header.now.node (said bytes.now) result.0 result.1
+    fn heard(&mut self, alloc: Global, head: &Head, bytes: &[u8]) -> (Told, bool)
+        ensures heard { IsHeard F.state F.is_flushed self.old.sizes head.now.time head.now.cred
+            self.old.tree.nodes self.new.tree.nodes head.now.node (said bytes.now) result.0 result.1
             self.old.tree.volume self.new.tree.volume
             self.old.beside self.new.beside }
-        ensures forgets { IsForgettingOf (said bytes.now) header.now.node
+        ensures forgets { IsForgettingOf (said bytes.now) head.now.node
             self.old.tree.nodes self.new.tree.nodes }
-        ensures behind { NodesBehindOf (said bytes.now) header.now.node result.0
+        ensures behind { NodesBehindOf (said bytes.now) head.now.node result.0
             self.old.tree.nodes self.new.tree.nodes }
         ensures stay { StayTrue F.state self.old.tree.volume self.old.tree.nodes
             self.new.tree.volume self.new.tree.nodes }
@@ -232,7 +195,7 @@ impl<F: FileStore + Drop> Mount<F> {
     {
         match Message::decode(bytes) {
             Ok(message) => {
-                let told = self.told(alloc, now, header.node, &message, cred);
+                let told = self.told(alloc, head, &message);
                 (told, message.has_reply())
             }
             Err(_) => (Told::Error(Errno::EINVAL), true),
@@ -257,7 +220,7 @@ impl<F: FileStore + Drop> Mount<F> {
         others: &[u32],
         out: &mut Vec<u8>,
     ) -> Result<(), AllocError>
-        ensures answered { OnOk result (IsAnswered F.state F.is_settled self.old.sizes now
+        ensures answered { OnOk result (IsAnswered F.state F.is_flushed self.old.sizes now
             self.old.tree.nodes self.new.tree.nodes
             others.now bytes.now out.old.items out.new.items self.old.tree.volume
             self.new.tree.volume
@@ -276,7 +239,12 @@ impl<F: FileStore + Drop> Mount<F> {
             return Ok(());
         };
         let cred = caller(&header, others);
-        let (told, is_wanted) = self.heard(alloc, now, &header, bytes, &cred);
+        let head = Head {
+            time: now,
+            node: header.node,
+            cred,
+        };
+        let (told, is_wanted) = self.heard(alloc, &head, bytes);
         append_if(is_wanted, &told, out, header.unique)?;
         Ok(())
     }

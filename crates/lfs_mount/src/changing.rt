@@ -1,8 +1,8 @@
 //! Messages whose calls depend on what a first call shows, and those that speak of two names or of
 //! none.
 
-ghost use Rattle.std.specs.Prelude.{◌≡◌, ◌∷◌, [], ◌<◌, Some, IfOk, IfErr, IsSome};
-ghost use Rattle.lfs_fuse_calls.specs.Paths.{IsPathError, LeadsToRow};
+ghost use Rattle.std.specs.Prelude.{◌≡◌, ◌∷◌, [], ◌<◌, ◌⊎◌, Some, IfOk, IfErr, IsSome};
+ghost use Rattle.lfs_fuse_calls.specs.Paths.{LacksName, LeadsToRow};
 ghost use Rattle.lfs_fuse_calls.specs.Telling.{SaysOr, attr_told, refusal_in, seen_in};
 ghost use Rattle.lfs_nodes.specs.Maps.{node_at, room_in};
 ghost use Rattle.lfs_nodes.specs.Nodes.{known, place_at};
@@ -19,6 +19,7 @@ ghost use Rattle.lfs_mount.specs.Handled.{
   IsSetJudged,
   IsSynced,
   SaysDone,
+  WantsMemory,
   hangs_in,
 };
 ghost use Rattle.lfs_mount.specs.Making.{AreMade};
@@ -26,7 +27,7 @@ ghost use Rattle.lfs_mount.specs.Moving.{MovesIfDone};
 ghost use Rattle.lfs_mount.specs.Trees.{MovesRow, StayTrue, UnlessRefused};
 
 use crate::making::make;
-use crate::tree::Tree;
+use crate::node_tree::NodeTree;
 use lfs_fuse_calls::asked::asked_to_set;
 use lfs_fuse_calls::paths::{name_of, path_of};
 use lfs_fuse_calls::telling::{attr_told, refusal_in, seen_in};
@@ -34,13 +35,13 @@ use lfs_fuse_calls::told::Told;
 use lfs_fuse_reply::errno::Errno;
 use lfs_fuse_wire::attributes::SetAttr;
 use lfs_fuse_wire::message::Message;
-use lfs_nodes::NodeId;
+use lfs_nodes::{NodeId, Renaming};
+use lfs_opens::head::Head;
 use lfs_stamps::leave::dating_refusal;
 use lfs_types::answer::Answer;
 use lfs_types::attrs::Attrs;
 use lfs_types::cred::Cred;
 use lfs_types::mode::Mode;
-use lfs_types::name::Name;
 use lfs_types::path::Path;
 use lfs_types::request::Request;
 use lfs_types::store::FileStore;
@@ -75,26 +76,48 @@ pub(crate) struct Spot<'m> {
     pub(crate) name: &'m [u8],
 }
 
-/// The names of a Rename: the old one, and the new one twice, as the nodes want it.
-#[derive(Drop)]
-struct RenameNames {
-    name: Name,
-    new_name: Name,
-    copy: Name,
-    ghost same: { copy ≡ new_name },
+impl<'m> Spot<'m> {
+    /// This name in the directory of this node.
+    pub(crate) fn of(node: u64, name: &'m [u8]) -> Spot<'m>
+        ensures node { result.node ≡ node }
+        ensures name { result.name.now ≡ name.now }
+    {
+        Spot { node, name }
+    }
 }
 
-/// The names that these bytes are.
-fn names_of(alloc: Global, from: &Spot<'_>, to: &Spot<'_>) -> Result<RenameNames, Errno>
-    ensures name { IfOk result (λ names. names.name ≡ from.now.name.now) }
-    ensures new_name { IfOk result (λ names. names.new_name ≡ to.now.name.now) }
-    ensures error { IfErr result IsPathError }
+/// The old name of what a Rename moves, and the new one.
+#[derive(Clone, Copy)]
+pub(crate) struct Spots<'m> {
+    /// The old one.
+    pub(crate) from: Spot<'m>,
+    /// The new one.
+    pub(crate) to: Spot<'m>,
+}
+
+/// The paths of these names.
+#[derive(Drop)]
+struct RenamePaths {
+    from: Path,
+    to: Path,
+}
+
+/// What a Rename of these names does to nodes.
+fn renaming_of(alloc: Global, spots: &Spots<'_>) -> Result<Renaming, Errno>
+    ensures from { IfOk result (λ renaming. renaming.from.0 ≡ spots.now.from.node) }
+    ensures name { IfOk result (λ renaming. renaming.name ≡ spots.now.from.name.now) }
+    ensures to { IfOk result (λ renaming. renaming.to.0 ≡ spots.now.to.node) }
+    ensures new_name { IfOk result (λ renaming. renaming.new_name ≡ spots.now.to.name.now) }
+    ensures lacks { IfErr result (λ error. LacksName (Some spots.now.from.name.now) error
+        ⊎ LacksName (Some spots.now.to.name.now) error) }
 {
-    let name = name_of(alloc, from.name)?;
-    let new_name = name_of(alloc, to.name)?;
-    let copy = name_of(alloc, to.name)?;
-    Ok(RenameNames {
+    let name = name_of(alloc, spots.from.name)?;
+    let new_name = name_of(alloc, spots.to.name)?;
+    let copy = name_of(alloc, spots.to.name)?;
+    Ok(Renaming {
+        from: NodeId(spots.from.node),
         name,
+        to: NodeId(spots.to.node),
         new_name,
         copy,
     })
@@ -107,7 +130,7 @@ fn is_missing(errno: Errno) -> bool
     matches!(errno, Errno::ENOENT)
 }
 
-impl<F: FileStore + Drop> Tree<F> {
+impl<F: FileStore + Drop> NodeTree<F> {
     /// Makes one call, and gives its answer, in a list; an error where there is no memory for that.
     pub(crate) fn one(
         &mut self,
@@ -115,11 +138,11 @@ impl<F: FileStore + Drop> Tree<F> {
         cred: &Cred,
         request: Request,
     ) -> Result<Vec<Answer>, Errno>
-        ensures made { IfOk result (λ answers. AreMade F.state F.is_settled cred.now
+        ensures made { IfOk result (λ answers. AreMade F.state F.is_flushed cred.now
             (request ∷ []) answers.items
             self.old.volume self.new.volume) }
         ensures none { IfErr result (λ _. self.new.volume ≡ self.old.volume) }
-        ensures error { IfErr result IsPathError }
+        ensures error { IfErr result WantsMemory }
         ensures nodes { self.new.nodes ≡ self.old.nodes }
     {
         let mut requests = Vec::new(alloc);
@@ -134,7 +157,7 @@ impl<F: FileStore + Drop> Tree<F> {
 
     /// Writes what waits to be written.
     pub(crate) fn synced(&mut self, alloc: Global, cred: &Cred) -> Told
-        ensures told { IsSynced F.state F.is_settled cred.now result self.old.volume
+        ensures told { IsSynced F.state F.is_flushed cred.now result self.old.volume
             self.new.volume }
         ensures nodes { self.new.nodes ≡ self.old.nodes }
     {
@@ -145,26 +168,20 @@ impl<F: FileStore + Drop> Tree<F> {
     }
 
     /// Sets attributes that are these at present, and shows them.
-    fn set(
-        &mut self,
-        alloc: Global,
-        node: u64,
-        fields: &SetAttr,
-        present: &Attrs,
-        cred: &Cred,
-    ) -> Told
-        ensures told { IsSet F.state F.is_settled cred.now (hangs_in self.old.nodes) node fields.now
+    fn set(&mut self, alloc: Global, head: &Head, fields: &SetAttr, present: &Attrs) -> Told
+        ensures told { IsSet F.state F.is_flushed head.now.cred
+            (hangs_in self.old.nodes) head.now.node fields.now
             result self.old.volume self.new.volume present.now }
         ensures nodes { self.new.nodes ≡ self.old.nodes }
     {
-        let path = match path_of(alloc, &self.nodes, node, None) {
+        let path = match path_of(alloc, &self.nodes, head.node, None) {
             Ok(path) => path,
             Err(errno) => return Told::Error(errno),
         };
         let Ok(requests) = asked_to_set(alloc, fields, present, &path) else {
             return Told::Error(Errno::ENOMEM);
         };
-        match make(alloc, &mut self.volume, cred, requests) {
+        match make(alloc, &mut self.volume, &head.cred, requests) {
             Some(answers) => set_told(answers.as_slice()),
             None => Told::Error(Errno::ENOMEM),
         }
@@ -172,40 +189,27 @@ impl<F: FileStore + Drop> Tree<F> {
 
     /// Sets attributes that are these at present, where the caller may set the times that are set
     /// with them.
-    fn set_judged(
-        &mut self,
-        alloc: Global,
-        node: u64,
-        fields: &SetAttr,
-        present: &Attrs,
-        cred: &Cred,
-    ) -> Told
-        ensures told { IsSetJudged F.state F.is_settled cred.now
-            (hangs_in self.old.nodes) node fields.now
+    fn set_judged(&mut self, alloc: Global, head: &Head, fields: &SetAttr, present: &Attrs) -> Told
+        ensures told { IsSetJudged F.state F.is_flushed head.now.cred
+            (hangs_in self.old.nodes) head.now.node fields.now
             result self.old.volume self.new.volume present.now }
         ensures nodes { self.new.nodes ≡ self.old.nodes }
     {
-        match dating_refusal(cred, fields, present) {
+        match dating_refusal(&head.cred, fields, present) {
             Some(errno) => Told::Error(errno),
-            None => self.set(alloc, node, fields, present, cred),
+            None => self.set(alloc, head, fields, present),
         }
     }
 
     /// Sets attributes, behind a look at those that there are.
-    pub(crate) fn set_attr(
-        &mut self,
-        alloc: Global,
-        node: u64,
-        fields: &SetAttr,
-        cred: &Cred,
-    ) -> Told
-        ensures told { IsSetAttr F.state F.is_settled cred.now
-            (hangs_in self.old.nodes) node fields.now
+    pub(crate) fn set_attr(&mut self, alloc: Global, head: &Head, fields: &SetAttr) -> Told
+        ensures told { IsSetAttr F.state F.is_flushed head.now.cred
+            (hangs_in self.old.nodes) head.now.node fields.now
             result self.old.volume self.new.volume }
         ensures nodes { self.new.nodes ≡ self.old.nodes }
     {
         let message = Message::SetAttr(*fields);
-        let answers = match self.calls(alloc, node, &message, cred) {
+        let answers = match self.calls(alloc, head, &message) {
             Ok(answers) => answers,
             Err(errno) => return Told::Error(errno),
         };
@@ -213,51 +217,46 @@ impl<F: FileStore + Drop> Tree<F> {
             return Told::Error(errno);
         }
         match seen_in(answers.as_slice()) {
-            Some(seen) => self.set_judged(alloc, node, fields, &seen.attrs, cred),
+            Some(seen) => self.set_judged(alloc, head, fields, &seen.attrs),
             None => Told::Error(Errno::EIO),
         }
     }
 
     /// Gives a node's file a mode, where it has a path and there is memory for that.
-    fn give(&mut self, alloc: Global, node: u64, mode: Mode, cred: &Cred)
-        ensures given { IsGivenOrNot F.state F.is_settled cred.now
-            (hangs_in self.old.nodes) node mode
+    fn give(&mut self, alloc: Global, head: &Head, mode: Mode)
+        ensures given { IsGivenOrNot F.state F.is_flushed head.now.cred
+            (hangs_in self.old.nodes) head.now.node mode
             self.old.volume self.new.volume }
         ensures nodes { self.new.nodes ≡ self.old.nodes }
     {
-        let Ok(path) = path_of(alloc, &self.nodes, node, None) else {
+        let Ok(path) = path_of(alloc, &self.nodes, head.node, None) else {
             return;
         };
-        let _ = self.one(alloc, cred, Request::Chmod { path, mode });
+        let _ = self.one(alloc, &head.cred, Request::Chmod { path, mode });
     }
 
     /// A file is closed, and gets the mode that is due then, if there is one.
-    pub(crate) fn released(
-        &mut self,
-        alloc: Global,
-        node: u64,
-        due: Option<Mode>,
-        cred: &Cred,
-    ) -> Told
-        ensures told { IsReleased F.state F.is_settled cred.now (hangs_in self.old.nodes) node due
+    pub(crate) fn released(&mut self, alloc: Global, head: &Head, due: Option<Mode>) -> Told
+        ensures told { IsReleased F.state F.is_flushed head.now.cred
+            (hangs_in self.old.nodes) head.now.node due
             result self.old.volume self.new.volume }
         ensures nodes { self.new.nodes ≡ self.old.nodes }
     {
         if let Some(mode) = due {
-            self.give(alloc, node, mode, cred);
+            self.give(alloc, head, mode);
         }
         Told::Done
     }
 
     /// Moves the node of what was renamed, where that was served.
-    fn moved(&mut self, from: u64, to: u64, names: RenameNames, answers: &[Answer]) -> Told
+    fn moved(&mut self, renaming: Renaming, answers: &[Answer]) -> Told
         requires { 0 < room_in self.old.nodes.index }
         ensures says { SaysDone result answers.now }
         ensures nodes { UnlessRefused (refusal_in answers.now)
-            (MovesRow from names.name to names.new_name self.old.nodes self.new.nodes)
-            self.old.nodes self.new.nodes }
-        ensures moves { IsSome (node_at self.old.nodes.table to) → MovesIfDone result
-            (place_at from names.name) (place_at to names.new_name)
+            (MovesRow renaming.from.0 renaming.name renaming.to.0 renaming.new_name
+            self.old.nodes self.new.nodes) self.old.nodes self.new.nodes }
+        ensures moves { IsSome (node_at self.old.nodes.table renaming.to.0) → MovesIfDone result
+            (place_at renaming.from.0 renaming.name) (place_at renaming.to.0 renaming.new_name)
             self.old.nodes self.new.nodes }
         ensures ids { IdsStay self.old.nodes self.new.nodes }
         ensures volume { self.new.volume ≡ self.old.volume }
@@ -265,13 +264,7 @@ impl<F: FileStore + Drop> Tree<F> {
         if let Some(errno) = refusal_in(answers) {
             return Told::Error(errno);
         }
-        let RenameNames {
-            name,
-            new_name,
-            copy,
-        } = names;
-        self.nodes
-            .moved(NodeId(from), name, NodeId(to), new_name, copy);
+        self.nodes.moved(renaming);
         Told::Done
     }
 
@@ -279,83 +272,71 @@ impl<F: FileStore + Drop> Tree<F> {
     fn rename_paths(
         &mut self,
         alloc: Global,
-        spots: (u64, u64),
-        names: RenameNames,
-        paths: (Path, Path),
+        renaming: Renaming,
+        paths: RenamePaths,
         cred: &Cred,
     ) -> Told
-        ensures told { IsDone F.state F.is_settled cred.now (Request.Rename paths.0 paths.1)
+        ensures told { IsDone F.state F.is_flushed cred.now (Request.Rename paths.from paths.to)
             result self.old.volume self.new.volume }
-        ensures stay { LeadsToRow (known self.old.nodes) spots.0 (Some names.name) paths.0
-            → LeadsToRow (known self.old.nodes) spots.1 (Some names.new_name) paths.1
+        ensures stay { LeadsToRow (known self.old.nodes) renaming.from.0 (Some renaming.name)
+            paths.from
+            → LeadsToRow (known self.old.nodes) renaming.to.0 (Some renaming.new_name) paths.to
             → StayTrue F.state self.old.volume self.old.nodes self.new.volume self.new.nodes }
-        ensures moves { IsSome (node_at self.old.nodes.table spots.1) → MovesIfDone result
-            (place_at spots.0 names.name) (place_at spots.1 names.new_name)
+        ensures moves { IsSome (node_at self.old.nodes.table renaming.to.0) → MovesIfDone result
+            (place_at renaming.from.0 renaming.name) (place_at renaming.to.0 renaming.new_name)
             self.old.nodes self.new.nodes }
         ensures ids { IdsStay self.old.nodes self.new.nodes }
     {
         if self.nodes.make_room().is_err() {
             return Told::Error(Errno::ENOMEM);
         }
-        let (from, to) = paths;
+        let RenamePaths { from, to } = paths;
         match self.one(alloc, cred, Request::Rename { from, to }) {
-            Ok(answers) => self.moved(spots.0, spots.1, names, answers.as_slice()),
+            Ok(answers) => self.moved(renaming, answers.as_slice()),
             Err(errno) => Told::Error(errno),
         }
     }
 
     /// Gives a name in a directory another place. What has that place is replaced.
-    pub(crate) fn renamed(
-        &mut self,
-        alloc: Global,
-        from: &Spot<'_>,
-        to: &Spot<'_>,
-        cred: &Cred,
-    ) -> Told
-        ensures told { IsRenamed F.state F.is_settled cred.now
-            (hangs_in self.old.nodes) from.now.node from.now.name.now
-            to.now.node to.now.name.now result self.old.volume self.new.volume }
+    pub(crate) fn renamed(&mut self, alloc: Global, spots: &Spots<'_>, cred: &Cred) -> Told
+        ensures told { IsRenamed F.state F.is_flushed cred.now
+            (hangs_in self.old.nodes) spots.now.from.node spots.now.from.name.now
+            spots.now.to.node spots.now.to.name.now result self.old.volume self.new.volume }
         ensures stay { StayTrue F.state self.old.volume self.old.nodes self.new.volume
             self.new.nodes }
         ensures moves { MovesIfDone result
-            (place_at from.now.node from.now.name.now) (place_at to.now.node to.now.name.now)
-            self.old.nodes self.new.nodes }
+            (place_at spots.now.from.node spots.now.from.name.now)
+            (place_at spots.now.to.node spots.now.to.name.now) self.old.nodes self.new.nodes }
         ensures ids { IdsStay self.old.nodes self.new.nodes }
     {
-        let names = match names_of(alloc, from, to) {
-            Ok(names) => names,
+        let renaming = match renaming_of(alloc, spots) {
+            Ok(renaming) => renaming,
             Err(errno) => return Told::Error(errno),
         };
-        let old = match path_of(alloc, &self.nodes, from.node, Some(from.name)) {
+        let from = match path_of(alloc, &self.nodes, spots.from.node, Some(spots.from.name)) {
             Ok(path) => path,
             Err(errno) => return Told::Error(errno),
         };
-        let new = match path_of(alloc, &self.nodes, to.node, Some(to.name)) {
+        let to = match path_of(alloc, &self.nodes, spots.to.node, Some(spots.to.name)) {
             Ok(path) => path,
             Err(errno) => return Told::Error(errno),
         };
-        self.rename_paths(alloc, (from.node, to.node), names, (old, new), cred)
+        self.rename_paths(alloc, renaming, RenamePaths { from, to }, cred)
     }
 
     /// The same, where the new place must be free.
-    pub(crate) fn renamed_to_free(
-        &mut self,
-        alloc: Global,
-        from: &Spot<'_>,
-        to: &Spot<'_>,
-        cred: &Cred,
-    ) -> Told
-        ensures told { IsRenamedToFree F.state F.is_settled cred.now
-            (hangs_in self.old.nodes) from.now.node from.now.name.now
-            to.now.node to.now.name.now result self.old.volume self.new.volume }
+    pub(crate) fn renamed_to_free(&mut self, alloc: Global, spots: &Spots<'_>, cred: &Cred) -> Told
+        ensures told { IsRenamedToFree F.state F.is_flushed cred.now
+            (hangs_in self.old.nodes) spots.now.from.node spots.now.from.name.now
+            spots.now.to.node spots.now.to.name.now result self.old.volume self.new.volume }
         ensures stay { StayTrue F.state self.old.volume self.old.nodes self.new.volume
             self.new.nodes }
         ensures moves { MovesIfDone result
-            (place_at from.now.node from.now.name.now) (place_at to.now.node to.now.name.now)
-            self.old.nodes self.new.nodes }
+            (place_at spots.now.from.node spots.now.from.name.now)
+            (place_at spots.now.to.node spots.now.to.name.now) self.old.nodes self.new.nodes }
         ensures ids { IdsStay self.old.nodes self.new.nodes }
     {
-        let path = match path_of(alloc, &self.nodes, to.node, Some(to.name)) {
+        let path = match path_of(alloc, &self.nodes, spots.to.node, Some(spots.to.name)) {
             Ok(path) => path,
             Err(errno) => return Told::Error(errno),
         };
@@ -367,7 +348,7 @@ impl<F: FileStore + Drop> Tree<F> {
             None => Told::Error(Errno::EEXIST),
             Some(errno) => {
                 if is_missing(errno) {
-                    self.renamed(alloc, from, to, cred)
+                    self.renamed(alloc, spots, cred)
                 } else {
                     Told::Error(errno)
                 }

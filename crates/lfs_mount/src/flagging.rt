@@ -10,15 +10,15 @@ ghost use Rattle.lfs_mount.specs.Handled.{
   hangs_in,
 };
 
-use crate::tree::Tree;
+use crate::node_tree::NodeTree;
 use lfs_fuse_calls::paths::path_of;
 use lfs_fuse_calls::telling::{refusal_in, seen_in};
 use lfs_fuse_calls::told::Told;
 use lfs_fuse_reply::errno::Errno;
 use lfs_fuse_wire::ioctl::{Command, Ioctl};
 use lfs_fuse_wire::message::Message;
+use lfs_opens::head::Head;
 use lfs_types::answer::Answer;
-use lfs_types::cred::Cred;
 use lfs_types::file_flags::{FileFlags, FlagBits};
 use lfs_types::request::Request;
 use lfs_types::store::FileStore;
@@ -85,28 +85,22 @@ fn flagged_told(answers: &[Answer]) -> Told
     }
 }
 
-impl<F: FileStore + Drop> Tree<F> {
+impl<F: FileStore + Drop> NodeTree<F> {
     /// Sets the flags of a node, which are these at present.
-    fn set_flags(
-        &mut self,
-        alloc: Global,
-        node: u64,
-        present: FileFlags,
-        bits: u32,
-        cred: &Cred,
-    ) -> Told
-        ensures told { IsFlagsSet F.state F.is_settled cred.now (hangs_in self.old.nodes) node bits
+    fn set_flags(&mut self, alloc: Global, head: &Head, present: FileFlags, bits: u32) -> Told
+        ensures told { IsFlagsSet F.state F.is_flushed head.now.cred
+            (hangs_in self.old.nodes) head.now.node bits
             result self.old.volume self.new.volume present }
         ensures nodes { self.new.nodes ≡ self.old.nodes }
     {
         let Some(flags) = flags_wanted(present, bits) else {
             return Told::Error(Errno::EOPNOTSUPP);
         };
-        let path = match path_of(alloc, &self.nodes, node, None) {
+        let path = match path_of(alloc, &self.nodes, head.node, None) {
             Ok(path) => path,
             Err(errno) => return Told::Error(errno),
         };
-        match self.one(alloc, cred, Request::Chflags { path, flags }) {
+        match self.one(alloc, &head.cred, Request::Chflags { path, flags }) {
             Ok(answers) => flagged_told(answers.as_slice()),
             Err(errno) => Told::Error(errno),
         }
@@ -116,33 +110,32 @@ impl<F: FileStore + Drop> Tree<F> {
     fn flags_told(
         &mut self,
         alloc: Global,
-        node: u64,
+        head: &Head,
         command: Command,
         present: FileFlags,
-        cred: &Cred,
     ) -> Told
-        ensures told { GoesOnFlags F.state F.is_settled cred.now
-            (hangs_in self.old.nodes) node command
+        ensures told { GoesOnFlags F.state F.is_flushed head.now.cred
+            (hangs_in self.old.nodes) head.now.node command
             result self.old.volume self.new.volume present }
         ensures nodes { self.new.nodes ≡ self.old.nodes }
     {
         match command {
             Command::GetFlags => Told::Flags(flags_shown(present, 0x10, 0x20, 0x40)),
             Command::GetExtended => Told::Extended(flags_shown(present, 0x8, 0x10, 0x80)),
-            Command::SetFlags(bits) => self.set_flags(alloc, node, present, bits, cred),
+            Command::SetFlags(bits) => self.set_flags(alloc, head, present, bits),
             Command::Other(_) => Told::Error(Errno::ENOTTY),
         }
     }
 
     /// Answers a control call, behind a look at the flags that there are.
-    pub(crate) fn flagged(&mut self, alloc: Global, node: u64, fields: &Ioctl, cred: &Cred) -> Told
-        ensures told { IsFlagged F.state F.is_settled cred.now
-            (hangs_in self.old.nodes) node fields.now
+    pub(crate) fn flagged(&mut self, alloc: Global, head: &Head, fields: &Ioctl) -> Told
+        ensures told { IsFlagged F.state F.is_flushed head.now.cred
+            (hangs_in self.old.nodes) head.now.node fields.now
             result self.old.volume self.new.volume }
         ensures nodes { self.new.nodes ≡ self.old.nodes }
     {
         let message = Message::Ioctl(*fields);
-        let answers = match self.calls(alloc, node, &message, cred) {
+        let answers = match self.calls(alloc, head, &message) {
             Ok(answers) => answers,
             Err(errno) => return Told::Error(errno),
         };
@@ -150,7 +143,7 @@ impl<F: FileStore + Drop> Tree<F> {
             return Told::Error(errno);
         }
         match seen_in(answers.as_slice()) {
-            Some(seen) => self.flags_told(alloc, node, fields.command, seen.attrs.flags, cred),
+            Some(seen) => self.flags_told(alloc, head, fields.command, seen.attrs.flags),
             None => Told::Error(Errno::EIO),
         }
     }

@@ -21,11 +21,11 @@ ghost use Rattle.lfs_mount.specs.Listing.{AreListed};
 ghost use Rattle.lfs_mount.specs.Moving.{MovesIfDone, NodesBehind, UnlessRegular};
 ghost use Rattle.lfs_mount.specs.Trees.{StayTrue};
 
-use crate::changing::Spot;
+use crate::changing::{Spot, Spots};
 use crate::listing::Listings;
-use crate::mount::Sizes;
+use crate::mount::Mount;
+use crate::node_tree::NodeTree;
 use crate::room::{init_reply, room};
-use crate::tree::Tree;
 use lfs_fuse_calls::telling::refusal_in;
 use lfs_fuse_calls::told::Told;
 use lfs_fuse_reply::errno::Errno;
@@ -36,6 +36,7 @@ use lfs_fuse_wire::message::Message;
 use lfs_fuse_wire::naming::RenameMode;
 use lfs_fuse_wire::opcode::Unserved;
 use lfs_nodes::{NodeId, Nodes};
+use lfs_opens::head::Head;
 use lfs_types::cred::Cred;
 use lfs_types::mode::Mode;
 use lfs_types::store::FileStore;
@@ -80,34 +81,41 @@ fn forget_one(nodes: &mut Nodes, one: Option<NodeForget>)
     }
 }
 
-impl<F: FileStore + Drop> Tree<F> {
+/// The kernel forgets look-ups of a node, or of the nodes of a batch.
+fn forgotten(nodes: &mut Nodes, node: u64, message: &Message<'_>)
+    ensures forgets { IsForgetting (view message.now) node nodes.old nodes.new }
+    ensures nodes { (rows : Rows) → AreNodes rows (known nodes.old)
+        → AreNodes rows (known nodes.new) }
+    ensures ids { IdsStay nodes.old nodes.new }
+{
+    match message {
+        Message::Forget(fields) => nodes.forget(NodeId(node), fields.lookups),
+        Message::BatchForget(forgets) => forget_all(nodes, forgets),
+        _ => (),
+    }
+}
+
+impl<F: FileStore + Drop> NodeTree<F> {
     /// Moves an entry, by what becomes of one that has the new name.
-    fn rename(
-        &mut self,
-        alloc: Global,
-        mode: RenameMode,
-        from: &Spot<'_>,
-        to: &Spot<'_>,
-        cred: &Cred,
-    ) -> Told
+    fn rename(&mut self, alloc: Global, mode: RenameMode, spots: &Spots<'_>, cred: &Cred) -> Told
         ensures told { IsRename mode
-            (IsRenamed F.state F.is_settled cred.now
-            (hangs_in self.old.nodes) from.now.node from.now.name.now
-            to.now.node to.now.name.now result self.old.volume self.new.volume)
-            (IsRenamedToFree F.state F.is_settled cred.now
-            (hangs_in self.old.nodes) from.now.node from.now.name.now
-            to.now.node to.now.name.now result self.old.volume self.new.volume)
+            (IsRenamed F.state F.is_flushed cred.now
+            (hangs_in self.old.nodes) spots.now.from.node spots.now.from.name.now
+            spots.now.to.node spots.now.to.name.now result self.old.volume self.new.volume)
+            (IsRenamedToFree F.state F.is_flushed cred.now
+            (hangs_in self.old.nodes) spots.now.from.node spots.now.from.name.now
+            spots.now.to.node spots.now.to.name.now result self.old.volume self.new.volume)
             result self.old.volume self.new.volume }
         ensures stay { StayTrue F.state self.old.volume self.old.nodes self.new.volume
             self.new.nodes }
         ensures moves { MovesIfDone result
-            (place_at from.now.node from.now.name.now) (place_at to.now.node to.now.name.now)
-            self.old.nodes self.new.nodes }
+            (place_at spots.now.from.node spots.now.from.name.now)
+            (place_at spots.now.to.node spots.now.to.name.now) self.old.nodes self.new.nodes }
         ensures ids { IdsStay self.old.nodes self.new.nodes }
     {
         match mode {
-            RenameMode::Replace => self.renamed(alloc, from, to, cred),
-            RenameMode::NoReplace => self.renamed_to_free(alloc, from, to, cred),
+            RenameMode::Replace => self.renamed(alloc, spots, cred),
+            RenameMode::NoReplace => self.renamed_to_free(alloc, spots, cred),
             RenameMode::Exchange | RenameMode::Other => Told::Error(Errno::EINVAL),
         }
     }
@@ -116,13 +124,12 @@ impl<F: FileStore + Drop> Tree<F> {
     fn make_node(
         &mut self,
         alloc: Global,
-        node: u64,
+        head: &Head,
         kind: Option<FileKind>,
         message: &Message<'_>,
-        cred: &Cred,
     ) -> Told
-        ensures told { IsMade kind (IsHandled F.state F.is_settled cred.now
-            self.old.nodes self.new.nodes node (view message.now)
+        ensures told { IsMade kind (IsHandled F.state F.is_flushed head.now.cred
+            self.old.nodes self.new.nodes head.now.node (view message.now)
             result self.old.volume self.new.volume) result self.old.volume self.new.volume }
         ensures stay { StayTrue F.state self.old.volume self.old.nodes self.new.volume
             self.new.nodes }
@@ -130,7 +137,7 @@ impl<F: FileStore + Drop> Tree<F> {
         ensures ids { IdsStay self.old.nodes self.new.nodes }
     {
         match kind {
-            Some(FileKind::Regular) => self.once(alloc, node, message, cred),
+            Some(FileKind::Regular) => self.once(alloc, head, message),
             Some(FileKind::Directory) | None => Told::Error(Errno::EPERM),
         }
     }
@@ -140,16 +147,16 @@ impl<F: FileStore + Drop> Tree<F> {
         &mut self,
         alloc: Global,
         listings: &mut Listings,
-        node: u64,
+        head: &Head,
         fields: &Open,
-        cred: &Cred,
     ) -> Told
-        ensures told { IsDirectoryOpened F.state F.is_settled cred.now (hangs_in self.old.nodes)
-            node fields.now listings.old listings.new result self.old.volume self.new.volume }
+        ensures told { IsDirectoryOpened F.state F.is_flushed head.now.cred
+            (hangs_in self.old.nodes) head.now.node fields.now
+            listings.old listings.new result self.old.volume self.new.volume }
         ensures nodes { self.new.nodes ≡ self.old.nodes }
     {
         let message = Message::Opendir(*fields);
-        let answers = match self.calls(alloc, node, &message, cred) {
+        let answers = match self.calls(alloc, head, &message) {
             Ok(answers) => answers,
             Err(errno) => return Told::Error(errno),
         };
@@ -158,27 +165,34 @@ impl<F: FileStore + Drop> Tree<F> {
             None => listings.open(answers),
         }
     }
+}
 
-    /// What a message comes to.
-    pub(crate) fn told(
+impl<F: FileStore + Drop> Mount<F> {
+    /// What a message comes to, at which this mode is due, if there is one.
+    pub(crate) fn handled(
         &mut self,
         alloc: Global,
-        listings: &mut Listings,
-        sizes: Sizes,
-        due: Option<Mode>,
-        node: u64,
+        head: &Head,
         message: &Message<'_>,
-        cred: &Cred,
+        due: Option<Mode>,
     ) -> Told
-        ensures told { IsTold F.state F.is_settled sizes due cred.now self.old.nodes self.new.nodes
-            listings.old listings.new node (view message.now)
-            result self.old.volume self.new.volume }
-        ensures listed { AreListed (view message.now) listings.old listings.new }
-        ensures forgets { IsForgetting (view message.now) node self.old.nodes self.new.nodes }
-        ensures behind { NodesBehind (view message.now) node result self.old.nodes self.new.nodes }
-        ensures stay { StayTrue F.state self.old.volume self.old.nodes self.new.volume
-            self.new.nodes }
-        ensures ids { IdsStay self.old.nodes self.new.nodes }
+        ensures told { IsTold F.state F.is_flushed self.old.sizes due head.now.cred
+            self.old.tree.nodes self.new.tree.nodes
+            self.old.beside.listings self.new.beside.listings head.now.node (view message.now)
+            result self.old.tree.volume self.new.tree.volume }
+        ensures listed { AreListed (view message.now)
+            self.old.beside.listings self.new.beside.listings }
+        ensures forgets { IsForgetting (view message.now) head.now.node
+            self.old.tree.nodes self.new.tree.nodes }
+        ensures behind { NodesBehind (view message.now) head.now.node result
+            self.old.tree.nodes self.new.tree.nodes }
+        ensures stay { StayTrue F.state self.old.tree.volume self.old.tree.nodes
+            self.new.tree.volume self.new.tree.nodes }
+        ensures ids { IdsStay self.old.tree.nodes self.new.tree.nodes }
+        ensures times { self.new.beside.times ≡ self.old.beside.times }
+        ensures loans { self.new.beside.loans ≡ self.old.beside.loans }
+        ensures opens { self.new.beside.opens ≡ self.old.beside.opens }
+        ensures sizes { self.new.sizes ≡ self.old.sizes }
     {
         match message {
             Message::Lookup(_)
@@ -190,40 +204,32 @@ impl<F: FileStore + Drop> Tree<F> {
             | Message::Rmdir(_)
             | Message::Open(_)
             | Message::Read(_)
-            | Message::Write(_, _) => self.once(alloc, node, message, cred),
-            Message::Opendir(fields) => {
-                self.directory_opened(alloc, listings, node, fields, cred)
-            }
-            Message::Mknod(fields, _) => self.make_node(alloc, node, fields.kind, message, cred),
-            Message::SetAttr(fields) => self.set_attr(alloc, node, fields, cred),
-            Message::Ioctl(fields) => self.flagged(alloc, node, fields, cred),
+            | Message::Write(_, _) => self.tree.once(alloc, head, message),
+            Message::Mknod(fields, _) => self.tree.make_node(alloc, head, fields.kind, message),
+            Message::SetAttr(fields) => self.tree.set_attr(alloc, head, fields),
+            Message::Ioctl(fields) => self.tree.flagged(alloc, head, fields),
             Message::Rename(fields, name, new_name) => {
-                let from = Spot { node, name };
-                let to = Spot {
-                    node: fields.directory,
-                    name: new_name,
-                };
-                self.rename(alloc, fields.mode, &from, &to, cred)
+                let from = Spot::of(head.node, name);
+                let to = Spot::of(fields.directory, new_name);
+                self.tree
+                    .rename(alloc, fields.mode, &Spots { from, to }, &head.cred)
             }
-            Message::Fsync(_) | Message::Fsyncdir(_) => self.synced(alloc, cred),
+            Message::Fsync(_) | Message::Fsyncdir(_) => self.tree.synced(alloc, &head.cred),
+            Message::Release(_) => self.tree.released(alloc, head, due),
+            Message::Opendir(fields) => {
+                let listings = &mut self.beside.listings;
+                self.tree.directory_opened(alloc, listings, head, fields)
+            }
+            Message::Readdir(wanted) => self.beside.listings.told(alloc, wanted),
+            Message::Releasedir(fields) => self.beside.listings.close(fields.handle),
+            Message::Forget(_) | Message::BatchForget(_) => {
+                forgotten(&mut self.tree.nodes, head.node, message);
+                Told::Done
+            }
             Message::Init(init) => Told::Init(init_reply(init)),
-            Message::Statfs => Told::Statfs(room(self.volume.store(), sizes)),
-            Message::Readdir(wanted) => listings.told(alloc, wanted),
+            Message::Statfs => Told::Statfs(room(self.tree.volume.store(), self.sizes)),
             Message::Readdirplus(_) | Message::Unknown(_) => Told::Error(Errno::ENOSYS),
             Message::Unserved(kind) => Told::Error(error_of_unserved(*kind)),
-            Message::Forget(fields) => {
-                self.nodes.forget(NodeId(node), fields.lookups);
-                Told::Done
-            }
-            Message::BatchForget(forgets) => {
-                forget_all(&mut self.nodes, forgets);
-                Told::Done
-            }
-            Message::Releasedir(fields) => {
-                listings.close(fields.handle);
-                Told::Done
-            }
-            Message::Release(_) => self.released(alloc, node, due, cred),
             Message::Destroy | Message::Interrupt(_) | Message::Flush(_) => Told::Done,
         }
     }

@@ -20,9 +20,9 @@ impl<F: FileStore + Drop> Mount<F> {
     ///
     /// Memory ran out for the room of a journal, which is asked for only where the journal is full.
     /// Nothing changed.
-    pub fn settle(&mut self, alloc: Global) -> Result<bool, AllocError>
-        ensures settled { IfOk result (λ done. IsTrue done
-            → F.is_settled self.new.tree.volume.store) }
+    pub fn flush(&mut self, alloc: Global) -> Result<bool, AllocError>
+        ensures flushed { IfOk result (λ done. IsTrue done
+            → F.is_flushed self.new.tree.volume.store) }
         ensures shown { AtPresent F.state self.old.tree.volume
             (Begins (F.state self.new.tree.volume.store) self.new.tree.volume.level) }
         ensures nodes { self.new.tree.nodes ≡ self.old.tree.nodes }
@@ -35,7 +35,7 @@ impl<F: FileStore + Drop> Mount<F> {
 
     /// Makes a Sync of the superuser as session 0. Whether it was served.
     fn sync(&mut self) -> bool
-        ensures settled { IsTrue result → F.is_settled self.new.tree.volume.store }
+        ensures flushed { IsTrue result → F.is_flushed self.new.tree.volume.store }
         ensures shown { AtPresent F.state self.old.tree.volume
             (Begins (F.state self.new.tree.volume.store) self.new.tree.volume.level) }
         ensures nodes { self.new.tree.nodes ≡ self.old.tree.nodes }

@@ -40,7 +40,7 @@ ghost use Rattle.lfs_mount.specs.Leaving.{
 };
 
 use crate::mount::Mount;
-use crate::sight::Sight;
+use crate::sight::{Leaving, Sight};
 use lfs_fuse_calls::attr::attr;
 use lfs_fuse_calls::paths::path_of;
 use lfs_fuse_calls::told::Told;
@@ -48,7 +48,7 @@ use lfs_fuse_reply::attr::Attr;
 use lfs_fuse_wire::message::Message;
 use lfs_fuse_wire::naming::RenameMode;
 use lfs_nodes::{NodeId, Nodes};
-use lfs_opens::kept::{Kept, Lack};
+use lfs_opens::kept::{KeepingFault, Kept};
 use lfs_opens::opens::Opens;
 use lfs_types::answer::{Answer, Served};
 use lfs_types::cred::Cred;
@@ -121,14 +121,14 @@ fn unlinked(attr: Attr) -> Attr
 }
 
 /// The bytes that an answer serves, or why it serves none.
-fn served_bytes(answer: Answer) -> Result<Bytes, Lack>
+fn served_bytes(answer: Answer) -> Result<Bytes, KeepingFault>
     ensures served { IfOk result (λ bytes. answer ≡ Answer.Served (Served.Bytes bytes)) }
     ensures lacks { IfErr result (λ why. IsAnswerOf why answer) }
 {
     match answer {
         Answer::Served(Served::Bytes(bytes)) => Ok(bytes),
-        Answer::Denied(_) => Err(Lack::Denied),
-        _ => Err(Lack::Memory),
+        Answer::Denied(_) => Err(KeepingFault::Denied),
+        _ => Err(KeepingFault::Memory),
     }
 }
 
@@ -140,7 +140,7 @@ fn piece_at<F: FileStore + Drop>(
     cred: &Cred,
     path: &Path,
     off: u64,
-) -> Result<Bytes, Lack>
+) -> Result<Bytes, KeepingFault>
     ensures bytes { IfOk result (λ bytes. AtPresent F.state volume.old
         (λ w. IsPiece w cred.now path.now off bytes)) }
     ensures lacks { IfErr result (λ why. (room : ℕ)
@@ -158,7 +158,7 @@ fn all_shown<F: FileStore + Drop>(
     cred: &Cred,
     path: &Path,
     most: usize,
-) -> Result<Vec<u8>, Lack>
+) -> Result<Vec<u8>, KeepingFault>
     ensures bytes { IfOk result (λ bytes. AtPresent F.state volume.old
         (λ w. IsReadBy w cred.now path.now bytes.items)) }
     ensures lacks { IfErr result (IsUnseen F.state volume.old path.now most cred.now) }
@@ -168,13 +168,13 @@ fn all_shown<F: FileStore + Drop>(
     while bytes.len() <= most {
         let piece = piece_at(volume, cred, path, bytes.len() as u64)?;
         if bytes.extend_from_slice(piece.as_slice()).is_err() {
-            return Err(Lack::Memory);
+            return Err(KeepingFault::Memory);
         }
         if piece.as_slice().len() < PIECE {
             return Ok(bytes);
         }
     }
-    Err(Lack::Room)
+    Err(KeepingFault::Room)
 }
 
 /// What is kept of a file for who opened it, as the file is now, or why nothing is.
@@ -182,9 +182,9 @@ fn last_look<F: FileStore + Drop>(
     alloc: Global,
     volume: &mut Volume<F>,
     cred: &Cred,
-    sight: &Result<Sight, Lack>,
+    sight: &Result<Sight, KeepingFault>,
     most: usize,
-) -> Result<Kept, Lack>
+) -> Result<Kept, KeepingFault>
     ensures kept { IfOk result (IsSeenIn F.state volume.old sight.now cred.now) }
     ensures lacks { IfErr result (IsUnseenIn F.state volume.old sight.now most cred.now) }
     ensures looked { IsLooked F.state volume.old volume.new }
@@ -209,22 +209,22 @@ fn look_for<F: FileStore + Drop>(
     volume: &mut Volume<F>,
     opens: &mut Opens,
     slot: usize,
-    node: u64,
-    sight: &Result<Sight, Lack>,
+    leaving: &Leaving,
 )
-    ensures prepared { IsPrepared (IsSeenIn F.state volume.old sight.now)
-        (IsUnseenIn F.state volume.old sight.now (33554432 - bytes_kept opens.old.files.items)) node
+    ensures prepared { IsPrepared (IsSeenIn F.state volume.old leaving.now.sight)
+        (IsUnseenIn F.state volume.old leaving.now.sight
+        (33554432 - bytes_kept opens.old.files.items)) leaving.now.node
         (slice_index_or opens.old.files.items slot None)
         (slice_index_or opens.new.files.items slot None) }
     ensures others { (s : ℕ) → s ≢ slot → slice_index_or opens.new.files.items s None
         ≡ slice_index_or opens.old.files.items s None }
     ensures looked { IsLooked F.state volume.old volume.new }
 {
-    let Some(cred) = opens.opener(slot, node) else {
+    let Some(cred) = opens.opener(slot, leaving.node) else {
         return;
     };
     let most = opens.room();
-    let seen = last_look(alloc, volume, &cred, sight, most);
+    let seen = last_look(alloc, volume, &cred, &leaving.sight, most);
     opens.keep(slot, seen);
 }
 
@@ -233,38 +233,37 @@ fn look_for_all<F: FileStore + Drop>(
     alloc: Global,
     volume: &mut Volume<F>,
     opens: &mut Opens,
-    node: u64,
-    sight: &Result<Sight, Lack>,
+    leaving: &Leaving,
 )
-    ensures prepared { ArePrepared (IsSeenIn F.state volume.old sight.now)
-        (IsUnseenIn F.state volume.old sight.now) node
+    ensures prepared { ArePrepared (IsSeenIn F.state volume.old leaving.now.sight)
+        (IsUnseenIn F.state volume.old leaving.now.sight) leaving.now.node
         opens.old.files.items opens.new.files.items }
     ensures looked { IsLooked F.state volume.old volume.new }
 {
     for slot in 0..opens.slots() {
-        look_for(alloc, volume, opens, slot, node, sight);
+        look_for(alloc, volume, opens, slot, leaving);
     }
 }
 
 impl<F: FileStore + Drop> Mount<F> {
     /// Where a node's file is to be looked at, or why it can't be.
-    fn sight(&self, alloc: Global, node: u64) -> Result<Sight, Lack>
+    fn sight(&self, alloc: Global, node: u64) -> Result<Sight, KeepingFault>
         ensures { IsSightOr F.state self.now.beside.times.stamps.items self.now.tree.nodes
             self.now.tree.volume node result }
     {
         let Ok(path) = path_of(alloc, &self.tree.nodes, node, None) else {
-            return Err(Lack::Memory);
+            return Err(KeepingFault::Memory);
         };
         let Some(number) = self.tree.nodes.row(NodeId(node)) else {
-            return Err(Lack::Absent);
+            return Err(KeepingFault::Absent);
         };
         let Some(attrs) = self.tree.volume.store().attrs(number) else {
-            return Err(Lack::Absent);
+            return Err(KeepingFault::Absent);
         };
         let told = Told::Attr(unlinked(attr(number, &attrs)));
         match self.beside.times.dated(told) {
             Told::Attr(attr) => Ok(Sight { path, attr }),
-            _ => Err(Lack::Memory),
+            _ => Err(KeepingFault::Memory),
         }
     }
 
@@ -288,13 +287,15 @@ impl<F: FileStore + Drop> Mount<F> {
         ensures sizes { self.new.sizes ≡ self.old.sizes }
     {
         let id = leaving(&self.tree.nodes, &self.beside.opens, node, message)?;
-        let sight = &self.sight(alloc, id);
+        let leaving = Leaving {
+            node: id,
+            sight: self.sight(alloc, id),
+        };
         look_for_all(
             alloc,
             &mut self.tree.volume,
             &mut self.beside.opens,
-            id,
-            sight,
+            &leaving,
         );
         Some(id)
     }

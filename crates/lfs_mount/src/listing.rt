@@ -105,10 +105,12 @@ impl Listings {
     }
 
     /// Forgets the names of a directory that is closed.
-    pub(crate) fn close(&mut self, handle: u64)
-        ensures { IsClosed handle self.old self.new }
+    pub(crate) fn close(&mut self, handle: u64) -> Told
+        ensures told { result ≡ Told.Done }
+        ensures closed { IsClosed handle self.old self.new }
     {
         let _ = self.names.remove(&handle);
+        Told::Done
     }
 
     /// The names of the directory that is open by a handle.

@@ -24,7 +24,7 @@ pub(crate) fn make<F: FileStore + Drop>(
     cred: &Cred,
     requests: Vec<Request>,
 ) -> Option<Vec<Answer>>
-    ensures made { IfSome result (λ answers. AreMade F.state F.is_settled cred.now requests.items
+    ensures made { IfSome result (λ answers. AreMade F.state F.is_flushed cred.now requests.items
         answers.items volume.old volume.new) }
     ensures none { IfNone result (volume.new ≡ volume.old) }
 {

@@ -5,7 +5,7 @@ ghost use Rattle.lfs_stamps.specs.Stamps.{born};
 ghost use Rattle.lfs_mount.specs.Trees.{AreTrue};
 
 use crate::listing::Listings;
-use crate::tree::Tree;
+use crate::node_tree::NodeTree;
 use lfs_fuse_wire::attributes::Time;
 use lfs_nodes::Nodes;
 use lfs_opens::loans::Loans;
@@ -37,7 +37,7 @@ pub struct Beside {
 /// A volume, the nodes by which the kernel calls its files, and what is kept of these beside it.
 #[derive(Drop)]
 pub struct Mount<F: FileStore + Drop> {
-    pub(crate) tree: Tree<F>,
+    pub(crate) tree: NodeTree<F>,
     pub(crate) beside: Beside,
     pub(crate) sizes: Sizes,
 }
@@ -64,7 +64,7 @@ impl<F: FileStore + Drop> Mount<F> {
             listings: Listings::new(alloc),
         };
         let nodes = Nodes::new(alloc)?;
-        let tree = Tree { volume, nodes };
+        let tree = NodeTree { volume, nodes };
         Ok(Mount {
             tree,
             beside,

@@ -15,7 +15,7 @@ ghost use Rattle.lfs_mount.specs.Entries.{
 };
 ghost use Rattle.lfs_mount.specs.Trees.{FindsRow, LosesRow};
 
-use crate::tree::Tree;
+use crate::node_tree::NodeTree;
 use lfs_fuse_calls::attr::attr;
 use lfs_fuse_calls::telling::{OPENED_FILE, Seen};
 use lfs_fuse_calls::told::Told;
@@ -38,7 +38,7 @@ fn error_of(fault: LookUpFault) -> Errno
     }
 }
 
-impl<F: FileStore + Drop> Tree<F> {
+impl<F: FileStore + Drop> NodeTree<F> {
     /// The node of what a name in a directory leads to, with the attributes that a Stat showed.
     fn entry(
         &mut self,

@@ -1,6 +1,7 @@
 //! Where a file is to be looked at, before it is removed.
 
 use lfs_fuse_reply::attr::Attr;
+use lfs_opens::kept::KeepingFault;
 use lfs_types::path::Path;
 
 /// Where the file of a node is to be looked at, and what is told of its attributes.
@@ -10,4 +11,13 @@ pub struct Sight {
     pub(crate) path: Path,
     /// Its attributes.
     pub(crate) attr: Attr,
+}
+
+/// A node that a message is about to take from its place.
+#[derive(Drop)]
+pub struct Leaving {
+    /// The node.
+    pub(crate) node: u64,
+    /// Where its file is to be looked at, or why it can't be.
+    pub(crate) sight: Result<Sight, KeepingFault>,
 }

@@ -10,8 +10,8 @@ pub loop-slot-preserved : goal.loop-slot-preserved
 loop-slot-preserved g c =
     let state = g.F.FileStore.state in
     let old = c.args.volume.now in
-    let sight = c.args.sight.now in
-    let node = c.args.node in
+    let sight = c.args.leaving.now.sight in
+    let node = c.args.leaving.now.node in
     let slot = c.loop-slot.slot in
     let before = c.args.opens.now.files.items in
     let mid = c.loop-slot.opens.files.items in
@@ -31,9 +31,9 @@ pub returns-clause-prepared : goal.returns-clause-prepared
 returns-clause-prepared g c =
     let state = g.F.FileStore.state in
     let old = c.args.volume.now in
-    let sight = c.args.sight.now in
+    let sight = c.args.leaving.now.sight in
     let before = c.args.opens.now.files.items in
     let after = c.loop-slot.opens.files.items in
     let all : length before ≤ c.loop-slot.slot = omega arith in
-    looked_for_each (IsSeenIn state old sight) (IsUnseenIn state old sight) c.args.node before c.loop-slot.slot after all
+    looked_for_each (IsSeenIn state old sight) (IsUnseenIn state old sight) c.args.leaving.now.node before c.loop-slot.slot after all
     c.loop-slot.invariant.done c.loop-slot.invariant.rest

@@ -27,18 +27,18 @@ loop-request-preserved g c =
     let next = c.call-answer.new.self in
     let old = c.args.volume.now in
     let state = g.F.FileStore.state in
-    let settled = g.F.FileStore.is_settled in
+    let flushed = g.F.FileStore.is_flushed in
     let pushed : c.push_within.new.items.items ≡ answers ++ answer ∷ [] = c.push_within.ensures.pushed in
     let stepped : c.loop-request.request-iterator.rest.items ≡ request
     ∷ c.next.new.self.rest.items = c.in-Some.ensures.steps.0 in
     let full : is_full (wanted_by request) answer ≡ true = grind (arith, common_steps) in
     record {
       each = subst (λ l. Since (state old.since) old.since_level
-          (λ from. AreAnswers state settled old.limit from old.journal old.store
+          (λ from. AreAnswers state flushed old.limit from old.journal old.store
           (calls_as caller (done ++ request ∷ [])) l next.store)) (sym pushed)
-          (one_more state settled caller old before next done answers request answer i.each i.entered i.since
+          (one_more state flushed caller old before next done answers request answer i.each i.entered i.since
           i.since_level i.limit
-          (λ from here. call_made state settled from before next caller request answer made.full made.at_limit
+          (λ from here. call_made state flushed from before next caller request answer made.full made.at_limit
           (made.shown from here) (λ room. made.outcome room from here)
           (made.entries from here) made.unserved made.looks made.unasked made.synced made.follows));
       entered = subst (λ l. next.journal ≡ old.journal ++ kept (calls_as caller (done ++ request ∷ [])) l) (sym pushed)
@@ -75,21 +75,21 @@ returns-then-not-goes_on-clause-made g c =
     let old = c.args.volume.now in
     let rest = c.next.new.self.rest.items in
     let state = g.F.FileStore.state in
-    let settled = g.F.FileStore.is_settled in
+    let flushed = g.F.FileStore.is_flushed in
     let pushed : c.push_within.new.items.items ≡ answers ++ answer ∷ [] = c.push_within.ensures.pushed in
     let stepped : c.loop-request.request-iterator.rest.items ≡ request ∷ rest = c.in-Some.ensures.steps.0 in
     let halts : is_full (wanted_by request) answer ≡ false = grind (arith, common_steps) in
     let whole : done ++ request ∷ rest ≡ c.args.requests.items = ap (λ l. done ++ l) (sym stepped) ∙ i.all in
-    are_made state settled caller c.args.requests.items (done ++ request
+    are_made state flushed caller c.args.requests.items (done ++ request
     ∷ []) rest c.push_within.new.items.items old next
     (append_assoc done (request ∷ []) rest ∙ whole)
     (simp (pushed, length-append) (omega (arith, i.count)))
     (subst (λ l. Since (state old.since) old.since_level
-    (λ from. AreAnswers state settled old.limit from old.journal old.store
+    (λ from. AreAnswers state flushed old.limit from old.journal old.store
     (calls_as caller (done ++ request ∷ [])) l next.store)) (sym pushed)
-    (one_more state settled caller old before next done answers request answer i.each i.entered i.since i.since_level
+    (one_more state flushed caller old before next done answers request answer i.each i.entered i.since i.since_level
     i.limit
-    (λ from here. call_made state settled from before next caller request answer made.full made.at_limit
+    (λ from here. call_made state flushed from before next caller request answer made.full made.at_limit
     (made.shown from here) (λ room. made.outcome room from here)
     (made.entries from here) made.unserved made.looks made.unasked made.synced made.follows)))
     (subst (λ l. next.journal ≡ old.journal ++ kept (calls_as caller (done ++ request ∷ [])) l) (sym pushed)
@@ -112,7 +112,7 @@ returns-clause-made g c =
     let done = c.loop-request.yielded in
     let ended : c.loop-request.request-iterator.rest.items ≡ [] = grind (arith, common_steps) in
     let all : done ++ [] ≡ c.args.requests.items = ap (λ l. done ++ l) (sym ended) ∙ i.all in
-    are_made g.F.FileStore.state g.F.FileStore.is_settled c.args.cred.now c.args.requests.items done []
+    are_made g.F.FileStore.state g.F.FileStore.is_flushed c.args.cred.now c.args.requests.items done []
     c.loop-request.answers.items c.args.volume.now c.loop-request.volume
     all i.count i.each i.entered i.within
     (subst (λ l. GoUpTo l c.loop-request.answers.items) (sym (append-nil done) ∙ all)

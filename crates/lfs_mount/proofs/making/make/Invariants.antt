@@ -10,7 +10,7 @@ use Rattle.lfs_mount.proofs.making.make.Given as goal
 abbrev pub invariant-loop-request : goal.invariant-loop-request
 invariant-loop-request g l = record {
   each : Since (g.F.FileStore.state l.fn.volume.since) l.fn.volume.since_level
-      (λ from. AreAnswers g.F.FileStore.state g.F.FileStore.is_settled l.fn.volume.limit from l.fn.volume.journal
+      (λ from. AreAnswers g.F.FileStore.state g.F.FileStore.is_flushed l.fn.volume.limit from l.fn.volume.journal
       l.fn.volume.store (calls_as l.cred l.yielded) l.answers.items l.volume.store);
   entered : l.volume.journal ≡ l.fn.volume.journal ++ kept (calls_as l.cred l.yielded) l.answers.items;
   within : OnAny l.answers.items (Since (g.F.FileStore.state l.fn.volume.since) l.fn.volume.since_level

@@ -1,4 +1,4 @@
-use Rattle.std.proofs.Common.{sym}
+use Rattle.std.proofs.Common.{refl, sym}
 use Rattle.std.proofs.lemmas.Bool.{ne_eqb}
 use Rattle.lfs_mount.specs.Listing.{names_at}
 use Rattle.lfs_mount.proofs.listing.Listings.close.Goals as goal
@@ -6,6 +6,9 @@ use Rattle.lfs_mount.proofs.listing.Listings.close.Goals as goal
 pub returns : goal.returns
 unfolding names_at
 returns c = record {
-  closed = c.remove.ensures.updates.1;
-  others = λ other apart. c.remove.ensures.updates.2 other (ne_eqb c.args.handle other (λ e. apart (sym e)));
+  told = refl;
+  closed = record {
+    closed = c.remove.ensures.updates.1;
+    others = λ other apart. c.remove.ensures.updates.2 other (ne_eqb c.args.handle other (λ e. apart (sym e)));
+  };
 }

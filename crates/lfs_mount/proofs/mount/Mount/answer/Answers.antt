@@ -11,7 +11,7 @@ use Rattle.lfs_mount.proofs.mount.Mount.answer.Goals as goal
 pub returns-clause-answered : goal.returns-clause-answered
 returns-clause-answered g c =
     let state = g.F.FileStore.state in
-    let settled = g.F.FileStore.is_settled in
+    let flushed = g.F.FileStore.is_flushed in
     let sizes = c.args.self.now.sizes in
     let now = c.args.now in
     let nodes = c.args.self.now.tree.nodes in
@@ -26,15 +26,15 @@ returns-clause-answered g c =
     let after = c.heard-told.new.self.beside in
     let who = c.caller-cred.result in
     let found : header_in bytes ≡ Some header = sym c.decode.ensures ∙ c.in-Some.is in
-    subst (λ h. IsAnsweredOf state settled sizes now nodes nodes_after others h
+    subst (λ h. IsAnsweredOf state flushed sizes now nodes nodes_after others h
     (said bytes) c.args.out.now.items c.append_if.new.out.items old new before after) (sym found) (record {
       reply = heard.0;
       wanted = heard.1;
-      heard = subst (λ (who : Caller). IsHeard state settled sizes now who nodes nodes_after header.node
+      heard = subst (λ (who : Caller). IsHeard state flushed sizes now who nodes nodes_after header.node
           (said bytes) heard.0 heard.1 old new before after) c.caller-cred.ensures c.heard-told.ensures.heard;
       keeps = subst (λ (w : Caller). IfSome (said bytes) (λ m. AreStillKept now w nodes header.node m heard.0
           before.opens.files.items after.opens.files.items)) c.caller-cred.ensures
-          (heard_keeps state settled sizes now who nodes nodes_after header.node heard.0 old new before after (said bytes) heard.1
+          (heard_keeps state flushed sizes now who nodes nodes_after header.node heard.0 old new before after (said bytes) heard.1
           c.heard-told.ensures.heard);
       behind = c.heard-told.ensures.behind;
       written = c.in_ok-append_if.ensures;

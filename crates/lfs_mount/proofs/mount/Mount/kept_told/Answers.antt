@@ -18,8 +18,8 @@ returns-in_ok-kept-in-Write-clause-told g c =
     let was = c.args.self.now in
     let nodes = was.tree.nodes in
     let files = was.beside.opens.files.items in
-    let node = c.args.node in
-    let who = c.args.cred.now in
+    let node = c.args.head.now.node in
+    let who = c.args.head.now.cred in
     let fields = c.in-Write.fields in
     let bytes = c.in-Write.bytes.now in
     let kept = c.in_ok-kept-in-Write.kept.now in
@@ -34,7 +34,7 @@ returns-in_ok-kept-in-Write-clause-told g c =
     subst (λ n. TellsWritten (LacksRoom (write fields bytes) node n files)
     (length (part_of bytes)) (end_of (write fields bytes) n) reply) size c.write.ensures.tells in
     subst (λ m. OnKept (kept_for nodes (view m) files node who) (λ k. IsSomeAnd (Some reply)
-    (λ t. IsToldKept c.args.now who node (view m) t was.tree.volume was.tree.volume was.beside after k))
+    (λ t. IsToldKept c.args.head.now.time who node (view m) t was.tree.volume was.tree.volume was.beside after k))
     (Some reply ≡ None)) (sym c.in-Write.is)
-    (write_kept c.args.now who nodes node fields bytes kept reply was.tree.volume was.beside after gone is tells
+    (write_kept c.args.head.now.time who nodes node fields bytes kept reply was.tree.volume was.beside after gone is tells
     c.write.ensures.files refl refl refl)

@@ -22,21 +22,21 @@ returns-in-Some-clause-stay g c =
 pub returns-in-None-clause-forgets : goal.returns-in-None-clause-forgets
 returns-in-None-clause-forgets g c =
     let last = c.called.new.self in
-    subst (λ m. IsForgetting (view c.args.message.now) c.args.node m.tree.nodes last.tree.nodes)
+    subst (λ m. IsForgetting (view c.args.message.now) c.args.head.now.node m.tree.nodes last.tree.nodes)
     (c.kept_told.ensures.none c.in-None.is) c.called.ensures.forgets
 
 pub returns-in-Some-clause-forgets : goal.returns-in-Some-clause-forgets
 returns-in-Some-clause-forgets g c =
-    plain_forgets (view c.args.message.now) c.args.node c.args.self.now.tree.nodes c.kept_told.new.self.tree.nodes
+    plain_forgets (view c.args.message.now) c.args.head.now.node c.args.self.now.tree.nodes c.kept_told.new.self.tree.nodes
     (c.kept_told.ensures.plain (subst (λ o. IsSome o) (sym c.in-Some.is) refl))
 
 pub returns-in-None-clause-behind : goal.returns-in-None-clause-behind
 returns-in-None-clause-behind g c =
     let last = c.called.new.self in
-    subst (λ m. NodesBehind (view c.args.message.now) c.args.node c.called.result m.tree.nodes last.tree.nodes)
+    subst (λ m. NodesBehind (view c.args.message.now) c.args.head.now.node c.called.result m.tree.nodes last.tree.nodes)
     (c.kept_told.ensures.none c.in-None.is) c.called.ensures.behind
 
 pub returns-in-Some-clause-behind : goal.returns-in-Some-clause-behind
 returns-in-Some-clause-behind g c =
-    subst (λ o. IfSome o (λ told. NodesBehind (view c.args.message.now) c.args.node told c.args.self.now.tree.nodes
+    subst (λ o. IfSome o (λ told. NodesBehind (view c.args.message.now) c.args.head.now.node told c.args.self.now.tree.nodes
     c.kept_told.new.self.tree.nodes)) c.in-Some.is c.kept_told.ensures.behind

@@ -8,11 +8,11 @@ use Rattle.lfs_mount.specs.Moving.{MovesIfDone, StandStill}
 use Rattle.lfs_mount.specs.Trees.{MovesRow, StayTrue, UnlessRefused}
 use Rattle.lfs_mount.proofs.MovingLemmas.{moves_from, there_still}
 use Rattle.lfs_mount.proofs.StayLemmas.{known_stay, renamed_stay}
-use Rattle.lfs_mount.proofs.tree.Tree.rename_paths.Goals as goal
+use Rattle.lfs_mount.proofs.node_tree.NodeTree.rename_paths.Goals as goal
 
 pub returns-then-is_err-clause-stay : goal.returns-then-is_err-clause-stay
 returns-then-is_err-clause-stay g c leads leads_to =
-    known_stay g.F.FileStore.state g.F.FileStore.is_settled c.args.self.now.volume c.args.self.now.nodes
+    known_stay g.F.FileStore.state g.F.FileStore.is_flushed c.args.self.now.volume c.args.self.now.nodes
     c.make_room.new.self c.make_room.ensures.same
 
 pub returns-in-Ok-clause-stay : goal.returns-in-Ok-clause-stay
@@ -21,17 +21,16 @@ returns-in-Ok-clause-stay g c leads leads_to =
     let before = c.args.self.now.nodes in
     let between = c.one.new.self.nodes in
     let after = c.moved.new.self.nodes in
-    let names = c.args.names in
-    let spots = c.args.spots in
+    let it = c.args.renaming in
     let answers = c.in-Ok.answers.items in
     let same : (q : ℕ) → known between q ≡ known before q =
     λ q. ap (λ (n : Parts). known n q) c.one.ensures.nodes ∙ c.make_room.ensures.same q in
     let moves = subst (λ l. UnlessRefused (refusal_in l)
-    (MovesRow spots.0 names.name spots.1 names.new_name between after) between after) c.as_slice.ensures.value
+    (MovesRow it.from.0 it.name it.to.0 it.new_name between after) between after) c.as_slice.ensures.value
     c.moved.ensures.nodes in
     subst (λ v. StayTrue state c.args.self.now.volume before v after) (sym c.moved.ensures.volume)
-    (renamed_stay state g.F.FileStore.is_settled c.args.cred.now c.args.paths.0 c.args.paths.1 spots.0 names.name
-    spots.1 names.new_name answers c.args.self.now.volume c.one.new.self.volume before between after same
+    (renamed_stay state g.F.FileStore.is_flushed c.args.cred.now c.args.paths.from c.args.paths.to it.from.0 it.name
+    it.to.0 it.new_name answers c.args.self.now.volume c.one.new.self.volume before between after same
     c.in-Ok.ensures.made moves leads leads_to)
 
 pub returns-in-Err-clause-stay : goal.returns-in-Err-clause-stay
@@ -43,7 +42,7 @@ returns-in-Err-clause-stay g c leads leads_to =
     let same : (q : ℕ) → known between q ≡ known before q =
     λ q. ap (λ (n : Parts). known n q) c.one.ensures.nodes ∙ c.make_room.ensures.same q in
     subst (λ v. StayTrue state volume before v between) (sym c.in-Err.ensures.none)
-    (known_stay state g.F.FileStore.is_settled volume before between same)
+    (known_stay state g.F.FileStore.is_flushed volume before between same)
 
 pub returns-then-is_err-clause-moves : goal.returns-then-is_err-clause-moves
 returns-then-is_err-clause-moves g c there =
@@ -53,16 +52,15 @@ pub returns-in-Ok-clause-moves : goal.returns-in-Ok-clause-moves
 returns-in-Ok-clause-moves g c there =
     let before = c.args.self.now.nodes in
     let room = c.make_room.new.self in
-    let names = c.args.names in
-    let spots = c.args.spots in
-    let from = place_at spots.0 names.name in
-    let to = place_at spots.1 names.new_name in
+    let it = c.args.renaming in
+    let from = place_at it.from.0 it.name in
+    let to = place_at it.to.0 it.new_name in
     let after = c.moved.new.self.nodes in
     moves_from before room c.make_room.ensures.same c.make_room.ensures.index c.make_room.ensures.next
     c.moved.result from to after
-    (subst (λ (n : Parts). IsSome (node_at n.table spots.1) → MovesIfDone c.moved.result from to n after)
+    (subst (λ (n : Parts). IsSome (node_at n.table it.to.0) → MovesIfDone c.moved.result from to n after)
     c.one.ensures.nodes c.moved.ensures.moves
-    (there_still before room spots.1 (c.make_room.ensures.same spots.1) there))
+    (there_still before room it.to.0 (c.make_room.ensures.same it.to.0) there))
 
 pub returns-in-Err-clause-moves : goal.returns-in-Err-clause-moves
 returns-in-Err-clause-moves g c there =

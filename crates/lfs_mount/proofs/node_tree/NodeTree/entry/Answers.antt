@@ -1,5 +1,5 @@
 use Rattle.std.proofs.Common.{◌≡◌, IfErr, IfOk, refl, sym, subst, ◌∙◌}
-use Rattle.lfs_mount.proofs.tree.Tree.entry.Goals as goal
+use Rattle.lfs_mount.proofs.node_tree.NodeTree.entry.Goals as goal
 
 pub returns-in-Ok-clause-named : goal.returns-in-Ok-clause-named
 returns-in-Ok-clause-named g c = record {

@@ -6,7 +6,7 @@ use lfs_volume::volume::Volume;
 
 /// A volume, and the nodes by which the kernel calls its files.
 #[derive(Drop)]
-pub struct Tree<F: FileStore + Drop> {
+pub struct NodeTree<F: FileStore + Drop> {
     pub(crate) volume: Volume<F>,
     pub(crate) nodes: Nodes,
 }

@@ -8,8 +8,8 @@ use Rattle.lfs_mount.specs.Entries.{NodesFollow}
 use Rattle.lfs_mount.specs.Handled.{AreAskedAndMade, hangs_in}
 use Rattle.lfs_mount.specs.Trees.{LeavesNodes, StayTrue, UnlessRefused}
 use Rattle.lfs_mount.proofs.StayLemmas.{handled_stay}
-use Rattle.lfs_mount.proofs.tree.Tree.once.Goals.{in-Some+in-Ok, in-None}
-use Rattle.lfs_mount.proofs.tree.Tree.once.Goals as goal
+use Rattle.lfs_mount.proofs.node_tree.NodeTree.once.Goals.{in-Some+in-Ok, in-None}
+use Rattle.lfs_mount.proofs.node_tree.NodeTree.once.Goals as goal
 
 pub returns-in-Some-refusal_told-clause-stay : goal.returns-in-Some-refusal_told-clause-stay
 returns-in-Some-refusal_told-clause-stay g c =
@@ -18,7 +18,7 @@ returns-in-Some-refusal_told-clause-stay g c =
     let refusal : refusal_told message answers ≡ Some c.in-Some-refusal_told.errno =
     sym (ap (refusal_told message) c.as_slice.ensures.value) ∙ sym c.refusal_told.ensures
     ∙ c.in-Some-refusal_told.is in
-    handled_stay g.F.FileStore.state g.F.FileStore.is_settled c.args.cred.now c.args.node message answers
+    handled_stay g.F.FileStore.state g.F.FileStore.is_flushed c.args.head.now.cred c.args.head.now.node message answers
     c.args.self.now.volume c.calls.new.self.volume c.args.self.now.nodes c.calls.new.self.nodes _
     c.in-Ok-calls.ensures.led refusal c.in-Ok-calls.ensures.nodes
 
@@ -37,11 +37,11 @@ returns-in-None-refusal_told-clause-stay g c =
           ∙ c.named_in.ensures
       | in-None w ↦ w.name-is ∙ sym (ap option_copied w.in-None.is) ∙ c.named_in.ensures
     ] in
-    let leaves : LeavesNodes message c.args.node (seen_in answers) before after =
-    subst (λ (n : Parts). LeavesNodes message c.args.node (seen_in answers) n after) c.in-Ok-calls.ensures.nodes
+    let leaves : LeavesNodes message c.args.head.now.node (seen_in answers) before after =
+    subst (λ (n : Parts). LeavesNodes message c.args.head.now.node (seen_in answers) n after) c.in-Ok-calls.ensures.nodes
     (c.served_told.ensures.nodes named) in
     subst (λ v. StayTrue state c.args.self.now.volume before v after) (sym c.served_told.ensures.volume)
-    (handled_stay state g.F.FileStore.is_settled c.args.cred.now c.args.node message answers
+    (handled_stay state g.F.FileStore.is_flushed c.args.head.now.cred c.args.head.now.node message answers
     c.args.self.now.volume c.calls.new.self.volume before after None c.in-Ok-calls.ensures.led served leaves)
 
 pub returns-in-Some-refusal_told-clause-told : goal.returns-in-Some-refusal_told-clause-told
@@ -57,9 +57,9 @@ returns-in-Some-refusal_told-clause-told g c =
     inl (record {
       answers = answers;
       made = c.in-Ok-calls.ensures.made;
-      says = subst (λ o. SaysOr o (SaysServed c.args.cred.now message answers (Error errno)) (Error errno)) (sym refusal) refl;
+      says = subst (λ o. SaysOr o (SaysServed c.args.head.now.cred message answers (Error errno)) (Error errno)) (sym refusal) refl;
       follows = subst (λ o. UnlessRefused o
-          (NodesFollow message c.args.node (seen_in answers) (Error errno) before after) before after) (sym refusal)
+          (NodesFollow message c.args.head.now.node (seen_in answers) (Error errno) before after) before after) (sym refusal)
           c.in-Ok-calls.ensures.nodes;
     })
 
@@ -68,7 +68,7 @@ returns-in-None-refusal_told-clause-told g c =
     let state = g.F.FileStore.state in
     let message = view c.args.message.now in
     let answers = c.in-Ok-calls.answers.items in
-    let who = c.args.cred.now in
+    let who = c.args.head.now.cred in
     let reply = c.served_told.result in
     let before = c.args.self.now.nodes in
     let after = c.served_told.new.self.nodes in
@@ -82,11 +82,11 @@ returns-in-None-refusal_told-clause-told g c =
     ] in
     inl (record {
       answers = answers;
-      made = subst (λ v. AreAskedAndMade state g.F.FileStore.is_settled who (hangs_in before) c.args.node message answers
+      made = subst (λ v. AreAskedAndMade state g.F.FileStore.is_flushed who (hangs_in before) c.args.head.now.node message answers
           c.args.self.now.volume v) (sym c.served_told.ensures.volume) c.in-Ok-calls.ensures.made;
       says = subst (λ o. SaysOr o (SaysServed who message answers reply) reply) (sym served) c.served_told.ensures.says;
-      follows = subst (λ o. UnlessRefused o (NodesFollow message c.args.node (seen_in answers) reply before after)
+      follows = subst (λ o. UnlessRefused o (NodesFollow message c.args.head.now.node (seen_in answers) reply before after)
           before after) (sym served)
-          (subst (λ (n : Parts). NodesFollow message c.args.node (seen_in answers) reply n after)
+          (subst (λ (n : Parts). NodesFollow message c.args.head.now.node (seen_in answers) reply n after)
           c.in-Ok-calls.ensures.nodes (c.served_told.ensures.follows named));
     })
