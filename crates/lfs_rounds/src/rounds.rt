@@ -49,15 +49,15 @@ pub trait Rounds {
         ensures { keeps self.old round self.new };
 }
 
-/// Serves round after round over a volume with an empty journal, up to the first that has no clients: in each the clients use
-/// the server, each on a thread of its own, with the cleaner beside them (`serve_clients`). Once all have returned, the
-/// entries are settled with what the sessions were answered and handed out with it, and the next round begins at the tree
-/// that they led to, with an empty journal. So the memory that is taken is that of a round.
+/// Serves round after round over a volume with an empty journal, up to the first that has no clients: in each the
+/// clients use the server, each on a thread of its own, with the cleaner beside them (`serve_clients`). Once all have
+/// returned, the entries are settled with what the sessions were answered and handed out with it, and the next round
+/// begins at the tree that they led to, with an empty journal. So the memory that is taken is that of a round.
 ///
 /// # Errors
 ///
-/// Those of `serve_clients`, of the round that could not be settled, with what that left; `Memory` also where there is no
-/// room for the journal of a round, of which no client has run then. The rounds before were kept.
+/// Those of `serve_clients`, of the round that could not be settled, with what that left; `Memory` also where there is
+/// no room for the journal of a round, of which no client has run then. The rounds before were kept.
 pub fn serve_rounds<R, F, G, K>(
     rt: &R,
     alloc: Global,

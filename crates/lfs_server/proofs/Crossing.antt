@@ -1,4 +1,7 @@
--- What is handed to a thread of a session or of the cleaner may go there.
+-- What is handed to a thread of a session or of the cleaner may go there: `server_send` for `start_client`,
+-- `locked_sync` and `closure_send` for `start` and `start_cleaner`. A value may go to a thread where all its fields
+-- may, and a closure where all that it captured may. A volume may where its store may (lfs_volume), so behind a lock
+-- all threads may share it; a server has references to what threads may share, and a button of its own.
 use mathlib.Core.List.{List}
 use Prim.Native.Nat.{ℕ}
 use mir.Syntax.{Sym, Ty}

@@ -1,4 +1,7 @@
--- What a session has made of the calls that it makes next, a call after another.
+-- What a session has made of the calls that it makes next, a call after another: `none_made`, `more_made` and
+-- `same_made`, for `Kept::call_each`. Of the batch's calls the first ones were made and the others are left; they have
+-- as many answers, and their entries stand in order behind the journal. A further call is the first of those left, and
+-- its answer and its entry go behind the others (`entries_kept_append`); the session is the batch's throughout.
 use Rattle.std.proofs.Common.{◌≡◌, ℕ, List, [], ◌∷◌, ◌++◌, length, refl, sym, ap, ◌∙◌, arith, append-nil, append_assoc, length-append}
 use Rattle.lfs_types.specs.Caller.{Caller}
 use Rattle.lfs_types.specs.declared.answer.Answer.{Answer}

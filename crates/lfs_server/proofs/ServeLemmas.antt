@@ -1,4 +1,8 @@
--- Faults of a run on a volume that was laid out for it, and results that are Ok.
+-- Faults of a run on a volume that was laid out for it, and what holds of runs that are left: for `serve` and
+-- `fresh_volume`. The number of sessions is judged first, then the format, then the volume is laid out and the run
+-- made; so a fault of the run comes with numbers in their ranges (`serve_faults`), and one of the layout with a number
+-- of sessions that may be (`layout_fault`). The volume began at the opening tree and nothing moved its beginning, so
+-- its journal is legal from there (`legal_from_opening`), also of a run that is handed out because it isn't settled.
 use Rattle.std.proofs.Common.{◌≡◌, ℕ, ◌<◌, ◌≤◌, Result, Ok, Err, IfErr, IfOk, OnOk, sym, subst}
 use Rattle.lfs_types.specs.StoreStates.{StoreState}
 use Rattle.lfs_types.specs.Tree.{opening_world}

@@ -46,8 +46,8 @@ impl Batch {
         Ok(())
     }
 
-    /// Whether the next call is made in the same holding of the lock as the one before it: there is one, the gate is open
-    /// and the cleaner doesn't wait. Then the one before it is counted.
+    /// Whether the next call is made in the same holding of the lock as the one before it: there is one, the gate is
+    /// open and the cleaner doesn't wait. Then the one before it is counted.
     pub fn goes_on<R, G: Gate>(&mut self, run: &Run<'_, R, G>) -> bool
         ensures calls { self.new.calls.items ≡ self.old.calls.items }
         ensures answers { self.new.answers.items ≡ self.old.answers.items }

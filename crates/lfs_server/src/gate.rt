@@ -2,8 +2,8 @@
 
 ghost use Rattle.std.specs.Prelude.{◌≡◌, ◌+◌, min};
 
-/// A gate that each call of a run passes, without the lock on the volume. One that waits keeps its own handle. Calls are
-/// counted from 0 for each session; 4,294,967,295 also stands for every call behind the one that has it.
+/// A gate that each call of a run passes, without the lock on the volume. One that waits keeps its own handle. Calls
+/// are counted from 0 for each session; 4,294,967,295 also stands for every call behind the one that has it.
 pub trait Gate: Sync {
     /// A session is about to make a call.
     fn before(&self, session: u8, index: u32);
@@ -11,9 +11,9 @@ pub trait Gate: Sync {
     /// A session has made a call.
     fn after(&self, session: u8, index: u32);
 
-    /// Whether nobody waits at the gate between a session's call of this index and its next one. Then the next may be made
-    /// in the same holding of the lock, and the gate is told neither that the one is made nor that the next is begun. It is
-    /// asked under the lock, so it doesn't wait.
+    /// Whether nobody waits at the gate between a session's call of this index and its next one. Then the next may be
+    /// made in the same holding of the lock, and the gate is told neither that the one is made nor that the next is
+    /// begun. It is asked under the lock, so it doesn't wait.
     fn is_open(&self, _session: u8, _index: u32) -> bool {
         false
     }

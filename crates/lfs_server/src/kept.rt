@@ -118,8 +118,8 @@ impl<S: Sizes<F>, F: FileStore + Drop> Kept<S, F> {
         (answer, wants_cleaner)
     }
 
-    /// Makes the next calls of a session, in order: one at least, if there is one, and no other behind one that wants the
-    /// cleaner, or that is not to be followed in this holding of the lock. Says whether the cleaner is wanted.
+    /// Makes the next calls of a session, in order: one at least, if there is one, and no other behind one that wants
+    /// the cleaner, or that is not to be followed in this holding of the lock. Says whether the cleaner is wanted.
     ///
     /// # Errors
     ///
@@ -169,7 +169,7 @@ impl<S: Sizes<F>, F: CleanedStore + Drop> Kept<S, F> {
         ensures full { (result ≡ CleanerAnswer.Refused Resource.JournalFull)
             ↔ (length self.old.journal ≡ self.old.limit) }
         ensures answered { length self.old.journal < self.old.limit → IsCleanerAnswer
-            (cleaner_of F.state F.is_settled F.made F.cleaner)
+            (cleaner_of F.state F.is_flushed F.made F.cleaner)
             self.old.store superuser call result self.new.store }
         ensures entered { self.new.journal ≡ self.old.journal
             ++ kept_cleaning 255 superuser call result }

@@ -56,8 +56,8 @@ pub trait Live {
         ensures { IfOk result (λ t. (1 ≤ t.session) × (t.session ≤ 254)
             × (t.calls.items ≡ []) × (t.answers.items ≡ [])) };
 
-    /// Makes the next call of a session, of a copy of what it asks, as one holding of the lock on the volume, and keeps it
-    /// with its answer in the session's transcript.
+    /// Makes the next call of a session, of a copy of what it asks, as one holding of the lock on the volume, and keeps
+    /// it with its answer in the session's transcript.
     fn call(
         &self,
         turns: &mut Turns,
@@ -89,9 +89,9 @@ pub struct Stopped<F: FileStore + Drop> {
     pub transcripts: Vec<Transcript>,
 }
 
-/// Lets clients use a server over a volume with an empty journal, each on a thread of its own, with the cleaner beside them
-/// on one more, as session 255 and user 0, and hands out what they leave once all threads have ended. A call is one holding
-/// of the lock on the volume; for nothing else a session waits for another.
+/// Lets clients use a server over a volume with an empty journal, each on a thread of its own, with the cleaner beside
+/// them on one more, as session 255 and user 0, and hands out what they leave once all threads have ended. A call is
+/// one holding of the lock on the volume; for nothing else a session waits for another.
 ///
 /// # Errors
 ///

@@ -14,7 +14,7 @@ use lfs_types::cleaned::CleanedStore;
 use lfs_types::cred::Cred;
 use lfs_types::request::Request;
 use lfs_types::store::FileStore;
-use std::alloc::Global;
+use std::alloc::{AllocError, Global};
 use std::sync::{Mutex, Wait};
 
 /// The greatest number of a session.
@@ -94,6 +94,18 @@ pub struct Server<'s, S: Sizes<F>, R, F: FileStore + Drop, G> {
     pub told: &'s Mutex<Told>,
     /// With which it calls the cleaner.
     pub button: Button,
+}
+
+impl<'s, S: Sizes<F>, R, F: FileStore + Drop, G> Server<'s, S, R, F, G> {
+    /// Another server over the same volume, with a button of its own.
+    pub(crate) fn try_clone(&self) -> Result<Server<'s, S, R, F, G>, AllocError> {
+        Ok(Server {
+            run: self.run,
+            volume: self.volume,
+            told: self.told,
+            button: self.button.try_clone()?,
+        })
+    }
 }
 
 impl<'s, S: Sizes<F>, R: Wait, F: CleanedStore + Drop, G: Gate> Live for Server<'s, S, R, F, G> {

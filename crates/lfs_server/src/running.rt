@@ -6,7 +6,7 @@ ghost use Rattle.lfs_volume.specs.Journals.{IsJournal, Since};
 ghost use Rattle.lfs_server.specs.Serving.{IsRunFault, IsThreadFault};
 ghost use Rattle.lfs_server.specs.Unserved.{NamesUnsettled, OnLeft, fault_of};
 
-use crate::doorbell::{Button, Rings, doorbell};
+use crate::doorbell::{Rings, doorbell};
 use crate::gate::Gate;
 use crate::kept::{Kept, Sizes};
 use crate::live::{Client, Stopped};
@@ -56,19 +56,22 @@ where
     let (button, rings) = doorbell(run.alloc)?;
     let volume = Mutex::new(Kept::<S, F>::new(volume));
     let told = Mutex::new(Told::none(run.alloc));
-    run_clients(run, &volume, &told, button, &rings, clients)?;
+    let server = Server {
+        run,
+        volume: &volume,
+        told: &told,
+        button,
+    };
+    run_clients(server, &rings, clients)?;
     stop(
         volume.into_inner().into_volume(),
         told.into_inner().into_transcripts(),
     )
 }
 
-/// Runs the clients and the cleaner, each on a thread of its own, until all have ended.
+/// Runs the clients of a server and the cleaner, each on a thread of its own, until all have ended.
 fn run_clients<S, R, F, C, G>(
-    run: &Run<'_, R, G>,
-    volume: &Mutex<Kept<S, F>>,
-    told: &Mutex<Told>,
-    button: Button,
+    server: Server<'_, S, R, F, G>,
     rings: &Rings,
     clients: Vec<C>,
 ) -> Result<(), ServeFault>
@@ -80,26 +83,23 @@ where
     G: Gate,
     ensures { IfErr result IsThreadFault }
 {
-    button.ring(run.rt);
+    server.button.ring(server.run.rt);
     thread::scope(
         thread::scope_env(),
-        run.rt,
+        server.run.rt,
         move |scope| -> Result<(), ServeFault>
             ensures { IfErr result IsThreadFault }
         {
-            start_cleaner(scope, run, volume, rings)?;
-            start_clients(scope, run, volume, told, &button, clients)
+            start_cleaner(scope, server.run, server.volume, rings)?;
+            start_clients(scope, &server, clients)
         },
     )
 }
 
-/// Starts each client on a thread of its own.
+/// Starts each client on a thread of its own, with a clone of the server.
 fn start_clients<'s, E, S, R, F, C, G>(
     scope: &Scope<'s, E>,
-    run: &'s Run<'s, R, G>,
-    volume: &'s Mutex<Kept<S, F>>,
-    told: &'s Mutex<Told>,
-    button: &Button,
+    server: &Server<'s, S, R, F, G>,
     clients: Vec<C>,
 ) -> Result<(), ServeFault>
 where
@@ -111,14 +111,7 @@ where
     ensures { IfErr result IsThreadFault }
 {
     for client in clients {
-        let button = button.try_clone()?;
-        let server = Server {
-            run,
-            volume,
-            told,
-            button,
-        };
-        start_client(scope, server, client)?;
+        start_client(scope, server.try_clone()?, client)?;
     }
     Ok(())
 }
@@ -155,8 +148,8 @@ where
     client.run(&server);
 }
 
-/// Hands out a volume and what the sessions were told, as settled where the volume's journal is an interleaving of these
-/// transcripts and of the cleaner's calls.
+/// Hands out a volume and what the sessions were told, as settled where the volume's journal is an interleaving of
+/// these transcripts and of the cleaner's calls.
 fn stop<F: FileStore + Drop>(
     volume: Volume<F>,
     transcripts: Vec<Transcript>,

@@ -20,10 +20,10 @@ use std::alloc::Global;
 use std::sync::Wait;
 use std::thread::Threads;
 
-/// Runs the setup and then each script as a session on a thread of its own, with the cleaner beside them, on a fresh volume
-/// over the log store, which has the segments, the inode numbers and the frames that are asked for. `Sessions` comes
-/// exactly for none and for more than eight, before all others; `Format` for numbers out of their ranges alone, and before
-/// anything is run.
+/// Runs the setup and then each script as a session on a thread of its own, with the cleaner beside them, on a fresh
+/// volume over the log store, which has the segments, the inode numbers and the frames that are asked for. `Sessions`
+/// comes exactly for none and for more than eight, before all others; `Format` for numbers out of their ranges alone,
+/// and before anything is run.
 pub fn serve<R, G>(
     rt: &R,
     alloc: Global,

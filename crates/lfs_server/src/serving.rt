@@ -1,4 +1,5 @@
-//! A run: the setup, then sessions on threads and the cleaner beside them, over one volume; settled before it is handed out.
+//! A run: the setup, then sessions on threads and the cleaner beside them, over one volume; settled before it is handed
+//! out.
 
 ghost use Rattle.std.specs.Prelude.{◌≡◌, ◌⊎◌, ◌<◌, ◌≤◌, ◌+◌, IfErr, IfOk, OnOk, vec_len, length};
 ghost use Rattle.lfs_settle.specs.Interleaving.{IsInterleaving, IsLowestToDiffer, run_of};
@@ -95,10 +96,10 @@ impl From<AllocError> for ServeFault {
     }
 }
 
-/// Runs the setup as session 0 and then each script as a session on a thread of its own, session 1 to 8, with the cleaner
-/// on one more, as session 255 and user 0. In one holding of the lock on the volume a session makes 16 calls at most, those
-/// between which the gate is open, and none more once the cleaner waits or is wanted. Faults of memory and threads come
-/// only after all threads have ended.
+/// Runs the setup as session 0 and then each script as a session on a thread of its own, session 1 to 8, with the
+/// cleaner on one more, as session 255 and user 0. In one holding of the lock on the volume a session makes 16 calls at
+/// most, those between which the gate is open, and none more once the cleaner waits or is wanted. Faults of memory and
+/// threads come only after all threads have ended.
 pub fn serve_over<R, F, G>(
     rt: &R,
     alloc: Global,
@@ -153,8 +154,8 @@ pub(crate) fn check_sessions(count: usize) -> Result<(), ServeFault>
     Ok(())
 }
 
-/// Runs the setup and then the sessions, of which there are at most eight, over a volume of these sizes, and hands out what
-/// they left.
+/// Runs the setup and then the sessions, of which there are at most eight, over a volume of these sizes, and hands out
+/// what they left.
 fn run_kept<S, R, F, G>(
     run: &Run<'_, R, G>,
     volume: Volume<F>,
@@ -260,8 +261,8 @@ fn run_setup<S: Sizes<F>, R, F: FileStore + Drop, G: Gate>(
     Ok(answers)
 }
 
-/// Runs the sessions and the cleaner, each on a thread of its own, and gives the answers of each session once all threads
-/// have ended.
+/// Runs the sessions and the cleaner, each on a thread of its own, and gives the answers of each session once all
+/// threads have ended.
 fn run_threads<S, R, F, G>(
     run: &Run<'_, R, G>,
     volume: &Mutex<Kept<S, F>>,

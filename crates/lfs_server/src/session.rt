@@ -45,8 +45,8 @@ impl<'a> Session<'a> {
     }
 }
 
-/// Makes the calls of a session, each of a copy of what its script asks, and gives the answers. It ends where a copy finds
-/// no memory.
+/// Makes the calls of a session, each of a copy of what its script asks, and gives the answers. It ends where a copy
+/// finds no memory.
 pub fn run_session<S: Sizes<F>, R: Wait, F: FileStore + Drop, G: Gate>(
     run: &Run<'_, R, G>,
     volume: &Mutex<Kept<S, F>>,
@@ -81,8 +81,8 @@ fn make_calls<S: Sizes<F>, R: Wait, F: FileStore + Drop, G: Gate>(
     Ok(())
 }
 
-/// Makes the next calls of a session in one holding of the lock, between the two halves of the gate, and says whether the
-/// cleaner is wanted.
+/// Makes the next calls of a session in one holding of the lock, between the two halves of the gate, and says whether
+/// the cleaner is wanted.
 fn hold<S: Sizes<F>, R: Wait, F: FileStore + Drop, G: Gate>(
     run: &Run<'_, R, G>,
     volume: &Mutex<Kept<S, F>>,

@@ -4,7 +4,7 @@ ghost use Rattle.std.specs.Prelude.{◌≡◌, ◌↔◌, ◌≤◌, IsOk, IfErr
 ghost use Rattle.lfs_settle.specs.Interleaving.{IsInterleaving, IsLowestToDiffer, run_of};
 
 pub use lfs_settle::entries::Unsettled;
-use lfs_settle::entries::settle_entries;
+use lfs_settle::entries::{Sessions, settle_entries};
 use lfs_types::answer::Answer;
 use lfs_types::script::Script;
 use lfs_types::store::FileStore;
@@ -26,12 +26,11 @@ pub fn settle<F: FileStore + Drop>(
     ensures lowest { IfErr result (λ u. IsLowestToDiffer (run_of volume.now.journal volume.now.limit
         setup.now answers.now scripts.now transcripts.now) u.0) }
 {
-    settle_entries(
-        volume.journal(),
-        volume.journal_limit(),
-        setup.as_slice(),
+    let sessions = Sessions {
+        setup: setup.as_slice(),
         answers,
         scripts,
         transcripts,
-    )
+    };
+    settle_entries(volume.journal(), volume.journal_limit(), sessions)
 }
