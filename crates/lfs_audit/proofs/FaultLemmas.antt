@@ -1,4 +1,9 @@
--- Which fault of a run comes with which cause.
+-- Which fault of a run comes with which cause: `late_faults` for `run_over`, `late_script_faults` for `run_script`,
+-- `split_cause` and `late_threads_fault` for `run_threads` and `run_sessions`. A fault's cause is what held when that
+-- step was reached: one of reading is told by the bytes (`fault_of_line`), one of the format stands behind a script
+-- with a plan (`layout_fault`), and behind these steps only memory and a write are left (`MayHaveWritten`), with the
+-- plan and the ranges known by then. So it is taken apart by faults, and each that can't come any more is absurd; of a
+-- reader that doesn't tell its bytes nothing is claimed, which `if_some` carries along.
 use Rattle.std.proofs.Common.{◌≡◌, ℕ, ◌<◌, ◌≤◌, List, length, Option, None, Some, Result, Ok, Err, IfErr, IfSome}
 use Rattle.std.proofs.Common.{subst}
 use Rattle.lfs_types.specs.Caller.{Caller}

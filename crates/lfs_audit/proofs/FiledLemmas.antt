@@ -1,4 +1,10 @@
--- A run whose entries go to a sink grows line by line.
+-- A run whose entries go to a sink grows line by line: `filing_none`, `filing_more` and `filed_run` for
+-- `FiledVolume::run_plan`; `handed_on`, `shut_on` and `stays_on` for `move_on`. `IsFiling` parts the lines in those
+-- that were done while the sink took entries, whose entries are those handed out and those still in the journal, and
+-- those behind. The hard part is that each line is done on a journal that begins anew, and is to be answered as behind
+-- all entries so far (`answered_more`): both lead to the same world, and a line makes at most 105 calls, for which the
+-- new journal has room (`Agree` of ShiftLemmas). Once the sink takes no more the journal is at its limit, so nothing is
+-- entered behind (`none_more`).
 use Rattle.std.proofs.Common.{◌≡◌, ℕ, ◌+◌, ◌<◌, ◌≤◌, ◌⊎◌, inl, inr, Bool, true, false, List, [], ◌∷◌, ◌++◌, length}
 use Rattle.std.proofs.Common.{Result, Ok, Err, OnOk, Option, None, Some, refl, sym, ap, subst, ◌∙◌, arith, append_assoc, append-nil}
 use Rattle.std.proofs.Common.{length-append}

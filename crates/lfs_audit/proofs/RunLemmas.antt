@@ -1,4 +1,10 @@
--- Runs of steps grow by further steps, passes by further calls, and texts by their lines.
+-- Runs of steps grow by further steps (`runs_one`, `runs_joined`), passes by further calls (`pass_goes_on`), and texts
+-- by their lines (`writes_more`): for `passing::call`, `passing::pass`, `print_steps` and `run_plan`. Each step is
+-- answered behind the journal that those before it left, so two runs are one where the second begins at what the first
+-- entered (`steps-joined`); where the journal began stays, so both are told from the same world (`still-begins`).
+-- Answers are as many as steps (`count`), else neither the entries nor the lines of the whole could be parted
+-- (`kept-joined`, `lines-joined`). That a pass makes at most 105 calls is its calls so far and `calls_left`, which
+-- falls by each.
 use Rattle.std.proofs.Common.{◌≡◌, ℕ, suc, ◌+◌, ◌<◌, List, [], ◌∷◌, ◌++◌, length, Option, None, Some, Result, Ok, Err}
 use Rattle.std.proofs.Common.{OnOk, refl, sym, ap, subst, ◌∙◌, arith, append_assoc, append-nil, length-append}
 use Rattle.std.specs.Io.KnownBytes.{Appends, Keeps, append_known}

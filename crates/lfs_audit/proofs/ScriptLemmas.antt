@@ -1,4 +1,8 @@
--- Runs of scripts on fresh volumes over the log store.
+-- Runs of scripts on fresh volumes over the log store: `log_run` for `run_script`, `filed_output` for lfs_programs,
+-- where the entries go to a file. A run is told from each world where its journal may have begun; the opening tree is
+-- one of them, so it is told from there (`run_begun`, `filed_begun`), and the steps are those of the script that was
+-- read. Where the file took all entries no line stands behind those that it took, so the run is one without a file for
+-- any journal that has room (`unfiled_run`).
 use Rattle.std.proofs.Common.{◌≡◌, ℕ, ◌<◌, Bool, true, List, [], ◌++◌, length, Option, None, Some, Result, Ok, Err, IfErr}
 use Rattle.std.proofs.Common.{IfSome, sym, ap, subst, ◌∙◌, append-nil}
 use Rattle.std.specs.Io.KnownBytes.{Appends}

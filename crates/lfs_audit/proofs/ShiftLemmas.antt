@@ -1,4 +1,8 @@
--- Steps behind a journal are steps behind a longer one that leads to the same world.
+-- Steps behind a journal are steps behind a longer one that leads to the same world: `steps_shifted`, for FiledLemmas,
+-- where the longer one has the entries that were handed out before. A call depends on a journal in two ways: on the
+-- world that it leads to, which is the same, and on whether it is full. `Agree` says that both are full together, as
+-- their limits differ by the entries before, or that neither gets full in these steps, as each enters at most one
+-- (`journaled_few`). `none_entered`: behind a full journal each call is refused, so that it stays full.
 use Rattle.std.proofs.Common.{◌≡◌, ℕ, suc, ◌+◌, ◌<◌, ◌≤◌, ◌⊎◌, inl, inr, List, [], ◌∷◌, ◌++◌, length, Option, None, Some}
 use Rattle.std.proofs.Common.{refl, sym, ap, subst, ◌∙◌, arith, append_assoc, append-nil, length-append}
 use Rattle.lfs_types.specs.Caller.{Caller}

@@ -1,4 +1,9 @@
--- What a run on threads prints, line by line and session by session.
+-- What a run on threads prints, line by line and session by session: `transcript_grows` for `print_transcript`,
+-- `vectors_grow` for `print_transcripts`, `closed_written` for `print_closed`, and `adds_setup`, `adds_transcript` and
+-- `adds_transcripts` for `refusals_of`. The first k + 1 answers are the first k and one more, so a text of the first k
+-- grows by one line, and counts by one answer; of sessions likewise. `threads_run` and `filed_threads` put this with
+-- what serving said of the journal into the promises of `run_threads` and `run_sessions`. There are no more lists of
+-- answers than scripts, since each agrees with one (`transcripts_few`).
 use Rattle.std.proofs.Common.{Result, Err, IfErr, OnOk, ◌≡◌, ℕ, zero, suc, ◌+◌, ◌-◌, ◌<◌, ◌≤◌, Bool, List, [], ◌∷◌}
 use Rattle.std.proofs.Common.{◌++◌, length, map, take, get_or, Option, IfSome, Ok, refl, sym, ap, subst, ◌∙◌, arith}
 use Rattle.std.proofs.Common.{append_assoc, append-nil, false}

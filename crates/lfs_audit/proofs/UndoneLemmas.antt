@@ -1,4 +1,8 @@
--- Runs on threads that are not done: why, and what they left.
+-- Runs on threads that are not done: why, and what they left, for `run_threads` and `run_sessions`. A session is named
+-- only beside the run that it differs in. A script that could not be split and a write that failed have none, so they
+-- name no session (`unsplit_named`, `unwritten_named`); of serving only an unsettled run has one, and serving said that
+-- its session is the lowest that differs (`unserved_named`). The sessions that were served are those into which the
+-- script was split, so the same is so of the script (`script_named`), and so is the fault (`unserved_fault`).
 use Rattle.std.proofs.Common.{◌≡◌, ℕ, List, Option, IfSome, Err, length, vec_len, subst, arith}
 use Rattle.std.specs.Global.{Vec}
 use Rattle.lfs_types.specs.Caller.{Caller}

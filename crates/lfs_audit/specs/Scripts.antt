@@ -1,7 +1,7 @@
 -- What a run of a script on a fresh volume over the log store prints, and how it may fail.
 use Rattle.std.specs.Prelude.{◌≡◌, ℕ, List, Option}
 use Rattle.lfs_types.specs.Tree.{opening_world}
-use Rattle.lfs_parts.specs.Store.{IsSettled}
+use Rattle.lfs_parts.specs.Store.{IsFlushed}
 use Rattle.lfs_parts.specs.declared.parts.Parts.{Parts}
 use Rattle.lfs_logstore.specs.Answering.{ComesTo}
 use Rattle.lfs_logstore.specs.CleanerCalls.{log_calls}
@@ -16,7 +16,7 @@ use Rattle.lfs_audit.specs.declared.fault.RunFault.TheVariants.{Format, Write}
 
 -- the log store as a kind of store
 abbrev pub log_cleaner : Cleaner Parts
-log_cleaner = cleaner_of state_of IsSettled ComesTo log_calls
+log_cleaner = cleaner_of state_of IsFlushed ComesTo log_calls
 
 -- a text is that of a run of the plan of a script, on a fresh volume over a log of so many segments, inode numbers and
 -- frames, whose journal begins in the opening world

@@ -13,7 +13,8 @@ use lfs_types::fault::FormatFault;
 use std::alloc::{AllocError, AllocFailed};
 use thiserror::Error;
 
-/// Why a run of a script ended. Up to `Format` nothing was written; after `Memory` or `Write` how much went out is not said.
+/// Why a run of a script ended. Up to `Format` nothing was written; after `Memory` or `Write` how much went out is not
+/// said.
 #[derive(Clone, Copy, PartialEq, Eq, Debug, Error)]
 pub enum RunFault {
     /// The script could not be read.

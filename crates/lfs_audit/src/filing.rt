@@ -29,8 +29,8 @@ use std::alloc::{AllocError, Global};
 use std::io::Write;
 use std::marker::Model;
 
-/// A volume whose entries go to a sink while it takes them: behind each line of a plan they are handed out, and the journal
-/// goes on from the present tree. Once the sink takes no more, no call is served.
+/// A volume whose entries go to a sink while it takes them: behind each line of a plan they are handed out, and the
+/// journal goes on from the present tree. Once the sink takes no more, no call is served.
 #[derive(Drop)]
 pub struct FiledVolume<F: FileStore + Drop, J: Drop> {
     volume: Volume<F>,
@@ -85,8 +85,8 @@ impl<F: FileStore + Drop, J: JournalSink + Drop> FiledVolume<F, J> {
         }
     }
 
-    /// Gives the sink the entries, and hands them out. Where the sink doesn't take them, that is told once, and no call is
-    /// served any more.
+    /// Gives the sink the entries, and hands them out. Where the sink doesn't take them, that is told once, and no call
+    /// is served any more.
     fn move_on<D: Write>(&mut self, teller: &mut D)
         ensures moves { MovesOn F.state J.contents J.next self.old self.new }
         ensures silent { self.new.is_open ≡ self.old.is_open → teller.new ≡ teller.old }
@@ -99,7 +99,8 @@ impl<F: FileStore + Drop, J: JournalSink + Drop> FiledVolume<F, J> {
         }
     }
 
-    /// The sink takes no more, for this fault, which is told. From now on no call is served, as nobody would have its entry.
+    /// The sink takes no more, for this fault, which is told. From now on no call is served, as nobody would have its
+    /// entry.
     fn close<D: Write>(&mut self, teller: &mut D, fault: SinkFault)
         ensures { self.new ≡ record self.old { volume = closed self.old.volume; is_open = false } }
     {
@@ -174,8 +175,9 @@ impl<F: FileStore + Drop, J: JournalSink + Drop> FiledVolume<F, J> {
 }
 
 impl<F: CleanedStore + Drop, J: JournalSink + Drop> FiledVolume<F, J> {
-    /// Does what the lines of a plan ask for, and writes the answer to each call and the report over all entries. The sink gets
-    /// the entries of each line before its answers are written; why it takes no more is told at once. Whether it took all.
+    /// Does what the lines of a plan ask for, and writes the answer to each call and the report over all entries. The
+    /// sink gets the entries of each line before its answers are written; why it takes no more is told at once. Whether
+    /// it took all.
     pub fn run_plan<W: Write, D: Write>(
         &mut self,
         alloc: Global,
@@ -186,7 +188,7 @@ impl<F: CleanedStore + Drop, J: JournalSink + Drop> FiledVolume<F, J> {
         requires { IsBegun F.state self.old }
         ensures written { IfOk result (λ is_whole. (text : List ℕ) × (entries : List Entry)
             × IsFiledRun
-            (cleaner_of F.state F.is_settled F.made F.cleaner)
+            (cleaner_of F.state F.is_flushed F.made F.cleaner)
             (Begins (F.state self.old.volume.since) self.old.volume.since_level)
             self.old.volume.store steps.items is_whole entries text
             × Appends (W.contents writer.old) (W.contents writer.new) text
@@ -211,7 +213,7 @@ impl<F: CleanedStore + Drop, J: JournalSink + Drop> FiledVolume<F, J> {
         teller: &mut D,
     ) -> Result<(), AllocError>
         ensures done { OnOk result (FilesLine
-            (cleaner_of F.state F.is_settled F.made F.cleaner) J.contents J.next
+            (cleaner_of F.state F.is_flushed F.made F.cleaner) J.contents J.next
             self.old self.new step.session step.cred step.act text.old.items text.new.items) }
         ensures silent { self.new.is_open ≡ self.old.is_open → teller.new ≡ teller.old }
     {

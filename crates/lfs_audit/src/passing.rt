@@ -24,7 +24,7 @@ pub fn run_step<F: CleanedStore + Drop>(
     text: &mut Vec<u8>,
 ) -> Result<(), AllocError>
     ensures { OnOk result (CountsLine
-        (cleaner_of F.state F.is_settled F.made F.cleaner)
+        (cleaner_of F.state F.is_flushed F.made F.cleaner)
         volume.old volume.new refusals.old refusals.new
         step.session step.cred step.act text.old.items text.new.items) }
 {
@@ -46,7 +46,7 @@ fn call<F: CleanedStore + Drop>(
     text: &mut Vec<u8>,
 ) -> Result<(), AllocError>
     ensures { OnOk result (CountsLine
-        (cleaner_of F.state F.is_settled F.made F.cleaner)
+        (cleaner_of F.state F.is_flushed F.made F.cleaner)
         volume.old volume.new refusals.old refusals.new
         asker.session asker.cred (Act.User request) text.old.items text.new.items) }
 {
@@ -65,7 +65,7 @@ fn clean_line<F: CleanedStore + Drop>(
     text: &mut Vec<u8>,
 ) -> Result<(), AllocError>
     ensures { OnOk result (CountsLine
-        (cleaner_of F.state F.is_settled F.made F.cleaner)
+        (cleaner_of F.state F.is_flushed F.made F.cleaner)
         volume.old volume.new refusals.old refusals.new
         asker.session asker.cred (Act.Cleaner call) text.old.items text.new.items) }
 {
@@ -82,7 +82,7 @@ fn clean<F: CleanedStore + Drop>(
     text: &mut Vec<u8>,
 ) -> Result<CleanerAnswer, AllocError>
     ensures { IfOk result (λ answer. TellsCleaning
-        (cleaner_of F.state F.is_settled F.made F.cleaner)
+        (cleaner_of F.state F.is_flushed F.made F.cleaner)
         volume.old volume.new refusals.old refusals.new
         asker.session asker.cred call answer text.old.items text.new.items) }
 {
@@ -101,7 +101,7 @@ fn pass<F: CleanedStore + Drop>(
     text: &mut Vec<u8>,
 ) -> Result<(), AllocError>
     ensures { OnOk result (CountsLine
-        (cleaner_of F.state F.is_settled F.made F.cleaner)
+        (cleaner_of F.state F.is_flushed F.made F.cleaner)
         volume.old volume.new refusals.old refusals.new
         asker.session asker.cred Act.Pass text.old.items text.new.items) }
 {

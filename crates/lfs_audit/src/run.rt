@@ -62,7 +62,7 @@ pub fn run_over<F: CleanedStore + Drop, R: Read, W: Write>(
     requires { volume.old.journal ≡ [] }
     ensures written { OnOk result (IfSome (R.remaining reader.old) (λ script. (text : List ℕ)
         × IsOutput
-        (cleaner_of F.state F.is_settled F.made F.cleaner)
+        (cleaner_of F.state F.is_flushed F.made F.cleaner)
         (Begins (F.state volume.old.since) volume.old.since_level)
         script volume.old.limit volume.old.store text
         × Appends (W.contents writer.old) (W.contents writer.new) text)) }
@@ -86,7 +86,8 @@ pub fn read_plan<R: Read>(alloc: Global, reader: &mut R) -> Result<Plan, RunFaul
     }
 }
 
-/// Does what the lines of a plan ask for on a volume without entries, and writes the answer to each call and the report.
+/// Does what the lines of a plan ask for on a volume without entries, and writes the answer to each call and the
+/// report.
 pub fn run_plan<F: CleanedStore + Drop, W: Write>(
     alloc: Global,
     volume: &mut Volume<F>,
@@ -96,7 +97,7 @@ pub fn run_plan<F: CleanedStore + Drop, W: Write>(
     requires { volume.old.journal ≡ [] }
     ensures written { OnOk result ((text : List ℕ)
         × IsRun
-        (cleaner_of F.state F.is_settled F.made F.cleaner)
+        (cleaner_of F.state F.is_flushed F.made F.cleaner)
         (Begins (F.state volume.old.since) volume.old.since_level)
         volume.old.limit volume.old.store steps.items text
         × Appends (W.contents writer.old) (W.contents writer.new) text) }
@@ -108,7 +109,8 @@ pub fn run_plan<F: CleanedStore + Drop, W: Write>(
     print_report(volume, &refusals, &mut text, writer)
 }
 
-/// Does what the lines of a plan ask for, counts the answers, and adds their lines to a text, which is written piece by piece.
+/// Does what the lines of a plan ask for, counts the answers, and adds their lines to a text, which is written piece by
+/// piece.
 fn print_steps<F: CleanedStore + Drop, W: Write>(
     volume: &mut Volume<F>,
     refusals: &mut Refusals,
@@ -117,7 +119,7 @@ fn print_steps<F: CleanedStore + Drop, W: Write>(
     writer: &mut W,
 ) -> Result<(), RunFault>
     ensures written { OnOk result (WritesLines
-        (cleaner_of F.state F.is_settled F.made F.cleaner)
+        (cleaner_of F.state F.is_flushed F.made F.cleaner)
         volume.old volume.new refusals.old refusals.new steps.items
         (append_known (W.contents writer.old) text.old.items)
         (append_known (W.contents writer.new) text.new.items)) }
@@ -130,8 +132,8 @@ fn print_steps<F: CleanedStore + Drop, W: Write>(
     Ok(())
 }
 
-/// Adds the report over a volume's journal, and of the calls that were refused without an entry, to a text, and writes the
-/// text whole.
+/// Adds the report over a volume's journal, and of the calls that were refused without an entry, to a text, and writes
+/// the text whole.
 pub fn print_report<F: FileStore + Drop, W: Write>(
     volume: &Volume<F>,
     refusals: &Refusals,

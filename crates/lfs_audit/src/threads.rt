@@ -32,9 +32,20 @@ use std::io::{Read, Write};
 use std::sync::Wait;
 use std::thread::Threads;
 
-/// Reads a script whole, parses it whole, runs the calls of session 0 and then those of the other sessions on threads, with
-/// the cleaner beside them, on a fresh volume over the log store, and writes the setup's answers, each session's in turn,
-/// and the report. Sessions that are not settled are handed out with what they left.
+/// Sessions that are run on a fresh volume, all but session 0 on threads.
+#[derive(Drop)]
+pub struct SessionPlan {
+    /// The parameters of the volume.
+    pub params: Params,
+    /// The calls of session 0.
+    pub setup: Script,
+    /// The calls of each other session, session 1's first.
+    pub scripts: Vec<Script>,
+}
+
+/// Reads a script whole, parses it whole, runs the calls of session 0 and then those of the other sessions on threads,
+/// with the cleaner beside them, on a fresh volume over the log store, and writes the setup's answers, each session's
+/// in turn, and the report. Sessions that are not settled are handed out with what they left.
 pub fn run_threads<S, R, W>(
     rt: &S,
     alloc: Global,
@@ -64,13 +75,12 @@ where
 }
 
 /// Runs the calls of session 0 and then those of the other sessions on threads, as `run_threads` does, gives a sink all
-/// entries, and then writes what that does. Why the sink didn't take all, if it didn't. Sessions that are not settled are
-/// handed out with what they left.
+/// entries, and then writes what that does. Why the sink didn't take all, if it didn't. Sessions that are not settled
+/// are handed out with what they left.
 pub fn run_sessions<S, J, W>(
     rt: &S,
     alloc: Global,
-    params: Params,
-    sessions: (Script, Vec<Script>),
+    sessions: SessionPlan,
     sink: &mut J,
     writer: &mut W,
 ) -> Result<Option<SinkFault>, Undone<Closed<LogStore>>>
@@ -78,23 +88,29 @@ where
     S: Threads + Wait + Sync,
     J: JournalSink,
     W: Write,
-    ensures written { IfOk result (λ lost. (text : List ℕ) × (entries : List Entry)
+    ensures written { let p = sessions.params in
+        IfOk result (λ lost. (text : List ℕ) × (entries : List Entry)
         × ((known : Option (List ℕ))
-        → IfSome known (λ script. IsSplit script sessions.0 sessions.1.items)
+        → IfSome known (λ script. IsSplit script sessions.setup sessions.scripts.items)
         → IfSome known (λ script.
-        IsFiledThreads script params.segments params.inodes params.journal entries text))
+        IsFiledThreads script p.segments p.inodes p.journal entries text))
         × Appends (W.contents writer.old) (W.contents writer.new) text
         × (lost ≡ None → Takes J.contents J.next sink.old sink.new entries)) }
-    ensures fault { IfErr result (λ undone. (known : Option (List ℕ))
-        → IfSome known (λ script. IsSplit script sessions.0 sessions.1.items)
-        → IsThreadsFault known params.segments params.inodes params.frames (why undone)) }
-    ensures unsettled { IfErr result (NamesUndone (λ session closed. IsUnsettledRun
-        sessions.0 sessions.1.items params.segments params.inodes params.journal
+    ensures fault { let p = sessions.params in IfErr result (λ undone. (known : Option (List ℕ))
+        → IfSome known (λ script. IsSplit script sessions.setup sessions.scripts.items)
+        → IsThreadsFault known p.segments p.inodes p.frames (why undone)) }
+    ensures unsettled { let p = sessions.params in
+        IfErr result (NamesUndone (λ session closed. IsUnsettledRun
+        sessions.setup sessions.scripts.items p.segments p.inodes p.journal
         closed.volume closed.setup.items closed.transcripts.items session)) }
     ensures unwritten { IfErr result (λ undone. (MayHaveWrittenThreads (why undone) → ⊥)
         → Keeps (W.contents writer.old) (W.contents writer.new)) }
 {
-    let (setup, scripts) = sessions;
+    let SessionPlan {
+        params,
+        setup,
+        scripts,
+    } = sessions;
     let closed = serve(rt, alloc, params, setup, scripts, &())?;
     let lost = give(sink, closed.volume.journal());
     print_closed(alloc, &closed, writer)?;
@@ -124,8 +140,8 @@ pub fn read_sessions<R: Read>(
     Ok(plan.split(alloc)?)
 }
 
-/// Writes the answers of the setup, those of each session in turn, and the report. A fault is one after which something may
-/// have been written.
+/// Writes the answers of the setup, those of each session in turn, and the report. A fault is one after which something
+/// may have been written.
 fn print_closed<F: CleanedStore + Drop, W: Write>(
     alloc: Global,
     closed: &Closed<F>,

@@ -9,14 +9,14 @@ use lfs_server::unserved::Unserved;
 use std::error::Error;
 use std::fmt;
 
-/// Why a run of a script on threads is not done. Where its sessions were run to their end, what they left stands beside the
-/// session that differs, so that both can be looked into.
+/// Why a run of a script on threads is not done. Where its sessions were run to their end, what they left stands beside
+/// the session that differs, so that both can be looked into.
 #[derive(Drop)]
 pub enum Undone<T> {
     /// The sessions were not run to their end, or what they were answered is not written whole.
     Fault(ThreadsFault),
-    /// The sessions were run and left this, and the journal is not as this one was answered: 0 is the setup; 255 says that
-    /// an entry is of no session. Nothing was written.
+    /// The sessions were run and left this, and the journal is not as this one was answered: 0 is the setup; 255 says
+    /// that an entry is of no session. Nothing was written.
     Unsettled(u8, T),
 }
 

@@ -1,4 +1,6 @@
--- Calls of one caller, one behind the other.
+-- Calls of one caller, one behind the other: `asks_none`, `asks_joined` and `asks_count`, for the looks of this crate.
+-- They are a run of steps that are all of one session and one caller, so two such runs are one (`runs_joined` of
+-- lfs_audit), and there are as many answers as calls.
 use Rattle.std.proofs.Common.{◌≡◌, List, [], ◌++◌, length, map, ap, subst, sym, ◌∙◌}
 use Rattle.std.proofs.lemmas.List.{length-map, map-append}
 use Rattle.lfs_types.specs.declared.answer.Answer.{Answer}

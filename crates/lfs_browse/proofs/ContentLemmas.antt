@@ -1,4 +1,8 @@
--- A file that is read in pieces.
+-- A file that is read in pieces: `reading_none`, `reading_more`, `reading_last` and `reading_full` for the loop of
+-- `read_pieces`, `content_told` for `tell_content`. So many whole pieces of 4,096 bytes were read (`IsReading`), and
+-- the next call asks from 4,096 times their number on, so the calls are those of `pieces`. An answer that isn't a whole
+-- piece, served or not, is the last; without one 107 whole pieces are the end. Either way there are at most 107 calls
+-- (`followed_few`), as a look may make.
 use Rattle.std.proofs.Common.{◌≡◌, ℕ, zero, suc, ◌+◌, ◌*◌, ◌<◌, ◌≤◌, true, false, List, [], ◌∷◌, ◌++◌, length, Option, None}
 use Rattle.std.proofs.Common.{Some, refl, sym, ap, subst, ◌∙◌, arith, append_assoc, append-nil, length-append, add-one}
 use Rattle.std.specs.List.{All, flat_map}

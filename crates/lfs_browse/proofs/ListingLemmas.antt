@@ -1,4 +1,9 @@
--- Rows of names, one behind the other.
+-- Rows of names, one behind the other: `rows_more` and `count_more` for the loop of `tell_rows`, `names_told` for
+-- `tell_names`, `listing_told` for `tell_listing`. A name that makes a path with the directory's gets a row by a Stat
+-- of that path, one that makes none gets no row and is only counted at the end. So rows are those of a filtered list,
+-- answers are as many as the names that are kept (without which `rows-joined` would not hold), and the first k + 1
+-- names have the rows of the first k and perhaps one more. At most 106 names are looked at, with the List 107 calls
+-- (`looked_few`).
 use Rattle.std.proofs.Common.{◌≡◌, ℕ, suc, ◌+◌, ◌-◌, ◌<◌, ◌≤◌, true, false, List, [], ◌∷◌, ◌++◌, length, map, take, get_or}
 use Rattle.std.proofs.Common.{Option, None, Some, refl, sym, ap, subst, ◌∙◌, arith, append_assoc, append-nil}
 use Rattle.std.proofs.Common.{length-append}
@@ -12,7 +17,7 @@ use Rattle.lfs_volume.specs.Cleanings.{Cleaner}
 use Rattle.lfs_volume.specs.Seen.{Seen}
 use Rattle.lfs_print.specs.AnswerText.{answer_line}
 use Rattle.lfs_browse.specs.Asking.{Asks}
-use Rattle.lfs_browse.specs.Listing.{entry_path, has_path, listed_of, looked_of, more_text, names_served, names_text}
+use Rattle.lfs_browse.specs.Listing.{entry_path, has_path, listed_of, looked_of, more_text, names_served}
 use Rattle.lfs_browse.specs.Listing.{row_text, rows_text, stat_of}
 use Rattle.lfs_browse.specs.Looks.{TellsLook}
 use Rattle.lfs_browse.specs.Steps.{TellsListed, TellsNames, TellsRows}
@@ -27,12 +32,6 @@ filter_met p x met = rw met refl
 
 filter_unmet : {X : Type 0} (p : X → Bool) (x : X) → p x ≡ false → filter p (x ∷ []) ≡ []
 filter_unmet p x unmet = rw unmet refl
-
-pub count_met : {X : Type 0} (p : X → Bool) (x : X) → p x ≡ true → 1 ≡ length (filter p (x ∷ []))
-count_met p x met = sym (ap length (filter_met p x met))
-
-pub count_unmet : {X : Type 0} (p : X → Bool) (x : X) → p x ≡ false → 0 ≡ length (filter p (x ∷ []))
-count_unmet p x unmet = sym (ap length (filter_unmet p x unmet))
 
 cond_few : {X : Type 0} (b : Bool) (x : X) (xs : List X) (n : ℕ) → length xs ≤ n → length (cond b (x ∷ xs) xs) ≤ suc n
 cond_few true x xs n few = omega (arith, few)
@@ -74,13 +73,6 @@ pub rows_none : {F : Type 0} (r : Cleaner F) (v : Seen F) (asker : Asker) (direc
     → TellsRows r v v asker directory [] text text
 rows_none r v asker directory text =
     rows_of r v v asker directory [] text text [] [] refl (asks_none r v asker) (sym (append-nil text))
-
--- that of a name without a path
-pub row_none : {F : Type 0} (r : Cleaner F) (v : Seen F) (asker : Asker) (directory : List (List ℕ)) (name text : List ℕ)
-    → has_path directory name ≡ false → TellsRows r v v asker directory (name ∷ []) text text
-row_none r v asker directory name text lacks =
-    rows_of r v v asker directory (name ∷ []) text text [] [] (filter_unmet (has_path directory) name lacks)
-    (asks_none r v asker) (sym (append-nil text))
 
 -- that of a name
 pub row_one : {F : Type 0} (r : Cleaner F) (old new : Seen F) (asker : Asker) (directory : List (List ℕ))

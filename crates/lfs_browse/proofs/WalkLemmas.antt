@@ -3,7 +3,7 @@
 -- So the visits are a walk after each of them, by one more visit at its end.
 use Rattle.std.proofs.Common.{◌≡◌, ℕ, ◌+◌, ◌≤◌, ◌⊎◌, inl, inr, true, false, List, [], ◌∷◌, ◌++◌, length, map, refl, sym}
 use Rattle.std.proofs.Common.{ap, subst, ◌∙◌, arith, append_assoc, append-nil, length-append, ◌<◌, get_or, take, Option}
-use Rattle.std.proofs.Common.{None, Some}
+use Rattle.std.proofs.Common.{None}
 use Rattle.std.specs.Prelude.{reverse, filter, ◌-◌}
 use Rattle.std.specs.Option.{IsSome, option_to_list}
 use Rattle.std.proofs.lemmas.Bool.{false≢true}
@@ -15,9 +15,9 @@ use Rattle.lfs_volume.specs.Cleanings.{Cleaner}
 use Rattle.lfs_volume.specs.Seen.{Seen}
 use Rattle.lfs_browse.specs.Asking.{Asks}
 use Rattle.lfs_browse.specs.Looks.{TellsLook}
-use Rattle.lfs_browse.specs.Listing.{has_path, looked_of, names_served, row_text}
-use Rattle.lfs_browse.specs.Trees.{IsWalk, call_of, entry_of, leads_to, names_told, rest_text, unlooked_text}
-use Rattle.lfs_browse.specs.Trees.{indent, shows_directory, unserved_text, visit_text, visits_text}
+use Rattle.lfs_browse.specs.Listing.{has_path, row_text}
+use Rattle.lfs_browse.specs.Trees.{IsWalk, call_of, entry_of, leads_to, rest_text}
+use Rattle.lfs_browse.specs.Trees.{indent, shows_directory, visit_text, visits_text}
 use Rattle.lfs_browse.specs.Walking.{HasEnded, HasWalked, TakesIn, Visits}
 use Rattle.lfs_audit.specs.declared.asker.Asker.{Asker}
 use Rattle.lfs_hearing.specs.declared.look.Look.TheVariants.{Tree}
@@ -268,35 +268,6 @@ row_told root path names below depth name answer before between after same below
     ∙ append_assoc before (indent depth) (row_text name answer)
     ∙ ap (λ (n : ℕ). before ++ (indent n ++ row_text name answer))
     (depth_is ∙ ap (λ (m : ℕ). m - 1) (below_is ∙ ap (λ (l : List (List ℕ)). length l - root) same))
-
--- that to a List of a directory, where it served names
-pub served_taken : (old new : Walk) (path : List (List ℕ)) (answer : Answer) (names : List (List ℕ))
-    → names_served answer ≡ Some names → new.root ≡ old.root
-    → new.pending.items ≡ old.pending.items ++ reverse (map (entry_of path) (looked_of path (Some names)))
-    → new.text.items ≡ old.text.items
-    ++ unlooked_text (length path - old.root) (length names - length (looked_of path (Some names)))
-    → TakesIn old new (Names path) answer
-served_taken old new path answer names served root pending told = record {
-  root = root;
-  pending = subst (λ (o : Option (List (List ℕ))). new.pending.items
-      ≡ old.pending.items ++ reverse (map (entry_of path) (looked_of path o))) (sym served) pending;
-  told = subst (λ (o : Option (List (List ℕ))). new.text.items
-      ≡ old.text.items ++ names_told (length path - old.root) path answer o) (sym served) told;
-}
-
--- where it served none
-pub unserved_taken : (old new : Walk) (path : List (List ℕ)) (answer : Answer)
-    → names_served answer ≡ None → new.root ≡ old.root → new.pending.items ≡ old.pending.items
-    → new.text.items ≡ old.text.items ++ unserved_text (length path - old.root) answer
-    → TakesIn old new (Names path) answer
-unserved_taken old new path answer none root pending told = record {
-  root = root;
-  pending = subst (λ (o : Option (List (List ℕ))). new.pending.items
-      ≡ old.pending.items ++ reverse (map (entry_of path) (looked_of path o))) (sym none)
-      (pending ∙ sym (append-nil old.pending.items));
-  told = subst (λ (o : Option (List (List ℕ))). new.text.items
-      ≡ old.text.items ++ names_told (length path - old.root) path answer o) (sym none) told;
-}
 
 -- ---- the names of a directory
 

@@ -16,7 +16,7 @@ pub(crate) fn ask<F: CleanedStore + Drop>(
     asker: &Asker,
     request: Request,
 ) -> Answer
-    ensures { Asks (cleaner_of F.state F.is_settled F.made F.cleaner)
+    ensures { Asks (cleaner_of F.state F.is_flushed F.made F.cleaner)
         volume.old volume.new asker.now (request ∷ []) (result ∷ []) }
 {
     volume.call(asker.session, &asker.cred, request)

@@ -36,7 +36,7 @@ pub(crate) fn tell_content<F: CleanedStore + Drop>(
     path: &Path,
     text: &mut Vec<u8>,
 ) -> Result<(), AllocError>
-    ensures { OnOk result (TellsLook (cleaner_of F.state F.is_settled F.made F.cleaner)
+    ensures { OnOk result (TellsLook (cleaner_of F.state F.is_flushed F.made F.cleaner)
         volume.old volume.new asker.now Content path.now text.old.items text.new.items) }
 {
     let mut bytes = Vec::new(*text.allocator());
@@ -73,7 +73,7 @@ fn read_pieces<F: CleanedStore + Drop>(
     path: &Path,
     bytes: &mut Vec<u8>,
 ) -> Result<Option<Answer>, AllocError>
-    ensures { IfOk result (λ last. HasRead (cleaner_of F.state F.is_settled F.made F.cleaner)
+    ensures { IfOk result (λ last. HasRead (cleaner_of F.state F.is_flushed F.made F.cleaner)
         volume.old volume.new asker.now path.now last bytes.old.items bytes.new.items) }
 {
     for piece in 0..MOST_PIECES {
@@ -96,7 +96,7 @@ fn read_piece<F: CleanedStore + Drop>(
     piece: u64,
 ) -> Answer
     requires { piece < 107 }
-    ensures { Asks (cleaner_of F.state F.is_settled F.made F.cleaner)
+    ensures { Asks (cleaner_of F.state F.is_flushed F.made F.cleaner)
         volume.old volume.new asker.now
         (calls.Read path (4096 * piece) 4096 ∷ []) (result ∷ []) }
 {

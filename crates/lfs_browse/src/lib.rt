@@ -1,4 +1,5 @@
-//! What directories have and a file holds, for people: calls of one caller, each entered as any, and their answers as text.
+//! What directories have and a file holds, for people: calls of one caller, each entered as any, and their answers as
+//! text.
 #![tactic(auto)]
 
 pub mod asking;

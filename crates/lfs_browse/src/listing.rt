@@ -35,7 +35,7 @@ pub(crate) fn tell_listing<F: CleanedStore + Drop>(
     path: &Path,
     text: &mut Vec<u8>,
 ) -> Result<(), AllocError>
-    ensures { OnOk result (TellsLook (cleaner_of F.state F.is_settled F.made F.cleaner)
+    ensures { OnOk result (TellsLook (cleaner_of F.state F.is_flushed F.made F.cleaner)
         volume.old volume.new asker.now Listing path.now text.old.items text.new.items) }
 {
     let alloc = *text.allocator();
@@ -54,7 +54,7 @@ fn tell_listed<F: CleanedStore + Drop>(
     answer: &Answer,
     text: &mut Vec<u8>,
 ) -> Result<(), AllocError>
-    ensures { OnOk result (TellsListed (cleaner_of F.state F.is_settled F.made F.cleaner)
+    ensures { OnOk result (TellsListed (cleaner_of F.state F.is_flushed F.made F.cleaner)
         volume.old volume.new asker.now path.now answer.now text.old.items text.new.items) }
 {
     match names_served(answer) {
@@ -82,7 +82,7 @@ fn tell_names<F: CleanedStore + Drop>(
     names: &[Name],
     text: &mut Vec<u8>,
 ) -> Result<(), AllocError>
-    ensures { OnOk result (TellsNames (cleaner_of F.state F.is_settled F.made F.cleaner)
+    ensures { OnOk result (TellsNames (cleaner_of F.state F.is_flushed F.made F.cleaner)
         volume.old volume.new asker.now directory.now names.now text.old.items text.new.items) }
 {
     let first = first_of(names);
@@ -110,7 +110,7 @@ fn tell_rows<F: CleanedStore + Drop>(
     names: &[Name],
     text: &mut Vec<u8>,
 ) -> Result<usize, AllocError>
-    ensures told { IfOk result (λ _. TellsRows (cleaner_of F.state F.is_settled F.made F.cleaner)
+    ensures told { IfOk result (λ _. TellsRows (cleaner_of F.state F.is_flushed F.made F.cleaner)
         volume.old volume.new asker.now directory.now names.now text.old.items text.new.items) }
     ensures counted { IfOk result (λ rows.
         rows ≡ length (filter (has_path directory.now) names.now)) }
@@ -131,7 +131,7 @@ fn tell_row<F: CleanedStore + Drop>(
     name: &Name,
     text: &mut Vec<u8>,
 ) -> Result<usize, AllocError>
-    ensures told { IfOk result (λ _. TellsRows (cleaner_of F.state F.is_settled F.made F.cleaner)
+    ensures told { IfOk result (λ _. TellsRows (cleaner_of F.state F.is_flushed F.made F.cleaner)
         volume.old volume.new asker.now directory.now (name.now ∷ [])
         text.old.items text.new.items) }
     ensures counted { IfOk result (λ rows. rows

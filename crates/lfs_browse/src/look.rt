@@ -14,8 +14,8 @@ use lfs_types::path::Path;
 use lfs_volume::volume::Volume;
 use std::alloc::{AllocError, Global};
 
-/// Looks at a path by calls of one caller, at most 107, each judged by the rules and entered as any, and gives what is told
-/// of their answers.
+/// Looks at a path by calls of one caller, at most 107, each judged by the rules and entered as any, and gives what is
+/// told of their answers.
 ///
 /// # Errors
 ///
@@ -27,7 +27,7 @@ pub fn tell_look<F: CleanedStore + Drop>(
     look: Look,
     path: &Path,
 ) -> Result<Vec<u8>, AllocError>
-    ensures { IfOk result (λ text. TellsLook (cleaner_of F.state F.is_settled F.made F.cleaner)
+    ensures { IfOk result (λ text. TellsLook (cleaner_of F.state F.is_flushed F.made F.cleaner)
         volume.old volume.new asker.now look path.now [] text.items) }
 {
     let mut text = Vec::new(alloc);
@@ -43,7 +43,7 @@ fn push_look<F: CleanedStore + Drop>(
     path: &Path,
     text: &mut Vec<u8>,
 ) -> Result<(), AllocError>
-    ensures { OnOk result (TellsLook (cleaner_of F.state F.is_settled F.made F.cleaner)
+    ensures { OnOk result (TellsLook (cleaner_of F.state F.is_flushed F.made F.cleaner)
         volume.old volume.new asker.now look path.now text.old.items text.new.items) }
 {
     match look {

@@ -7,8 +7,8 @@ ghost use Rattle.lfs_browse.specs.Spelled.{char_text, is_other, is_unended, spel
 
 use std::alloc::AllocError;
 
-/// Appends bytes as text, in which a line feed and what is from a space to a tilde stands for itself, but for a backslash;
-/// behind it is how the last line ends.
+/// Appends bytes as text, in which a line feed and what is from a space to a tilde stands for itself, but for a
+/// backslash; behind it is how the last line ends.
 #[tactic(auto, unfolding(crate::specs::Spelled::spelled))]
 pub(crate) fn push_spelled(out: &mut Vec<u8>, bytes: &[u8]) -> Result<(), AllocError>
     ensures { OnOk result (out.new.items ≡ out.old.items ++ spelled bytes.now) }

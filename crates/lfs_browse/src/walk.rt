@@ -49,7 +49,7 @@ pub(crate) fn tell_tree<F: CleanedStore + Drop>(
     path: &Path,
     text: &mut Vec<u8>,
 ) -> Result<(), AllocError>
-    ensures { OnOk result (TellsLook (cleaner_of F.state F.is_settled F.made F.cleaner)
+    ensures { OnOk result (TellsLook (cleaner_of F.state F.is_flushed F.made F.cleaner)
         volume.old volume.new asker.now Tree path.now text.old.items text.new.items) }
 {
     let mut walk = Walk::below(*text.allocator(), path)?;
@@ -80,7 +80,7 @@ impl Walk {
         volume: &mut Volume<F>,
         asker: &Asker,
     ) -> Result<(), AllocError>
-        ensures { OnOk result (HasEnded (cleaner_of F.state F.is_settled F.made F.cleaner)
+        ensures { OnOk result (HasEnded (cleaner_of F.state F.is_flushed F.made F.cleaner)
             volume.old volume.new asker.now self.old self.new) }
     {
         for _ in 0..MOST_VISITS {
@@ -101,7 +101,7 @@ impl Walk {
         asker: &Asker,
         visit: &Visit,
     ) -> Result<(), AllocError>
-        ensures { OnOk result (Visits (cleaner_of F.state F.is_settled F.made F.cleaner)
+        ensures { OnOk result (Visits (cleaner_of F.state F.is_flushed F.made F.cleaner)
             volume.old volume.new asker.now self.old self.new visit.now) }
     {
         let request = visit.request(*self.text.allocator())?;

@@ -1,6 +1,6 @@
 //! A film, and the lines that it is shown.
 
-ghost use Rattle.std.specs.Prelude.{◌≡◌, ◌≤◌, length, IfOk, OnErr, OnOk};
+ghost use Rattle.std.specs.Prelude.{◌≡◌, ◌≤◌, [], length, IfOk, OnErr, OnOk};
 ghost use Rattle.std.specs.Io.KnownBytes.{Appends};
 ghost use Rattle.lfs_film.specs.Films.{empty_reel, frame_of, page_text, with_frame_text, with_line};
 ghost use Rattle.lfs_film.specs.Frames.{changed_owners, changed_rows};
@@ -24,12 +24,51 @@ use std::marker::Model;
 /// The most bytes of the text of a film's frames.
 pub const FRAMES_MAX: usize = 19_000_000;
 
+/// What a log shows at a time.
+#[derive(Drop)]
+struct Picture {
+    /// The rows of its map.
+    rows: Vec<Row>,
+    /// Whose the blocks of each segment are.
+    owners: Vec<Row>,
+    /// What waits.
+    waiting: Vec<u8>,
+}
+
+impl Picture {
+    /// Nothing.
+    fn empty(alloc: Global) -> Picture
+        ensures rows { result.rows.items ≡ [] }
+        ensures owners { result.owners.items ≡ [] }
+        ensures waiting { result.waiting.items ≡ [] }
+    {
+        Picture {
+            rows: Vec::new(alloc),
+            owners: Vec::new(alloc),
+            waiting: Vec::new(alloc),
+        }
+    }
+
+    /// What a store's log shows.
+    fn of(alloc: Global, store: &LogStore) -> Result<Picture, AllocError>
+        ensures rows { IfOk result (λ picture. picture.rows.items ≡ rows_of store.now) }
+        ensures owners { IfOk result (λ picture. picture.owners.items ≡ owners_of store.now) }
+        ensures waiting { IfOk result (λ picture. picture.waiting.items
+            ≡ waiting_text store.now) }
+    {
+        Ok(Picture {
+            rows: rows(alloc, store)?,
+            owners: owners(alloc, store)?,
+            waiting: waiting(alloc, store)?,
+        })
+    }
+}
+
 /// A film of a log: a frame for each line that was shown, with what it changed.
 #[derive(Drop)]
 pub struct Film {
-    rows: Vec<Row>,
-    owners: Vec<Row>,
-    waiting: Vec<u8>,
+    /// What the log showed as the last line left it.
+    last: Picture,
     lines: u64,
     frames: Vec<u8>,
     is_full: bool,
@@ -42,9 +81,9 @@ impl Model for Film {
     ghost Value = { Reel };
 
     ghost view = { λ f. record {
-      rows = f.rows.items;
-      owners = f.owners.items;
-      waiting = f.waiting.items;
+      rows = f.last.rows.items;
+      owners = f.last.owners.items;
+      waiting = f.last.waiting.items;
       lines = f.lines;
       frames = f.frames.items;
       is_full = f.is_full;
@@ -59,9 +98,7 @@ impl Film {
         ensures { result ≡ empty_reel }
     {
         Film {
-            rows: Vec::new(alloc),
-            owners: Vec::new(alloc),
-            waiting: Vec::new(alloc),
+            last: Picture::empty(alloc),
             lines: 0,
             frames: Vec::new(alloc),
             is_full: false,
@@ -93,39 +130,34 @@ impl Film {
         let Some(lines) = self.lines.checked_add(1) else {
             return Err(AllocError);
         };
-        let rows = rows(alloc, store)?;
-        let owners = owners(alloc, store)?;
-        let waiting = waiting(alloc, store)?;
-        let (rows_now, owners_now) = (rows.as_slice(), owners.as_slice());
-        let frame = self.frame_of(alloc, line, told, waiting.as_slice(), rows_now, owners_now)?;
+        let picture = Picture::of(alloc, store)?;
+        let frame = self.frame_of(alloc, line, told, &picture)?;
         self.add(frame.as_slice())?;
-        self.rows = rows;
-        self.owners = owners;
-        self.waiting = waiting;
+        self.last = picture;
         self.lines = lines;
         Ok(())
     }
 
-    /// The frame of a line.
+    /// The frame of a line, which left the log as this picture shows it.
     fn frame_of(
         &self,
         alloc: Global,
         line: &[u8],
         told: &[u8],
-        waiting: &[u8],
-        rows: &[Row],
-        owners: &[Row],
+        picture: &Picture,
     ) -> Result<Vec<u8>, AllocError>
         ensures { IfOk result (λ text. text.items
-            ≡ frame_of self.now.lines line.now told.now waiting.now
-            (changed_rows self.now.rows rows.now) (changed_owners self.now.owners owners.now)) }
+            ≡ frame_of self.now.lines line.now told.now picture.now.waiting.items
+            (changed_rows self.now.rows picture.now.rows.items)
+            (changed_owners self.now.owners picture.now.owners.items)) }
     {
-        let rows = changed_rows(alloc, self.rows.as_slice(), rows)?;
+        let rows = changed_rows(alloc, self.last.rows.as_slice(), picture.rows.as_slice())?;
         let line = short_line(alloc, line)?;
         let told = short_told(alloc, told)?;
-        let head = [line.as_slice(), told.as_slice(), waiting];
+        let head = [line.as_slice(), told.as_slice(), picture.waiting.as_slice()];
         let mut text = begin(alloc, self.lines, &head, rows.as_slice())?;
-        push_owners(alloc, &mut text, self.owners.as_slice(), owners)?;
+        let owners = picture.owners.as_slice();
+        push_owners(alloc, &mut text, self.last.owners.as_slice(), owners)?;
         end(&mut text)?;
         Ok(text)
     }

@@ -1,5 +1,9 @@
--- What a line says.
-use Rattle.std.proofs.Common.{◌≡◌, ℕ, ◌<◌, ◌≤◌, true, false, List, [], ◌∷◌, length, map, get_or, Result, Ok, Err, refl}
+-- What a line says, a lemma for each way through `hear`, `hear_dotted`, `hear_word`, `hear_tree` and `hear_upkeep`:
+-- `heard_long`, `heard_dot`, `heard_why` and so on. The functions and `heard_of` test how the line begins in the same
+-- order, so each lemma is a rewriting by the tests that the code made: those before weren't met, this one was. What
+-- stands behind a word of n bytes is all the rest of the line (`rest_of`, `rest_behind`), and more words than two are
+-- none of the server's own (`dot_many`).
+use Rattle.std.proofs.Common.{◌≡◌, ℕ, ◌<◌, ◌≤◌, true, false, List, [], ◌∷◌, length, map, Result, Ok, Err, refl}
 use Rattle.std.proofs.Common.{Bor, ap, subst, ◌∙◌, arith}
 use Rattle.std.specs.Prelude.{◌-◌, codes, drop, nat_eq, take}
 use Rattle.std.proofs.Common.{length-drop}
@@ -15,7 +19,7 @@ use Rattle.lfs_words.specs.declared.fault.FaultKind.{FaultKind}
 use Rattle.lfs_words.specs.declared.fault.FaultKind.TheVariants.{Words}
 use Rattle.lfs_hearing.specs.declared.look.Look.TheVariants.{Listing, Content, Tree}
 use Rattle.lfs_hearing.specs.Hearing.{asked_heard, asks_check, asks_save, asks_tree, call_heard, dot_heard, dot_of}
-use Rattle.lfs_hearing.specs.Hearing.{dot_said, dot_with, dotted_heard, heard_of, is_dotted, lone_dot, look_heard}
+use Rattle.lfs_hearing.specs.Hearing.{dot_said, dotted_heard, heard_of, is_dotted, look_heard}
 use Rattle.lfs_hearing.specs.Hearing.{path_said, tree_heard, upkeep_heard, word_heard}
 use Rattle.lfs_hearing.specs.declared.fault.LineFault.TheVariants.{TooLong}
 use Rattle.lfs_hearing.specs.declared.hearing.Dot.{Dot}
@@ -56,21 +60,6 @@ pub heard_call : (line : List ℕ) → length line ≤ 65536 → is_dotted line 
     ≡ heard_of line
 unfolding heard_of
 heard_call line few dotted = rw (le-ltb 65536 (length line) few, dotted) refl
-
--- a lone word
-pub lone_there : {A : Type 0} (f : A → List ℕ) (words : List A) (d : A) → 1 ≤ length words → length words < 2
-    → lone_dot (f (get_or words 0 d)) ≡ dot_of (map f words)
-lone_there f [] d least most = absurd (omega arith)
-lone_there f (a ∷ []) d least most = refl
-lone_there f (a ∷ b ∷ more) d least most = absurd (omega arith)
-
--- a word and what it is given
-pub pair_there : {A : Type 0} (f : A → List ℕ) (words : List A) (d : A) → 2 ≤ length words → length words < 3
-    → dot_with (f (get_or words 0 d)) (f (get_or words 1 d)) ≡ dot_of (map f words)
-pair_there f [] d least most = absurd (omega arith)
-pair_there f (a ∷ []) d least most = absurd (omega arith)
-pair_there f (a ∷ b ∷ []) d least most = refl
-pair_there f (a ∷ b ∷ c ∷ more) d least most = absurd (omega arith)
 
 -- what stands behind `.why ` or `.who `
 pub rest_of : (line : List ℕ) → take (length line - 5) (drop 5 line) ≡ drop 5 line

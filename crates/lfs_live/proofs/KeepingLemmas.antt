@@ -1,4 +1,9 @@
--- What was handed out, and what the sink has, line by line.
+-- What was handed out, and what the sink has, line by line: `kept_none`, `kept_moved` and `kept_tidied` for TalkLemmas,
+-- `moves_none`, `moves_given`, `moves_closed` and `moves_if_out` for `Tended::move_on` and `keep_up`. Whatever a line
+-- asks, it leaves the entries of the journal and puts others behind them (`line_follows`), so the sink lacks just
+-- these, and behind each line it has all that were handed out and all of the journal (`HasKept`). Handing out empties
+-- the journal, and it begins anew where its entries led, so all of them together stay legal from where the talk began.
+-- Of a sink that takes no more nothing is claimed, and it takes no more ever after (`on_opened`).
 use Rattle.std.proofs.Common.{◌≡◌, ℕ, zero, suc, ◌+◌, ◌≤◌, ◌⊎◌, Bool, true, false, OnErr, OnOk, Result, Ok, Err, List, [], ◌∷◌, ◌++◌}
 use Rattle.std.proofs.Common.{length, drop, inl, inr, refl, sym, ap, subst, ◌∙◌, arith, append_assoc}
 use Rattle.std.proofs.Common.{append-nil}

@@ -1,7 +1,7 @@
 pub mod KeepingLemmas
 pub mod LineLemmas
 pub mod SameLemmas
-pub mod SettleLemmas
+pub mod FlushLemmas
 pub mod StartLemmas
 pub mod TalkLemmas
 pub mod TellingLemmas

@@ -1,4 +1,9 @@
--- A line is read byte by byte, and of a long one the first 65,537 bytes say that it is long.
+-- A line is read byte by byte, and of a long one the first 65,537 bytes say that it is long: `part_more`, `part_ended`,
+-- `part_failed` and `part_unkept` for the loop of `read_line`, `kept_more` and `kept_full` for `keep`. What is kept is
+-- the first 65,537 bytes of what was read. One byte more is put behind what is kept, or is left out where there are as
+-- many already, and either is the first 65,537 again (`take-again`). A line is too long just where what is kept of it
+-- is (`long_kept`), and one that isn't is kept whole; so what is kept says what the line says (`heard_kept`, `cut_kept`
+-- for TalkLemmas).
 use Rattle.std.proofs.Common.{◌≡◌, ◌≢◌, ℕ, zero, suc, ◌+◌, ◌<◌, ◌≤◌, min, Bool, true, false, List, [], ◌∷◌, ◌++◌}
 use Rattle.std.proofs.Common.{length, take, Option, refl, sym, ap, subst, ◌∙◌, arith, length-append, length-take}
 use Rattle.std.proofs.Common.{if◌then◌else◌}

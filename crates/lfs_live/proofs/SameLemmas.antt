@@ -1,4 +1,9 @@
--- A talk whose lines are a script does what a run of the script does.
+-- A talk whose lines are a script does what a run of the script does: `script_law`, for the law `writes_as_script`. No
+-- verb begins with a dot, so no line of a script does, and each that is short enough is heard as the script says it
+-- (`heard-said`). Then by induction on the lines: the volume became what it is by what the plan's draft asks for so far
+-- (`Followed`), and the plan goes on behind it (`Goes`); without a sink and without passes unasked nothing else moves
+-- it (`unmoved`). The talk ends where the script does: `.quit` is no line of a script, and a last line without a line
+-- feed would be its fault (`script-ends`).
 use Rattle.std.proofs.Common.{◌≡◌, ℕ, ◌+◌, ◌≤◌, ◌⊎◌, Bool, true, false, cond, List, [], ◌∷◌, ◌++◌, length, Option, None}
 use Rattle.std.proofs.Common.{Some, Result, Ok, Err, inl, inr, refl, sym, ap, subst, ◌∙◌, arith, append_assoc}
 use Rattle.std.proofs.Common.{append-nil}

@@ -1,4 +1,7 @@
--- Talks over fresh volumes.
+-- Talks over fresh volumes: `fresh_log`, `log_fault`, `begun_talk`, `begun_heard` and `kept_as` for `run_kept`;
+-- lfs_programs takes `begun`. A volume that was just laid out has no entries, and nothing was counted of it, so it is
+-- one with which a talk begins, and what is promised of a talk holds of it; its journal began at the opening tree. No
+-- fault of a talk is one of the format, so it is one of those over a fresh volume (`log_fault`).
 use Rattle.std.proofs.Common.{◌≡◌, ℕ, Bool, List, [], refl, subst, sym, Option, Result, Ok, Err, IfErr}
 use Rattle.lfs_parts.specs.declared.parts.Parts.{Parts}
 use Rattle.lfs_types.specs.Tree.{opening_world}

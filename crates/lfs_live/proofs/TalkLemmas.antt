@@ -1,4 +1,9 @@
--- Lines are heard one after another.
+-- Lines are heard one after another: `heard_none`, `heard_next`, `heard_last`, `heard_failed` and `heard_enough` for
+-- the loop of `hear_all`, `talk_ended` and `talk_failed` for `talk`. `HasHeard` has the lines so far with the text of
+-- each; a further line has the number behind theirs, is heard by the volume and the speaker that they left, and goes to
+-- the end of both lists (`hears-more`), while KeepingLemmas says what became of its entries. That there was a fault is
+-- a disjunction over all lines (`faulty-more`). What is behind the last line feed is no line: if it has no bytes
+-- nothing is told of it, else that it is cut off (`cut_silent`, `cut_told`).
 use Rattle.std.proofs.Common.{◌≡◌, ◌==◌, ◌≢◌, ℕ, ◌+◌, List, [], ◌∷◌, ◌++◌, length, Bool, true, false, ◌||◌, Result, Ok, Err}
 use Rattle.std.proofs.Common.{IfOk, Option, inl, inr, refl, sym, ap, subst, ◌∙◌, append-nil, arith, length-append}
 use Rattle.std.specs.Io.KnownBytes.{Appends, Consumes, Keeps}

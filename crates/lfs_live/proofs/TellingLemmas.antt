@@ -1,14 +1,16 @@
--- What is told of a volume, from wherever its journal began.
-use Rattle.std.proofs.Common.{◌≡◌, ℕ, List, [], ◌++◌, Option, Some, Result, Ok, Err, refl, sym, ap, subst, ◌∙◌}
+-- What a line is answered, a lemma for each kind, for `telling::answer`: `asks_answered`, `look_answered`,
+-- `check_answered`, `save_answered`, `dot_answered` and `fault_answered`. Each puts what the code did into the case
+-- that `heard_of` has for the line. Only a line of a script has answers that count; of each other kind the counts stay
+-- (`none_answered`). A text is told of the tree of now, which is known from each world where the journal may have
+-- begun; `if_ok_at` and `if_ok_from` bring a result's promise to such a world.
+use Rattle.std.proofs.Common.{◌≡◌, ℕ, List, [], Some, Result, Ok, Err, refl, sym, ap, subst, ◌∙◌}
 use Rattle.std.proofs.Common.{append-nil}
 use Rattle.std.specs.Prelude.{IfOk}
 use Rattle.lfs_types.specs.declared.request.Request.{Request}
 use Rattle.lfs_model.specs.declared.journal.Entry.{Entry}
 use Rattle.lfs_model.specs.declared.steps.StepAnswer.{StepAnswer}
-use Rattle.lfs_script.specs.declared.plan.Line.{Line}
-use Rattle.lfs_sinks.specs.Refusals.{AddsUp, tally_of}
+use Rattle.lfs_sinks.specs.Refusals.{tally_of}
 use Rattle.lfs_sinks.specs.declared.totals.Tally.{Tally}
-use Rattle.lfs_sinks.proofs.RefusalLemmas.{tally_is}
 use Rattle.lfs_volume.specs.Journals.{AtPresent}
 use Rattle.lfs_volume.specs.Seen.{Seen}
 use Rattle.lfs_hearing.specs.Hearing.{heard_of}
@@ -17,7 +19,7 @@ use Rattle.lfs_live.specs.Steps.{HasAnswered}
 use Rattle.lfs_live.specs.Talkers.{Talker}
 use Rattle.lfs_browse.specs.Looks.{TellsLook}
 use Rattle.lfs_hearing.specs.declared.look.Look.{Look}
-use Rattle.lfs_live.specs.Talking.{Does, Hears, IsAnsweredBy, LooksOn}
+use Rattle.lfs_live.specs.Talking.{Hears, IsAnsweredBy, LooksOn}
 use Rattle.lfs_live.specs.Telling.{dot_text}
 use Rattle.lfs_hearing.specs.FaultLines.{fault_line}
 use Rattle.lfs_hearing.specs.declared.fault.LineFault.{LineFault}
@@ -42,29 +44,6 @@ if_ok_from (Ok a) P Q R S T holds = holds
 if_ok_from (Err e) P Q R S T holds = λ w p q r s. tt
 
 -- ---- what a line answers
-
--- further answers were counted
-counted_more : (tally after : Tally) (given : List StepAnswer) → after.totals ≡ tally.totals
-    → AddsUp tally.refusals after.refusals given → (handed : List Entry) (answers : List StepAnswer)
-    → tally ≡ tally_of handed answers → after ≡ tally_of handed (answers ++ given)
-counted_more tally after given same adds = λ handed answers is.
-    tally_is after handed (answers ++ given) (same ∙ ap (λ (t : Tally). t.totals) is)
-    (adds answers (ap (λ (t : Tally). t.refusals) is))
-
--- a line of a script was done
-pub line_answered : {F : Type 0} (r : Talker F) (number : ℕ) (old new : Seen F) (tally after : Tally) (speaker
-    then : Asker) (line : List ℕ) (said : Line) (told : List ℕ) → heard_of line ≡ heard.Line said
-    → after.totals ≡ tally.totals
-    → (given : List StepAnswer) × Does r.cleaner old speaker said told new then given
-    × AddsUp tally.refusals after.refusals given
-    → HasAnswered r number old new tally after speaker then (heard_of line) told
-line_answered {F} r number old new tally after speaker then line said told is same (given, does, adds) =
-    subst (λ (h : Heard). HasAnswered r number old new tally after speaker then h told) (sym is)
-    (record {
-      given = given;
-      heard = λ handed answers counted. does;
-      counted = counted_more tally after given same adds;
-    })
 
 -- nothing was done
 pub none_answered : {F : Type 0} (r : Talker F) (number : ℕ) (old new : Seen F) (tally : Tally) (speaker

@@ -6,12 +6,12 @@ use Rattle.lfs_types.specs.declared.answer.Answer.TheVariants.{Served}
 use Rattle.lfs_types.specs.declared.answer.Served.TheVariants.{Done}
 
 -- behind one that is done nothing waits
-pub sync_settles : {A E : Type 0} (answer : Answer) (outcome : Result A E) (Settled : Type 0)
-    → (answer ≡ Served Done → Settled)
+pub sync_flushes : {A E : Type 0} (answer : Answer) (outcome : Result A E) (Flushed : Type 0)
+    → (answer ≡ Served Done → Flushed)
     → MatchResult outcome (λ _. answer ≡ Served Done) (λ _. answer ≢ Served Done)
-    → MatchResult outcome (λ _. (answer ≡ Served Done) × Settled) (λ _. answer ≢ Served Done)
-sync_settles answer (Ok a) Settled settles done = (done, settles done)
-sync_settles answer (Err e) Settled settles undone = undone
+    → MatchResult outcome (λ _. (answer ≡ Served Done) × Flushed) (λ _. answer ≢ Served Done)
+sync_flushes answer (Ok a) Flushed flushes done = (done, flushes done)
+sync_flushes answer (Err e) Flushed flushes undone = undone
 
 -- what holds of a result where something does, which does
 pub if_ok_given : {A E W : Type 0} (result : Result A E) (Q : A → Type 0) → IfOk result (λ a. W → Q a) → W

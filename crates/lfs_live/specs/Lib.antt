@@ -7,7 +7,7 @@ pub mod JournalText
 pub mod Pieces
 pub mod Saving
 pub mod Scripts
-pub mod Settling
+pub mod Flushing
 pub mod Steps
 pub mod Talkers
 pub mod Talking

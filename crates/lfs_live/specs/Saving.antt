@@ -28,7 +28,7 @@ IsFaultTold number fault told = (why : List ℕ) × (told ≡ fault_line number 
 -- The Sync is done, nothing waits behind it, and store and level are kept, which is told.
 pub record IsKeptNow {F : Type 0} (r : Talker F) (new : Seen F) (answer : Answer) (told : List ℕ) : Type 0 where
   pub done : answer ≡ Served Done
-  pub settled : r.cleaner.is_settled new.store
+  pub flushed : r.cleaner.is_flushed new.store
   pub kept : r.kept new.store new.level
   pub is : told ≡ codes "saved\n"
 

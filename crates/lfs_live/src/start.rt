@@ -35,10 +35,21 @@ pub struct Setup<J: Drop, V: Drop> {
     pub witnesses: Witnesses<J, V>,
 }
 
-/// Reads lines up to the end of the input, or to one that quits; does what each says on a fresh volume over the log store,
-/// and writes what is told of it, before it reads the next; and then writes the report. One who watches is shown the fresh
-/// store, with an empty line of which nothing is told, and then each line that was answered. A sink that still takes entries
-/// at the end, when the witnesses are handed back, has each.
+/// What a talk without a sink is set up with.
+#[derive(Drop)]
+pub struct Watched<V: Drop> {
+    /// The parameters of the volume.
+    pub params: Params,
+    /// Whether the cleaner makes a pass unasked behind each line that leaves at most three segments clean.
+    pub cleans: bool,
+    /// The one who watches.
+    pub watch: V,
+}
+
+/// Reads lines up to the end of the input, or to one that quits; does what each says on a fresh volume over the log
+/// store, and writes what is told of it, before it reads the next; and then writes the report. One who watches is shown
+/// the fresh store, with an empty line of which nothing is told, and then each line that was answered. A sink that
+/// still takes entries at the end, when the witnesses are handed back, has each.
 ///
 /// # Errors
 ///
@@ -80,8 +91,8 @@ pub fn run_kept<J: JournalSink + Drop, V: Watch<LogStore> + Drop, R: Read, W: Wr
     Ok(tended.into_witnesses())
 }
 
-/// A talk over a volume, whatever tree it begins at: one who watches is shown its store, with an empty line of which nothing
-/// is told, before the first line. Whether a line had a fault.
+/// A talk over a volume, whatever tree it begins at: one who watches is shown its store, with an empty line of which
+/// nothing is told, before the first line. Whether a line had a fault.
 ///
 /// # Errors
 ///
@@ -121,23 +132,28 @@ pub fn run_watched<V: Watch<LogStore> + Drop, R: Read, W: Write>(
     alloc: Global,
     reader: &mut R,
     writer: &mut W,
-    watch: V,
-    params: Params,
-    cleans: bool,
+    watched: Watched<V>,
 ) -> Result<V, RunFault>
-    ensures written { OnOk result (IsLogTalk
-        V.kept params.segments params.inodes params.frames params.journal
-        (record { is_open = false; cleans = cleans; framing = Plain })
+    ensures written { let p = watched.params in OnOk result (IsLogTalk
+        V.kept p.segments p.inodes p.frames p.journal
+        (record { is_open = false; cleans = watched.cleans; framing = Plain })
         (R.remaining reader.old) (R.remaining reader.new)
         (W.contents writer.old) (W.contents writer.new)) }
-    ensures so_far { IfErr result (λ fault. fault ≡ Failed → HasHeardOfLog
-        V.kept params.segments params.inodes params.frames params.journal
-        (record { is_open = false; cleans = cleans; framing = Plain })
+    ensures so_far { let p = watched.params in IfErr result (λ fault. fault ≡ Failed → HasHeardOfLog
+        V.kept p.segments p.inodes p.frames p.journal
+        (record { is_open = false; cleans = watched.cleans; framing = Plain })
         (R.remaining reader.old) (R.remaining reader.new)
         (W.contents writer.old) (W.contents writer.new)) }
-    ensures ranges { OnOk result (IsInRange params.segments params.inodes params.frames) }
-    ensures fault { IfErr result (IsLogFault params.segments params.inodes params.frames) }
+    ensures ranges { let p = watched.params in
+        OnOk result (IsInRange p.segments p.inodes p.frames) }
+    ensures fault { let p = watched.params in
+        IfErr result (IsLogFault p.segments p.inodes p.frames) }
 {
+    let Watched {
+        params,
+        cleans,
+        watch,
+    } = watched;
     let witnesses = Witnesses {
         sink: Nowhere,
         is_open: false,
@@ -181,7 +197,12 @@ pub fn run_lines<R: Read, W: Write>(
     ensures ranges { OnOk result (IsInRange params.segments params.inodes params.frames) }
     ensures fault { IfErr result (IsLogFault params.segments params.inodes params.frames) }
 {
-    match run_watched(alloc, reader, writer, Nobody, params, false) {
+    let watched = Watched {
+        params,
+        cleans: false,
+        watch: Nobody,
+    };
+    match run_watched(alloc, reader, writer, watched) {
         Ok(_) => Ok(()),
         Err(fault) => Err(fault),
     }

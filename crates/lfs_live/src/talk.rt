@@ -22,7 +22,7 @@ ghost use Rattle.lfs_hearing.specs.declared.hearing.Heard.TheVariants as heard;
 
 use crate::framing::Framing;
 use crate::line::read_line;
-use crate::telling::{NumberedLine, answer, first_speaker, tell_cut, tell_report};
+use crate::telling::{NumberedLine, Said, answer, first_speaker, tell_cut, tell_report};
 use crate::tended::Tended;
 use crate::watch::Watch;
 use lfs_audit::asker::Asker;
@@ -58,11 +58,12 @@ pub(crate) struct Standing {
     has_fault: bool,
 }
 
-/// Reads lines up to the end of the input, or to one that quits; does what each says on a volume, and writes what is told
-/// of it, before it reads the next; and then writes the report. One who watches is shown each line that was answered. The
-/// entries of each line are given to a sink before the line is answered, and handed out where there is no room for what a
-/// line may ask for; why the sink takes no more is told at once, and no call is served from then on. Whether a line had a
-/// fault, or there is one behind the last line feed. The clauses speak of a volume with an empty journal.
+/// Reads lines up to the end of the input, or to one that quits; does what each says on a volume, and writes what is
+/// told of it, before it reads the next; and then writes the report. One who watches is shown each line that was
+/// answered. The entries of each line are given to a sink before the line is answered, and handed out where there is no
+/// room for what a line may ask for; why the sink takes no more is told at once, and no call is served from then on.
+/// Whether a line had a fault, or there is one behind the last line feed. The clauses speak of a volume with an empty
+/// journal.
 ///
 /// # Errors
 ///
@@ -82,13 +83,13 @@ pub fn talk<
     tended: &mut Tended<F, J, V>,
 ) -> Result<bool, RunFault>
     ensures written { IfOk result (λ has_fault. HasBegun tended.old → IsKeptTalk
-        (talker_of (cleaner_of F.state F.is_settled F.made F.cleaner)
+        (talker_of (cleaner_of F.state F.is_flushed F.made F.cleaner)
         F.map_text F.segment_text F.space_text F.checked V.kept)
         setting.framing (sink_of J.contents J.next)
         tended.old tended.new has_fault (R.remaining reader.old) (R.remaining reader.new)
         (W.contents writer.old) (W.contents writer.new)) }
     ensures so_far { IfErr result (λ fault. fault ≡ Read → HasBegun tended.old → HasKeptSoFar
-        (talker_of (cleaner_of F.state F.is_settled F.made F.cleaner)
+        (talker_of (cleaner_of F.state F.is_flushed F.made F.cleaner)
         F.map_text F.segment_text F.space_text F.checked V.kept)
         setting.framing (sink_of J.contents J.next)
         tended.old tended.new (R.remaining reader.old) (R.remaining reader.new)
@@ -139,13 +140,13 @@ fn hear_all<
     tended: &mut Tended<F, J, V>,
 ) -> Result<bool, RunFault>
     ensures heard { IfOk result (λ has_fault. HasBegun tended.old → HeardAll
-        (talker_of (cleaner_of F.state F.is_settled F.made F.cleaner)
+        (talker_of (cleaner_of F.state F.is_flushed F.made F.cleaner)
         F.map_text F.segment_text F.space_text F.checked V.kept)
         setting.framing (sink_of J.contents J.next)
         tended.old tended.new has_fault (R.remaining reader.old) (R.remaining reader.new)
         (W.contents writer.old) (W.contents writer.new)) }
     ensures so_far { IfErr result (λ fault. fault ≡ Read → HasBegun tended.old → HeardSoFar
-        (talker_of (cleaner_of F.state F.is_settled F.made F.cleaner)
+        (talker_of (cleaner_of F.state F.is_flushed F.made F.cleaner)
         F.map_text F.segment_text F.space_text F.checked V.kept)
         setting.framing (sink_of J.contents J.next)
         tended.old tended.new (R.remaining reader.old) (R.remaining reader.new)
@@ -206,7 +207,7 @@ impl Standing {
         tended: &mut Tended<F, J, V>,
     ) -> Result<bool, RunFault>
         ensures next { IfOk result (λ goes_on. goes_on ≡ true → HearsNext
-            (talker_of (cleaner_of F.state F.is_settled F.made F.cleaner)
+            (talker_of (cleaner_of F.state F.is_flushed F.made F.cleaner)
             F.map_text F.segment_text F.space_text F.checked V.kept) (sink_of J.contents J.next)
             tended.old tended.new self.old self.new
             (R.remaining reader.old) (R.remaining reader.new)
@@ -250,8 +251,8 @@ impl Standing {
         Ok(())
     }
 
-    /// Does what a line says, which is given without its line feed, gives the sink what it entered, and writes what is told
-    /// of it; then the cleaner makes a pass where one is due. Whether more is to be read.
+    /// Does what a line says, which is given without its line feed, gives the sink what it entered, and writes what is
+    /// told of it; then the cleaner makes a pass where one is due. Whether more is to be read.
     fn hear_line<
         F: CleanedStore + ShowsLog + ChecksLog + Drop,
         J: JournalSink + Drop,
@@ -266,7 +267,7 @@ impl Standing {
         bytes: &[u8],
     ) -> Result<bool, RunFault>
         ensures told { IfOk result (λ goes_on. goes_on ≡ true → IsTold
-            (talker_of (cleaner_of F.state F.is_settled F.made F.cleaner)
+            (talker_of (cleaner_of F.state F.is_flushed F.made F.cleaner)
             F.map_text F.segment_text F.space_text F.checked V.kept) (sink_of J.contents J.next)
             tended.old tended.new self.old self.new (heard_of bytes.now)
             (W.contents writer.old) (W.contents writer.new)) }
@@ -281,15 +282,17 @@ impl Standing {
     {
         let Setting { alloc, framing } = self.setting;
         let number = self.number;
-        let line = NumberedLine { number, bytes };
         let before = tended.volume.journal().len();
+        let said = Said {
+            line: NumberedLine { number, bytes },
+            watch: &tended.watch,
+        };
         match answer(
             alloc,
             &mut tended.volume,
             &mut tended.tally,
             &mut self.speaker,
-            &tended.watch,
-            line,
+            said,
         )? {
             Some(told) => {
                 let text = told.text.as_slice();

@@ -67,6 +67,14 @@ pub struct NumberedLine<'a> {
     pub bytes: &'a [u8],
 }
 
+/// A line that is said while one watches.
+pub struct Said<'a, V> {
+    /// The line.
+    pub line: NumberedLine<'a>,
+    /// The one who watches.
+    pub watch: &'a V,
+}
+
 /// What is told of a line.
 #[derive(Drop)]
 pub struct Told {
@@ -119,23 +127,23 @@ pub fn answer<F: CleanedStore + ShowsLog + ChecksLog + Drop, V: Watch<F>>(
     volume: &mut Volume<F>,
     tally: &mut Tally,
     speaker: &mut Asker,
-    watch: &V,
-    line: NumberedLine<'_>,
+    said: Said<'_, V>,
 ) -> Result<Option<Told>, AllocError>
     ensures told { IfOk result (λ given. MatchOption given
-        ((heard_of line.entry.bytes.now ≡ heard.Dot Quit)
+        ((heard_of said.entry.line.bytes.now ≡ heard.Dot Quit)
         × (volume.new ≡ volume.old) × (tally.new ≡ tally.old))
         (λ told. HasAnswered
-        (talker_of (cleaner_of F.state F.is_settled F.made F.cleaner)
-        F.map_text F.segment_text F.space_text F.checked V.kept) line.entry.number
+        (talker_of (cleaner_of F.state F.is_flushed F.made F.cleaner)
+        F.map_text F.segment_text F.space_text F.checked V.kept) said.entry.line.number
         volume.old volume.new tally.old tally.new speaker.old speaker.new
-        (heard_of line.entry.bytes.now) told.text.items)) }
+        (heard_of said.entry.line.bytes.now) told.text.items)) }
     ensures faulty { IfOk result (λ given. IfSome given (λ told. told.has_fault
-        ≡ is_faulty (heard_of line.entry.bytes.now) told.text.items)) }
+        ≡ is_faulty (heard_of said.entry.line.bytes.now) told.text.items)) }
 {
+    let Said { line, watch } = said;
     match hear(alloc, line.bytes)? {
-        Heard::Line(said) => {
-            let text = obey(alloc, volume, &mut tally.refusals, speaker, said)?;
+        Heard::Line(act) => {
+            let text = obey(alloc, volume, &mut tally.refusals, speaker, act)?;
             Ok(Some(Told::faultless(text)))
         }
         Heard::Asks(inquiry, request) => {
@@ -180,7 +188,7 @@ fn obey<F: CleanedStore + Drop>(
     line: Line,
 ) -> Result<Vec<u8>, AllocError>
     ensures { IfOk result (λ text. (given : List StepAnswer) × Does
-        (cleaner_of F.state F.is_settled F.made F.cleaner)
+        (cleaner_of F.state F.is_flushed F.made F.cleaner)
         volume.old speaker.old line text.items volume.new speaker.new given
         × AddsUp refusals.old refusals.new given) }
 {
@@ -208,7 +216,7 @@ fn make<F: CleanedStore + Drop>(
     act: Act,
 ) -> Result<Vec<u8>, AllocError>
     ensures { IfOk result (λ text. CountsLine
-        (cleaner_of F.state F.is_settled F.made F.cleaner)
+        (cleaner_of F.state F.is_flushed F.made F.cleaner)
         volume.old volume.new refusals.old refusals.new
         speaker.now.session speaker.now.cred act [] text.items) }
 {

@@ -9,7 +9,7 @@ ghost use Rattle.lfs_volume.specs.Cleanings.{cleaner_of};
 ghost use Rattle.lfs_volume.specs.Journals.{AtPresent, Begins};
 ghost use Rattle.lfs_volume.specs.Seen.{Seen};
 ghost use Rattle.lfs_live.specs.Held.{HasRoom, IsLetGo, MayEnter, Moves, Takes, course_of, sink_of};
-ghost use Rattle.lfs_live.specs.Settling.{IsSyncRefused, is_done};
+ghost use Rattle.lfs_live.specs.Flushing.{IsSyncRefused, is_done};
 ghost use Rattle.lfs_live.specs.Steps.{HasTidied};
 ghost use Rattle.lfs_live.specs.Talking.{first_speaker, is_due};
 ghost use Rattle.lfs_sinks.specs.Refusals.{tally_of};
@@ -43,9 +43,9 @@ const LINE_ENTRIES: usize = 107;
 /// With so many clean segments or fewer a pass is made unasked: a call is refused `NoSpace` only with fewer.
 const FEW_CLEAN: u32 = 3;
 
-/// A volume, and the sink that the entries of each line are given to while it takes them: when a window of them is full they
-/// are handed out, and the journal goes on from the present tree. Once the sink takes no more, no call is served. One who
-/// watches stands beside.
+/// A volume, and the sink that the entries of each line are given to while it takes them: when a window of them is full
+/// they are handed out, and the journal goes on from the present tree. Once the sink takes no more, no call is served.
+/// One who watches stands beside.
 #[derive(Drop)]
 pub struct Tended<F: FileStore + Drop, J: Drop, V: Drop> {
     pub(crate) volume: Volume<F>,
@@ -78,8 +78,8 @@ impl<F: FileStore + Drop, J: Drop, V: Drop> Model for Tended<F, J, V> {
 }
 
 impl<F: FileStore + Drop, J: JournalSink + Drop, V: Drop> Tended<F, J, V> {
-    /// A volume that is talked to from now on. Where it cleans, the cleaner makes a pass unasked behind each line that leaves
-    /// at most three segments clean.
+    /// A volume that is talked to from now on. Where it cleans, the cleaner makes a pass unasked behind each line that
+    /// leaves at most three segments clean.
     pub fn new(
         alloc: Global,
         volume: Volume<F>,
@@ -125,8 +125,9 @@ impl<F: FileStore + Drop, J: JournalSink + Drop, V: Drop> Tended<F, J, V> {
         }
     }
 
-    /// Gives the sink the entries behind the first so many, which a line made, and hands all out where there is no room for
-    /// what the next line may ask for. Where the sink doesn't take them, that is told once, and no call is served any more.
+    /// Gives the sink the entries behind the first so many, which a line made, and hands all out where there is no room
+    /// for what the next line may ask for. Where the sink doesn't take them, that is told once, and no call is served
+    /// any more.
     pub(crate) fn move_on<D: Write>(&mut self, teller: &mut D, before: usize)
         ensures moves { (more : List Entry)
             × Moves F.state (sink_of J.contents J.next) before self.old self.new more }
@@ -139,7 +140,8 @@ impl<F: FileStore + Drop, J: JournalSink + Drop, V: Drop> Tended<F, J, V> {
         }
     }
 
-    /// The sink takes no more, for this fault, which is told. From now on no call is served, as nobody would have its entry.
+    /// The sink takes no more, for this fault, which is told. From now on no call is served, as nobody would have its
+    /// entry.
     fn close<D: Write>(&mut self, teller: &mut D, fault: SinkFault)
         ensures { self.new ≡ record self.old { volume = closed self.old.volume; is_open = false } }
     {
@@ -148,8 +150,8 @@ impl<F: FileStore + Drop, J: JournalSink + Drop, V: Drop> Tended<F, J, V> {
         let _ = tell(teller, self.program.name(), &fault);
     }
 
-    /// Gives the sink the entries behind the first so many, and hands all out where there is no room for what a line may ask
-    /// for. Where there are none it doesn't fail.
+    /// Gives the sink the entries behind the first so many, and hands all out where there is no room for what a line
+    /// may ask for. Where there are none it doesn't fail.
     fn keep_up(&mut self, before: usize) -> Result<(), SinkFault>
         requires { self.old.is_open ≡ true }
         ensures moves { OnOk result ((more : List Entry)
@@ -221,7 +223,7 @@ impl<F: CleanedStore + Drop, J: JournalSink + Drop, V: Drop> Tended<F, J, V> {
     /// Memory ran out; some of its calls may have been made.
     pub(crate) fn tidy<D: Write>(&mut self, alloc: Global, teller: &mut D) -> Result<(), AllocError>
         ensures tidied { OnOk result ((more : List Entry) × HasTidied
-            (cleaner_of F.state F.is_settled F.made F.cleaner) (sink_of J.contents J.next)
+            (cleaner_of F.state F.is_flushed F.made F.cleaner) (sink_of J.contents J.next)
             self.old self.new more) }
         ensures silent { OnOk result (self.new.is_open ≡ self.old.is_open
             → teller.new ≡ teller.old) }
@@ -243,7 +245,7 @@ impl<F: CleanedStore + Drop, J: JournalSink + Drop, V: Drop> Tended<F, J, V> {
     /// Makes a pass of the cleaner, whose answers are not told and not counted, and moves on.
     fn pass<D: Write>(&mut self, alloc: Global, teller: &mut D) -> Result<(), AllocError>
         ensures passed { OnOk result ((more : List Entry) × (passed : Seen F) × (untold : List ℕ)
-            × TellsLine (cleaner_of F.state F.is_settled F.made F.cleaner)
+            × TellsLine (cleaner_of F.state F.is_flushed F.made F.cleaner)
             self.old.volume passed 255 first_speaker.cred Pass [] untold
             × Moves F.state (sink_of J.contents J.next) (length self.old.volume.journal)
             (record self.old { volume = passed }) self.new more) }
@@ -265,15 +267,17 @@ impl<F: CleanedStore + Drop, J: JournalSink + Drop, V: Drop> Tended<F, J, V> {
 }
 
 impl<F: FileStore + Drop, J: JournalSink + Drop, V: Drop> Tended<F, J, V> {
-    /// Writes what waits in the store behind a talk, by a Sync of the superuser as session 0. Where the journal is full, its
-    /// entries are let go before; the sink doesn't get that of the Sync, which is no line's. Whether nothing waits any more. The
-    /// tree and the securelevel stay. A Sync that isn't served is refused by the store, not for want of room in the journal.
+    /// Writes what waits in the store behind a talk, by a Sync of the superuser as session 0. Where the journal is
+    /// full, its entries are let go before; the sink doesn't get that of the Sync, which is no line's. Whether nothing
+    /// waits any more. The tree and the securelevel stay. A Sync that isn't served is refused by the store, not for
+    /// want of room in the journal.
     ///
     /// # Errors
     ///
-    /// There was no memory for the room of a journal that is full. One whose entries were handed out before has it by then.
-    pub fn settle(&mut self) -> Result<bool, AllocError>
-        ensures settled { IfOk result (λ done. done ≡ true → F.is_settled self.new.volume.store) }
+    /// There was no memory for the room of a journal that is full. One whose entries were handed out before has it by
+    /// then.
+    pub fn flush(&mut self) -> Result<bool, AllocError>
+        ensures flushed { IfOk result (λ done. done ≡ true → F.is_flushed self.new.volume.store) }
         ensures refused { IfOk result (λ done. done ≡ false → 1 ≤ self.old.volume.limit
             → IsSyncRefused F.state self.old.volume) }
         ensures shown { OnOk result (AtPresent F.state self.old.volume
@@ -284,7 +288,8 @@ impl<F: FileStore + Drop, J: JournalSink + Drop, V: Drop> Tended<F, J, V> {
         Ok(self.sync())
     }
 
-    /// Makes room in the journal for an entry: where it is full, its entries are let go. One that may have no entry has none.
+    /// Makes room in the journal for an entry: where it is full, its entries are let go. One that may have no entry has
+    /// none.
     fn make_room(&mut self) -> Result<(), AllocError>
         ensures gone { OnOk result (IsLetGo F.state self.old.volume self.new.volume) }
         ensures room { OnOk result (MayEnter self.new.volume) }
@@ -320,7 +325,7 @@ impl<F: FileStore + Drop, J: JournalSink + Drop, V: Drop> Tended<F, J, V> {
 
     /// Makes a Sync of the superuser as session 0. Whether it was served.
     fn sync(&mut self) -> bool
-        ensures settled { result ≡ true → F.is_settled self.new.volume.store }
+        ensures flushed { result ≡ true → F.is_flushed self.new.volume.store }
         ensures refused { result ≡ false → length self.old.volume.journal < self.old.volume.limit
             → IsSyncRefused F.state self.old.volume }
         ensures shown { AtPresent F.state self.old.volume

@@ -7,7 +7,7 @@ ghost use Rattle.lfs_live.specs.Saving.{IsFaultTold, Saves, Syncs};
 ghost use Rattle.lfs_live.specs.Talkers.{talker_of};
 
 use crate::telling::tell_fault;
-use crate::watch::{Unkept, Watch};
+use crate::watch::{Watch, WatchFault};
 use lfs_checking::standing::ChecksLog;
 use lfs_hearing::fault::{LineFault, Place};
 use lfs_types::answer::{Answer, Resource, Served};
@@ -39,7 +39,7 @@ pub(crate) fn save<F: CleanedStore + ShowsLog + ChecksLog + Drop, V: Watch<F>>(
     number: u64,
 ) -> Result<Vec<u8>, AllocError>
     ensures { IfOk result (λ text. Saves
-        (talker_of (cleaner_of F.state F.is_settled F.made F.cleaner)
+        (talker_of (cleaner_of F.state F.is_flushed F.made F.cleaner)
         F.map_text F.segment_text F.space_text F.checked V.kept)
         number volume.old volume.new text.items) }
 {
@@ -58,9 +58,9 @@ pub(crate) fn save<F: CleanedStore + ShowsLog + ChecksLog + Drop, V: Watch<F>>(
 /// Makes a Sync of the superuser as session 0, which is entered. Why it isn't done.
 fn sync<F: CleanedStore + Drop>(volume: &mut Volume<F>) -> Result<(), &'static str>
     ensures { (answer : Answer)
-        × Syncs (cleaner_of F.state F.is_settled F.made F.cleaner) volume.old volume.new answer
+        × Syncs (cleaner_of F.state F.is_flushed F.made F.cleaner) volume.old volume.new answer
         × MatchResult result
-        (λ _. (answer ≡ Answer.Served Served.Done) × F.is_settled volume.new.store)
+        (λ _. (answer ≡ Answer.Served Served.Done) × F.is_flushed volume.new.store)
         (λ _. answer ≢ Answer.Served Served.Done) }
 {
     let answer = volume.call(0, &first_caller(), Request::Sync);
@@ -84,10 +84,10 @@ fn outcome_of(answer: &Answer) -> Result<(), &'static str>
 }
 
 /// Why a volume is not kept.
-fn unkept_text(why: Unkept) -> &'static str {
+fn unkept_text(why: WatchFault) -> &'static str {
     match why {
-        Unkept::Unwritten => ": the image is not written",
-        Unkept::Memory => ": no memory",
+        WatchFault::Unwritten => ": the image is not written",
+        WatchFault::Memory => ": no memory",
     }
 }
 

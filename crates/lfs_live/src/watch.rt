@@ -9,15 +9,15 @@ use std::alloc::{AllocError, Global};
 
 /// Why a volume is not kept in its file.
 #[derive(Clone, Copy, PartialEq, Eq, Debug)]
-pub enum Unkept {
+pub enum WatchFault {
     /// The file did not get it, and has what it had.
     Unwritten,
     /// A growth was refused.
     Memory,
 }
 
-/// One who is shown a store of type `F` behind each line that was answered, and keeps it in a file where a line asks for that.
-/// It changes nothing of the talk.
+/// One who is shown a store of type `F` behind each line that was answered, and keeps it in a file where a line asks
+/// for that. It changes nothing of the talk.
 pub trait Watch<F: FileStore> {
     /// A file has what this store and this securelevel are.
     ghost kept: { F → Level → Type 0 };
@@ -30,8 +30,8 @@ pub trait Watch<F: FileStore> {
     /// # Errors
     ///
     /// There is none, or it is not written; `Memory`.
-    fn keep(&self, alloc: Global, store: &F, level: Level) -> Result<(), Unkept>
-        requires { F.is_settled store.now }
+    fn keep(&self, alloc: Global, store: &F, level: Level) -> Result<(), WatchFault>
+        requires { F.is_flushed store.now }
         ensures { OnOk result (kept store.now level) };
 
     /// Is shown a line without its line feed, the text that was told of it, and the store as the line left it.
@@ -59,8 +59,8 @@ impl<F: FileStore> Watch<F> for Nobody {
         false
     }
 
-    fn keep(&self, _alloc: Global, _store: &F, _level: Level) -> Result<(), Unkept> {
-        Err(Unkept::Unwritten)
+    fn keep(&self, _alloc: Global, _store: &F, _level: Level) -> Result<(), WatchFault> {
+        Err(WatchFault::Unwritten)
     }
 
     fn watch(

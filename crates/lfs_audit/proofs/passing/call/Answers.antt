@@ -8,7 +8,7 @@ use Rattle.lfs_audit.proofs.passing.call.Goals as goal
 pub returns : goal.returns
 returns g c =
     let s = g.F.CleanedStore in
-    let r = cleaner_of g.F.FileStore.state g.F.FileStore.is_settled g.F.FileStore.made s.cleaner in
+    let r = cleaner_of g.F.FileStore.state g.F.FileStore.is_flushed g.F.FileStore.made s.cleaner in
     let old = c.args.volume.now in
     let new = c.call-answer.new.self in
     let e = c.call-answer.ensures in
@@ -16,7 +16,7 @@ returns g c =
     let step = call_step asker.session asker.cred c.args.request in
     let ran = runs_one r old new step (User c.call-answer.result) e.shown
     (λ from begins. record {
-      made = call_made r.state r.is_settled from old new asker.cred c.args.request c.call-answer.result
+      made = call_made r.state r.is_flushed from old new asker.cred c.args.request c.call-answer.result
           e.full e.at_limit (e.shown from begins)
           (λ room. e.outcome room from begins) (e.entries from begins) e.unserved e.looks e.unasked e.synced e.follows;
       asked = e.asked;

@@ -9,7 +9,7 @@ use Rattle.lfs_audit.proofs.passing.clean_line.Goals as goal
 pub returns : goal.returns
 returns g c =
     let s = g.F.CleanedStore in
-    let r = cleaner_of g.F.FileStore.state g.F.FileStore.is_settled g.F.FileStore.made s.cleaner in
+    let r = cleaner_of g.F.FileStore.state g.F.FileStore.is_flushed g.F.FileStore.made s.cleaner in
     let asker = c.args.asker in
     subst (λ (call : CleanerCall). CountsLine r c.args.volume.now c.clean.new.volume c.args.refusals.now
     c.clean.new.refusals asker.session asker.cred (Cleaner call) c.args.text.now.items c.clean.new.text.items)

@@ -6,7 +6,7 @@ use Rattle.lfs_audit.proofs.RunLemmas.{IsPassing}
 abbrev pub invariant-loop-call : goal.invariant-loop-call
 invariant-loop-call g l =
     let s = g.F.CleanedStore in
-    IsPassing (cleaner_of g.F.FileStore.state g.F.FileStore.is_settled g.F.FileStore.made s.cleaner)
+    IsPassing (cleaner_of g.F.FileStore.state g.F.FileStore.is_flushed g.F.FileStore.made s.cleaner)
     l.fn.volume l.volume l.fn.refusals l.refusals l.asker.session l.asker.cred l.pass l.last l.fn.text.items l.text.items
 
 abbrev pub decreases-loop-call : goal.decreases-loop-call

@@ -6,7 +6,7 @@ use Rattle.lfs_audit.proofs.run.print_steps.Given as goal
 abbrev pub invariant-loop-step : goal.invariant-loop-step
 invariant-loop-step g l =
     let s = g.F.CleanedStore in
-    WritesLines (cleaner_of g.F.FileStore.state g.F.FileStore.is_settled g.F.FileStore.made s.cleaner)
+    WritesLines (cleaner_of g.F.FileStore.state g.F.FileStore.is_flushed g.F.FileStore.made s.cleaner)
     l.fn.volume l.volume l.fn.refusals l.refusals l.yielded
     (append_known (g.W.Write.contents l.fn.writer) l.fn.text.items)
     (append_known (g.W.Write.contents l.writer) l.text.items)

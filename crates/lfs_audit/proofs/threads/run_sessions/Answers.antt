@@ -16,8 +16,8 @@ use Rattle.lfs_audit.proofs.threads.run_sessions.Goals as goal
 pub print_closed-requires : goal.print_closed-requires
 print_closed-requires g c =
     let closed = c.in_ok-closed.closed in
-    let scripts = c.args.sessions.1 in
-    let few = transcripts_few (run_of closed.volume.journal closed.volume.limit c.args.sessions.0 closed.setup.items
+    let scripts = c.args.sessions.scripts in
+    let few = transcripts_few (run_of closed.volume.journal closed.volume.limit c.args.sessions.setup closed.setup.items
     scripts.items closed.transcripts.items) c.in_ok-closed.ensures.settled in
     let lists = length-map closed.transcripts.items (λ (t : Vec Answer). t.items) in
     omega (arith, few, lists, c.in_ok-closed.ensures.sessions.1, scripts.ok.0)
@@ -26,11 +26,11 @@ pub returns-in_err-print_closed-clause-fault : goal.returns-in_err-print_closed-
 returns-in_err-print_closed-clause-fault g c =
     let residual = c.from_residual-in_err-print_closed in
     let exit = err_from_is_err_and residual.result residual.ensures.1 in
-    let p = c.args.params in
-    let scripts = c.args.sessions.1 in
+    let p = c.args.sessions.params in
+    let scripts = c.args.sessions.scripts in
     let count : vec_len scripts ≡ length scripts.items = omega (arith, scripts.ok.0) in
     rw (exit.1, exit.2)
-    (λ known split. late_threads_fault known p.segments p.inodes p.frames (vec_len scripts) c.args.sessions.0
+    (λ known split. late_threads_fault known p.segments p.inodes p.frames (vec_len scripts) c.args.sessions.setup
     scripts.items c.in_err-print_closed.field-0.0 split count c.in_ok-closed.ensures.sessions
     c.in_ok-closed.ensures.ranges c.in_err-print_closed.ensures.fault)
 
@@ -38,20 +38,20 @@ pub returns-in_err-closed-clause-fault : goal.returns-in_err-closed-clause-fault
 returns-in_err-closed-clause-fault g c =
     let residual = c.from_residual in
     let exit = err_from_is_err_and residual.result residual.ensures.1 in
-    let p = c.args.params in
-    let scripts = c.args.sessions.1 in
+    let p = c.args.sessions.params in
+    let scripts = c.args.sessions.scripts in
     let count : vec_len scripts ≡ length scripts.items = omega (arith, scripts.ok.0) in
     rw (exit.1, exit.2) (λ known split. unserved_fault known p.segments p.inodes p.frames (vec_len scripts)
-    c.args.sessions.0 scripts.items c.in_err-closed.field-0.0 split count c.in_err-closed.ensures.fault)
+    c.args.sessions.setup scripts.items c.in_err-closed.field-0.0 split count c.in_err-closed.ensures.fault)
 
 pub returns-in_err-closed-clause-unsettled : goal.returns-in_err-closed-clause-unsettled
 returns-in_err-closed-clause-unsettled g c =
     let residual = c.from_residual in
     let exit = err_from_is_err_and residual.result residual.ensures.1 in
-    let p = c.args.params in
+    let p = c.args.sessions.params in
     let served = c.in_err-closed.ensures in
     rw (exit.1, exit.2) (unserved_named (λ closed. closed.volume) (λ closed. closed.setup.items)
-    (λ closed. closed.transcripts) c.args.sessions.0 c.args.sessions.1 p.segments p.inodes p.journal
+    (λ closed. closed.transcripts) c.args.sessions.setup c.args.sessions.scripts p.segments p.inodes p.journal
     c.in_err-closed.field-0.0 served.unsettled served.count served.limit served.shape served.legal)
 
 pub returns-in_err-print_closed-clause-unsettled : goal.returns-in_err-print_closed-clause-unsettled
@@ -69,14 +69,14 @@ returns-in_err-print_closed-clause-unwritten g c =
 pub returns-clause-written : goal.returns-clause-written
 returns-clause-written g c =
     let closed = c.in_ok-closed.closed in
-    let p = c.args.params in
-    let scripts = c.args.sessions.1 in
+    let p = c.args.sessions.params in
+    let scripts = c.args.sessions.scripts in
     let ensures = c.in_ok-closed.ensures in (
       closed_text closed.volume.journal closed.setup.items
           (map (λ (t : Vec Answer). t.items) closed.transcripts.items),
       closed.volume.journal,
       λ known split. filed_threads known (state_of closed.volume.store).shape p.segments p.inodes closed.volume.journal
-          p.journal closed.volume.limit c.args.sessions.0 scripts.items closed.setup.items closed.transcripts.items
+          p.journal closed.volume.limit c.args.sessions.setup scripts.items closed.setup.items closed.transcripts.items
           split ensures.settled ensures.limit ensures.shape ensures.legal.legal,
       c.in_ok-print_closed.ensures.written,
       λ none. subst (λ (l : List Entry). Takes g.J.JournalSink.contents g.J.JournalSink.next c.args.sink.now

@@ -7,7 +7,7 @@ use Rattle.lfs_browse.proofs.asking.ask.Goals as goal
 
 pub returns : goal.returns
 returns g c =
-    let r = cleaner_of g.F.FileStore.state g.F.FileStore.is_settled g.F.FileStore.made g.F.CleanedStore.cleaner in
+    let r = cleaner_of g.F.FileStore.state g.F.FileStore.is_flushed g.F.FileStore.made g.F.CleanedStore.cleaner in
     let old = c.args.volume.now in
     let new = c.call.new.self in
     let e = c.call.ensures in
@@ -17,7 +17,7 @@ returns g c =
     record {
       ran = runs_one r old new (call_step asker.session asker.cred request) (User answer) e.shown
           (λ from begins. record {
-            made = call_made r.state r.is_settled from old new asker.cred request answer e.full e.at_limit
+            made = call_made r.state r.is_flushed from old new asker.cred request answer e.full e.at_limit
                 (e.shown from begins) (λ room. e.outcome room from begins) (e.entries from begins) e.unserved e.looks
                 e.unasked e.synced e.follows;
             asked = e.asked;

@@ -6,7 +6,7 @@ use Rattle.lfs_browse.proofs.listing.tell_listing.Goals as goal
 pub returns : goal.returns
 returns g c =
     on_ok_weaker c.tell_listed-told.result
-    (λ tells. listing_told (cleaner_of g.F.FileStore.state g.F.FileStore.is_settled g.F.FileStore.made g.F.CleanedStore.cleaner)
+    (λ tells. listing_told (cleaner_of g.F.FileStore.state g.F.FileStore.is_flushed g.F.FileStore.made g.F.CleanedStore.cleaner)
     c.args.volume.now c.ask-answer.new.volume c.tell_listed-told.new.volume c.args.asker.now c.args.path.now
     c.in_ok-path_asked.path_asked c.ask-answer.result c.args.text.now.items c.tell_listed-told.new.text.items
     c.in_ok-path_asked.ensures c.ask-answer.ensures tells)

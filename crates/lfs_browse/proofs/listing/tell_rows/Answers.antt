@@ -9,7 +9,7 @@ use Rattle.lfs_browse.proofs.listing.tell_rows.Goals as goal
 
 pub loop-name-init : goal.loop-name-init
 loop-name-init g c = record {
-  told = rows_none (cleaner_of g.F.FileStore.state g.F.FileStore.is_settled g.F.FileStore.made g.F.CleanedStore.cleaner)
+  told = rows_none (cleaner_of g.F.FileStore.state g.F.FileStore.is_flushed g.F.FileStore.made g.F.CleanedStore.cleaner)
       c.args.volume.now c.args.asker.now c.args.directory.now c.args.text.now.items;
   counted = refl;
   few = omega arith;
@@ -19,7 +19,7 @@ pub loop-name-preserved : goal.loop-name-preserved
 loop-name-preserved g c =
     let told = c.in_ok-rows.ensures in
     record {
-      told = rows_more (cleaner_of g.F.FileStore.state g.F.FileStore.is_settled g.F.FileStore.made g.F.CleanedStore.cleaner)
+      told = rows_more (cleaner_of g.F.FileStore.state g.F.FileStore.is_flushed g.F.FileStore.made g.F.CleanedStore.cleaner)
           c.args.volume.now c.loop-name.volume c.tell_row.new.volume c.args.asker.now c.args.directory.now
           c.args.names.now c.loop-name.name-index c.name-item.result c.args.text.now.items c.loop-name.text.items
           c.tell_row.new.text.items c.loop-name-test.true c.name-item.is c.loop-name.invariant.told told.told;
@@ -31,7 +31,7 @@ loop-name-preserved g c =
 pub returns-clause-told : goal.returns-clause-told
 returns-clause-told g c =
     subst (λ (l : List (List ℕ)). TellsRows
-    (cleaner_of g.F.FileStore.state g.F.FileStore.is_settled g.F.FileStore.made g.F.CleanedStore.cleaner)
+    (cleaner_of g.F.FileStore.state g.F.FileStore.is_flushed g.F.FileStore.made g.F.CleanedStore.cleaner)
     c.args.volume.now c.loop-name.volume c.args.asker.now c.args.directory.now l c.args.text.now.items
     c.loop-name.text.items) (take_all c.loop-name.name-index c.args.names.now c.loop-name-test.false)
     c.loop-name.invariant.told

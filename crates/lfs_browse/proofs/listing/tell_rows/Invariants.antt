@@ -7,7 +7,7 @@ use Rattle.lfs_browse.proofs.listing.tell_rows.Given as goal
 
 abbrev pub invariant-loop-name : goal.invariant-loop-name
 invariant-loop-name g l = record {
-  told : TellsRows (cleaner_of g.F.FileStore.state g.F.FileStore.is_settled g.F.FileStore.made g.F.CleanedStore.cleaner)
+  told : TellsRows (cleaner_of g.F.FileStore.state g.F.FileStore.is_flushed g.F.FileStore.made g.F.CleanedStore.cleaner)
       l.fn.volume l.volume l.asker l.directory (take l.name-index l.names) l.fn.text.items l.text.items;
   counted : l.rows ≡ length (filter (has_path l.directory) (take l.name-index l.names));
   few : l.rows ≤ l.name-index;

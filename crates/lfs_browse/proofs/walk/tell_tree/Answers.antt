@@ -9,7 +9,7 @@ use Rattle.lfs_browse.proofs.walk.tell_tree.Goals as goal
 pub returns : goal.returns
 returns g c =
     on_ok_weaker c.push_rest.result
-    (λ printed. tree_told (cleaner_of g.F.FileStore.state g.F.FileStore.is_settled g.F.FileStore.made g.F.CleanedStore.cleaner)
+    (λ printed. tree_told (cleaner_of g.F.FileStore.state g.F.FileStore.is_flushed g.F.FileStore.made g.F.CleanedStore.cleaner)
     c.args.volume.now c.go.new.volume c.args.asker.now c.args.path.now c.in_ok-walk.walk c.go.new.self
     c.args.text.now.items c.extend_from_slice.new.self.items c.push_rest.new.out.items c.in_ok-walk.ensures.root
     c.in_ok-walk.ensures.pending c.in_ok-walk.ensures.text c.in_ok-go.ensures

@@ -10,7 +10,7 @@ use Rattle.lfs_live.proofs.talk.hear_all.Goals as goal
 pub loop-before-init : goal.loop-before-init
 loop-before-init g c =
     let s = g.F.CleanedStore in
-    let r = talker_of (cleaner_of g.F.FileStore.state g.F.FileStore.is_settled g.F.FileStore.made s.cleaner) g.F.ShowsLog.map_text
+    let r = talker_of (cleaner_of g.F.FileStore.state g.F.FileStore.is_flushed g.F.FileStore.made s.cleaner) g.F.ShowsLog.map_text
     g.F.ShowsLog.segment_text g.F.ShowsLog.space_text g.F.ChecksLog.checked g.V.Watch.kept in
     record {
       heard = λ begins. heard_none r c.args.setting.framing
@@ -25,7 +25,7 @@ loop-before-init g c =
 pub returns-in_err-hear_next-clause-so_far : goal.returns-in_err-hear_next-clause-so_far
 returns-in_err-hear_next-clause-so_far g c =
     let s = g.F.CleanedStore in
-    let r = talker_of (cleaner_of g.F.FileStore.state g.F.FileStore.is_settled g.F.FileStore.made s.cleaner) g.F.ShowsLog.map_text
+    let r = talker_of (cleaner_of g.F.FileStore.state g.F.FileStore.is_flushed g.F.FileStore.made s.cleaner) g.F.ShowsLog.map_text
     g.F.ShowsLog.segment_text g.F.ShowsLog.space_text g.F.ChecksLog.checked g.V.Watch.kept in
     let sink = sink_of g.J.JournalSink.contents g.J.JournalSink.next in
     let exit = err_from_is_err_and c.from_residual.result c.from_residual.ensures.1 in
@@ -39,7 +39,7 @@ returns-in_err-hear_next-clause-so_far g c =
 pub returns-then-not-branch-clause-heard : goal.returns-then-not-branch-clause-heard
 returns-then-not-branch-clause-heard g c =
     let s = g.F.CleanedStore in
-    let r = talker_of (cleaner_of g.F.FileStore.state g.F.FileStore.is_settled g.F.FileStore.made s.cleaner) g.F.ShowsLog.map_text
+    let r = talker_of (cleaner_of g.F.FileStore.state g.F.FileStore.is_flushed g.F.FileStore.made s.cleaner) g.F.ShowsLog.map_text
     g.F.ShowsLog.segment_text g.F.ShowsLog.space_text g.F.ChecksLog.checked g.V.Watch.kept in
     let sink = sink_of g.J.JournalSink.contents g.J.JournalSink.next in
     let last = c.in_ok-hear_next.ensures.last c.if-not-branch.true in
@@ -63,7 +63,7 @@ returns-then-not-branch-clause-opened g c = λ is.
 pub loop-before-preserved : goal.loop-before-preserved
 loop-before-preserved g c =
     let s = g.F.CleanedStore in
-    let r = talker_of (cleaner_of g.F.FileStore.state g.F.FileStore.is_settled g.F.FileStore.made s.cleaner) g.F.ShowsLog.map_text
+    let r = talker_of (cleaner_of g.F.FileStore.state g.F.FileStore.is_flushed g.F.FileStore.made s.cleaner) g.F.ShowsLog.map_text
     g.F.ShowsLog.segment_text g.F.ShowsLog.space_text g.F.ChecksLog.checked g.V.Watch.kept in
     let sink = sink_of g.J.JournalSink.contents g.J.JournalSink.next in
     let next = c.in_ok-hear_next.ensures.next c.if-not-branch.false in
@@ -87,7 +87,7 @@ loop-before-preserved g c =
 pub returns-clause-so_far : goal.returns-clause-so_far
 returns-clause-so_far g c =
     let s = g.F.CleanedStore in
-    let r = talker_of (cleaner_of g.F.FileStore.state g.F.FileStore.is_settled g.F.FileStore.made s.cleaner) g.F.ShowsLog.map_text
+    let r = talker_of (cleaner_of g.F.FileStore.state g.F.FileStore.is_flushed g.F.FileStore.made s.cleaner) g.F.ShowsLog.map_text
     g.F.ShowsLog.segment_text g.F.ShowsLog.space_text g.F.ChecksLog.checked g.V.Watch.kept in
     let sink = sink_of g.J.JournalSink.contents g.J.JournalSink.next in
     λ is begins. heard_enough r c.args.setting.framing sink c.args.tended.now c.loop-before.tended c.loop-before.standing.speaker

@@ -8,7 +8,7 @@ use Rattle.lfs_live.proofs.TalkLemmas.{HasHeard}
 abbrev pub invariant-loop-before : goal.invariant-loop-before
 invariant-loop-before g l =
     let s = g.F.CleanedStore in
-    let r = talker_of (cleaner_of g.F.FileStore.state g.F.FileStore.is_settled g.F.FileStore.made s.cleaner) g.F.ShowsLog.map_text
+    let r = talker_of (cleaner_of g.F.FileStore.state g.F.FileStore.is_flushed g.F.FileStore.made s.cleaner) g.F.ShowsLog.map_text
     g.F.ShowsLog.segment_text g.F.ShowsLog.space_text g.F.ChecksLog.checked g.V.Watch.kept in
     record {
       heard : HasBegun l.fn.tended → HasHeard r l.fn.setting.framing

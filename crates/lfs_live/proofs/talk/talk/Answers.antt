@@ -8,7 +8,7 @@ use Rattle.lfs_live.proofs.talk.talk.Goals as goal
 pub returns-in_err-has_fault-clause-so_far : goal.returns-in_err-has_fault-clause-so_far
 returns-in_err-has_fault-clause-so_far g c =
     let s = g.F.CleanedStore in
-    let r = talker_of (cleaner_of g.F.FileStore.state g.F.FileStore.is_settled g.F.FileStore.made s.cleaner) g.F.ShowsLog.map_text
+    let r = talker_of (cleaner_of g.F.FileStore.state g.F.FileStore.is_flushed g.F.FileStore.made s.cleaner) g.F.ShowsLog.map_text
     g.F.ShowsLog.segment_text g.F.ShowsLog.space_text g.F.ChecksLog.checked g.V.Watch.kept in
     let sink = sink_of g.J.JournalSink.contents g.J.JournalSink.next in
     let exit = err_from_is_err_and c.from_residual.result c.from_residual.ensures.1 in
@@ -19,7 +19,7 @@ returns-in_err-has_fault-clause-so_far g c =
 pub returns-clause-written : goal.returns-clause-written
 returns-clause-written g c =
     let s = g.F.CleanedStore in
-    let r = talker_of (cleaner_of g.F.FileStore.state g.F.FileStore.is_settled g.F.FileStore.made s.cleaner) g.F.ShowsLog.map_text
+    let r = talker_of (cleaner_of g.F.FileStore.state g.F.FileStore.is_flushed g.F.FileStore.made s.cleaner) g.F.ShowsLog.map_text
     g.F.ShowsLog.segment_text g.F.ShowsLog.space_text g.F.ChecksLog.checked g.V.Watch.kept in
     let sink = sink_of g.J.JournalSink.contents g.J.JournalSink.next in
     λ begins. talk_ended r c.args.setting.framing sink c.args.tended.now c.hear_all.new.tended

@@ -8,7 +8,7 @@ use Rattle.lfs_audit.proofs.filing.FiledVolume.run_line.Goals as goal
 pub returns-clause-done : goal.returns-clause-done
 returns-clause-done g c =
     let state = g.F.FileStore.state in
-    let r = cleaner_of state g.F.FileStore.is_settled g.F.FileStore.made g.F.CleanedStore.cleaner in
+    let r = cleaner_of state g.F.FileStore.is_flushed g.F.FileStore.made g.F.CleanedStore.cleaner in
     let step = c.args.step in
     let v = c.self.inside in
     on_ok_weaker c.run_step-done.result

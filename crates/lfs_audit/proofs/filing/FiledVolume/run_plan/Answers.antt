@@ -12,7 +12,7 @@ use Rattle.lfs_audit.proofs.filing.FiledVolume.run_plan.Goals as goal
 
 pub loop-step-init : goal.loop-step-init
 loop-step-init g c =
-    let r = cleaner_of g.F.FileStore.state g.F.FileStore.is_settled g.F.FileStore.made g.F.CleanedStore.cleaner in
+    let r = cleaner_of g.F.FileStore.state g.F.FileStore.is_flushed g.F.FileStore.made g.F.CleanedStore.cleaner in
     record {
       filing = filing_none r g.J.JournalSink.contents g.J.JournalSink.next c.args.self.now _ _ c.requires
           (nothing_yet (g.W.Write.contents c.args.writer.now) c.new-text.result.items c.new-text.ensures.items);
@@ -22,7 +22,7 @@ loop-step-init g c =
 
 pub loop-step-preserved : goal.loop-step-preserved
 loop-step-preserved g c =
-    let r = cleaner_of g.F.FileStore.state g.F.FileStore.is_settled g.F.FileStore.made g.F.CleanedStore.cleaner in
+    let r = cleaner_of g.F.FileStore.state g.F.FileStore.is_flushed g.F.FileStore.made g.F.CleanedStore.cleaner in
     let contents = g.J.JournalSink.contents in
     let next = g.J.JournalSink.next in
     let line = c.in_ok-run_line.ensures.done in
@@ -44,7 +44,7 @@ loop-step-preserved g c =
 
 pub returns-clause-written : goal.returns-clause-written
 returns-clause-written g c =
-    let r = cleaner_of g.F.FileStore.state g.F.FileStore.is_settled g.F.FileStore.made g.F.CleanedStore.cleaner in
+    let r = cleaner_of g.F.FileStore.state g.F.FileStore.is_flushed g.F.FileStore.made g.F.CleanedStore.cleaner in
     let contents = g.J.JournalSink.contents in
     let next = g.J.JournalSink.next in
     let start = g.W.Write.contents c.args.writer.now in

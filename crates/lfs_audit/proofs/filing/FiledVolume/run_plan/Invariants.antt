@@ -6,7 +6,7 @@ use Rattle.lfs_audit.proofs.filing.FiledVolume.run_plan.Given as goal
 
 abbrev pub invariant-loop-step : goal.invariant-loop-step
 invariant-loop-step g l =
-    let r = cleaner_of g.F.FileStore.state g.F.FileStore.is_settled g.F.FileStore.made g.F.CleanedStore.cleaner in
+    let r = cleaner_of g.F.FileStore.state g.F.FileStore.is_flushed g.F.FileStore.made g.F.CleanedStore.cleaner in
     record {
       filing : IsFiling r g.J.JournalSink.contents g.J.JournalSink.next l.fn.self l.self l.yielded
           (g.W.Write.contents l.fn.writer) (append_known (g.W.Write.contents l.writer) l.text.items);

@@ -6,12 +6,12 @@ use Rattle.lfs_browse.proofs.walk.Walk.go.Goals as goal
 
 pub loop-init : goal.loop-init
 loop-init g c =
-    walking_none (cleaner_of g.F.FileStore.state g.F.FileStore.is_settled g.F.FileStore.made g.F.CleanedStore.cleaner)
+    walking_none (cleaner_of g.F.FileStore.state g.F.FileStore.is_flushed g.F.FileStore.made g.F.CleanedStore.cleaner)
     c.args.volume.now c.args.asker.now c.args.self.now
 
 pub loop-preserved : goal.loop-preserved
 loop-preserved g c =
-    walking_more (cleaner_of g.F.FileStore.state g.F.FileStore.is_settled g.F.FileStore.made g.F.CleanedStore.cleaner)
+    walking_more (cleaner_of g.F.FileStore.state g.F.FileStore.is_flushed g.F.FileStore.made g.F.CleanedStore.cleaner)
     c.args.volume.now c.loop.volume c.visit-made.new.volume c.args.asker.now c.args.self.now c.loop.self
     (record c.loop.self { pending = c.pop.new.self }) c.visit-made.new.self c.loop.counter c.in-Some.visit
     c.loop.invariant
@@ -20,7 +20,7 @@ loop-preserved g c =
 
 pub returns-in_default : goal.returns-in_default
 returns-in_default g c =
-    ended_early (cleaner_of g.F.FileStore.state g.F.FileStore.is_settled g.F.FileStore.made g.F.CleanedStore.cleaner)
+    ended_early (cleaner_of g.F.FileStore.state g.F.FileStore.is_flushed g.F.FileStore.made g.F.CleanedStore.cleaner)
     c.args.volume.now c.loop.volume c.args.asker.now c.args.self.now c.loop.self
     (record c.loop.self { pending = c.pop.new.self }) c.loop.counter c.loop.invariant (omega arith)
     (c.pop.ensures.items ∙ ap (λ o. c.pop.new.self.items ++ option_to_list o) c.in_default.is)
@@ -29,6 +29,6 @@ returns-in_default g c =
 
 pub returns : goal.returns
 returns g c =
-    ended_full (cleaner_of g.F.FileStore.state g.F.FileStore.is_settled g.F.FileStore.made g.F.CleanedStore.cleaner)
+    ended_full (cleaner_of g.F.FileStore.state g.F.FileStore.is_flushed g.F.FileStore.made g.F.CleanedStore.cleaner)
     c.args.volume.now c.loop.volume c.args.asker.now c.args.self.now c.loop.self c.loop.counter c.loop.invariant
     (omega (arith, c.loop-test.false, c.loop.auto.counter-end))

@@ -17,7 +17,7 @@ use Rattle.lfs_live.proofs.talk.Standing.hear_line.Goals as goal
 pub returns-in_ok-tidy-in-Some-clause-told : goal.returns-in_ok-tidy-in-Some-clause-told
 returns-in_ok-tidy-in-Some-clause-told g c = λ _.
     let s = g.F.CleanedStore in
-    let r = talker_of (cleaner_of g.F.FileStore.state g.F.FileStore.is_settled g.F.FileStore.made s.cleaner) g.F.ShowsLog.map_text
+    let r = talker_of (cleaner_of g.F.FileStore.state g.F.FileStore.is_flushed g.F.FileStore.made s.cleaner) g.F.ShowsLog.map_text
     g.F.ShowsLog.segment_text g.F.ShowsLog.space_text g.F.ChecksLog.checked g.V.Watch.kept in
     let sink = sink_of g.J.JournalSink.contents g.J.JournalSink.next in
     let was = c.args.self.now in

@@ -1,5 +1,5 @@
 use Rattle.std.proofs.Common.{inl, refl}
-use Rattle.lfs_live.proofs.SettleLemmas.{let_go_gone, let_go_room, let_go_same}
+use Rattle.lfs_live.proofs.FlushLemmas.{let_go_gone, let_go_room, let_go_same}
 use Rattle.lfs_live.proofs.tended.Tended.make_room.Goals as goal
 
 pub returns-then-takes_more-clause-gone : goal.returns-then-takes_more-clause-gone

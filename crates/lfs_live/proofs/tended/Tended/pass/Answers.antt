@@ -11,7 +11,7 @@ use Rattle.lfs_live.proofs.tended.Tended.pass.Goals as goal
 pub returns-clause-passed : goal.returns-clause-passed
 returns-clause-passed g c =
     let state = g.F.FileStore.state in
-    let r = cleaner_of state g.F.FileStore.is_settled g.F.FileStore.made g.F.CleanedStore.cleaner in
+    let r = cleaner_of state g.F.FileStore.is_flushed g.F.FileStore.made g.F.CleanedStore.cleaner in
     let sink = sink_of g.J.JournalSink.contents g.J.JournalSink.next in
     let v = c.self.inside in
     let first = c.self.view_is in

@@ -1,11 +1,11 @@
 use Rattle.std.proofs.Common.{ap, refl, subst, sym, ◌∙◌}
 use Rattle.lfs_volume.specs.Journals.{AtPresent, Begins}
 use Rattle.lfs_volume.proofs.SyncLemmas.{sync_shown}
-use Rattle.lfs_live.proofs.SettleLemmas.{done_is, sync_refused}
+use Rattle.lfs_live.proofs.FlushLemmas.{done_is, sync_refused}
 use Rattle.lfs_live.proofs.tended.Tended.sync.Goals as goal
 
-pub returns-clause-settled : goal.returns-clause-settled
-returns-clause-settled g c = λ is.
+pub returns-clause-flushed : goal.returns-clause-flushed
+returns-clause-flushed g c = λ is.
     c.call-answer.ensures.synced refl (done_is c.call-answer.result (sym c.is_done-done.ensures ∙ is))
 
 pub returns-clause-refused : goal.returns-clause-refused

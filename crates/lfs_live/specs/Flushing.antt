@@ -1,4 +1,4 @@
--- What it is that a talk's volume is not settled.
+-- What it is that a talk's volume is not flushed.
 use Rattle.std.specs.Prelude.{◌≢◌, Bool, true, false}
 use Rattle.lfs_types.specs.StoreStates.{StoreState}
 use Rattle.lfs_types.specs.declared.answer.Answer.{Answer}

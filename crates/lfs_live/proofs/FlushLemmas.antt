@@ -1,4 +1,8 @@
--- Entries that are let go before a Sync, and a Sync that is not done.
+-- Entries that are let go before a Sync, and a Sync that is not done: `let_go_gone`, `let_go_room` and `let_go_same`
+-- for `Tended::make_room`, `done_is` and `sync_refused` for `sync`, `gone_on` and `flush_refused` for `flush`. A
+-- drained journal begins at the world to which the old one led, so what holds at present of the new volume held of the
+-- old one (`gone_on`); the store and the limit stay. It has room for an entry, so an answer of the Sync that isn't Done
+-- has its cause in the tree of then, which is the tree that the old volume showed.
 use Rattle.std.proofs.Common.{◌≡◌, ◌≢◌, ℕ, ◌<◌, ◌≤◌, true, false, length, inl, inr, refl, sym, ap}
 use Rattle.std.proofs.Common.{subst, ◌∙◌, arith, OnErr, OnOk, Result, Ok, Err}
 use Rattle.lfs_types.specs.Caller.{Caller}
@@ -14,7 +18,7 @@ use Rattle.lfs_volume.specs.Seen.{Seen}
 use Rattle.lfs_calls.specs.Outcomes.{IsOutcome}
 use Rattle.lfs_audit.specs.Filing.{drained}
 use Rattle.lfs_live.specs.Held.{Held, IsLetGo, MayEnter}
-use Rattle.lfs_live.specs.Settling.{IsSyncRefused, is_done}
+use Rattle.lfs_live.specs.Flushing.{IsSyncRefused, is_done}
 use Rattle.lfs_live.specs.Talking.{first_speaker}
 use Rattle.lfs_live.proofs.KeepingLemmas.{never_both}
 
@@ -97,10 +101,10 @@ sync_refused {F} state old inside caller answer same who undone outcome = λ roo
 }
 
 -- the same where entries may have been let go before
-pub settle_refused : {F : Type 0} (state : F → StoreState) (old middle : Seen F) → IsLetGo state old middle
+pub flush_refused : {F : Type 0} (state : F → StoreState) (old middle : Seen F) → IsLetGo state old middle
     → MayEnter middle → (length middle.journal < middle.limit → IsSyncRefused state middle) → 1 ≤ old.limit
     → IsSyncRefused state old
-settle_refused {F} state old middle gone may refused some =
+flush_refused {F} state old middle gone may refused some =
     let why = refused (may (subst (λ (n : ℕ). 1 ≤ n) (sym (gone_limit state old middle gone)) some)) in
     record {
       why = why.why;

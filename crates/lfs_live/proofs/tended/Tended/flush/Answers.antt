@@ -1,11 +1,11 @@
 use Rattle.lfs_volume.specs.Journals.{Begins}
-use Rattle.lfs_live.proofs.SettleLemmas.{gone_on, same_twice, settle_refused}
-use Rattle.lfs_live.proofs.tended.Tended.settle.Goals as goal
+use Rattle.lfs_live.proofs.FlushLemmas.{gone_on, same_twice, flush_refused}
+use Rattle.lfs_live.proofs.tended.Tended.flush.Goals as goal
 
 pub returns-clause-refused : goal.returns-clause-refused
 returns-clause-refused g c = λ undone.
     let room = c.in_ok-make_room.ensures in
-    settle_refused g.F.FileStore.state c.args.self.now.volume c.make_room.new.self.volume room.gone room.room
+    flush_refused g.F.FileStore.state c.args.self.now.volume c.make_room.new.self.volume room.gone room.room
     (c.sync.ensures.refused undone)
 
 pub returns-clause-shown : goal.returns-clause-shown
