@@ -3,15 +3,14 @@
 #![tactic(auto)]
 
 use lfs_auditing::program::lfs_audit_trail;
+use lfs_command::streams::Streams;
 use std::process::ExitCode;
 
 fn main(rt: HostRuntime) -> ExitCode {
-    let status = lfs_audit_trail(
-        &rt,
-        &rt,
-        &mut rt.stdin(),
-        &mut rt.stdout(),
-        &mut rt.stderr(),
-    );
-    ExitCode::from(status)
+    let mut streams = Streams {
+        stdin: rt.stdin(),
+        stdout: rt.stdout(),
+        stderr: rt.stderr(),
+    };
+    ExitCode::from(lfs_audit_trail(&rt, &rt, &mut streams))
 }

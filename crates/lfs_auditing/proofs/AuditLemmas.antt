@@ -1,4 +1,8 @@
--- An audit that reads on.
+-- An audit that reads on: `read_more` for `Audit::entry`; `none_so_far`, `one_more` and `stopped` for `read_journal`.
+-- What has been read is legal and leads to a world where the checker stands; the checker said of one entry that it is
+-- legal there and which world comes of it, so the list with this entry is legal, and the checker stands behind it
+-- (`legal_as-append`, `world_after-append`). `SoFar` has the lines that were taken from the reader and the entries that
+-- they tell: as many, with numbers one behind another (`told_more`).
 use Rattle.std.proofs.Common.{◌≡◌, ℕ, ◌+◌, List, [], ◌∷◌, ◌++◌, length, Option, sym, ap, subst, ◌∙◌, arith}
 use Rattle.std.proofs.Common.{append_assoc, length-append}
 use Rattle.std.specs.Prelude.{Ok}
@@ -22,7 +26,7 @@ use Rattle.lfs_auditing.specs.Users.{AreCounted}
 use Rattle.lfs_auditing.specs.declared.audit.Audit.{Audit}
 use Rattle.lfs_auditing.specs.declared.audit.Stop.{Stop}
 use Rattle.lfs_auditing.specs.declared.audit.Stop.TheVariants as stops
-use Rattle.lfs_auditing.specs.declared.fault.Unread.TheVariants as whys
+use Rattle.lfs_auditing.specs.declared.fault.EntryLineFault.TheVariants as whys
 
 -- ---- an entry more
 

@@ -1,4 +1,7 @@
--- Where an audit begins.
+-- Where an audit begins: at the opening tree (`of_fresh`), or at what an image shows (`begun_by`, for `from_image`), by
+-- which of them the options ask for (`begun_of`, for `begin`). No store knows its securelevel, so one that shows a tree
+-- shows it at each (`leveled`); the image has the level, and the audit stands at the tree at this level. `within`, for
+-- `Audit::over`: a file's number is a row's of the table, as the content has no file past the table's end.
 use Rattle.std.proofs.Common.{◌≡◌, ℕ, ◌<◌, List, length, Option, None, Some, Result, Ok, Err, IfOk, refl, subst, ◌∙◌}
 use Rattle.std.proofs.Common.{arith, inl, inr}
 use Rattle.std.specs.Prelude.{IsSome}
@@ -66,7 +69,7 @@ begun_by known store level a read begun numbers segments =
           log = store.log;
           level = level;
           volume = loaded.image;
-          shown = subst (λ (p : Parts). IsVolume (state_of p) from) loaded.settled shown;
+          shown = subst (λ (p : Parts). IsVolume (state_of p) from) loaded.flushed shown;
           at_level = refl;
           inodes_are = numbers;
           segments_are = segments;

@@ -1,4 +1,8 @@
--- How an audit ends that began as it was asked.
+-- How an audit ends that began as it was asked: `audited_by` for `audit_buffered`, `of_reader` and `of_file` for `run`,
+-- and `ends_audit`, `ends_asked` and `ends_unasked` for the program. An audit that was made has the status of what it
+-- stopped at, which is 0 or 1 (`status_low`), and tells no fault; one that was not made has 1. So by status 0 it was
+-- made, and of the journal that was asked for: the reader's where no file is named, else that file's; the case that
+-- isn't asked for is absurd.
 use Rattle.std.proofs.Common.{◌≡◌, ℕ, ◌≤◌, List, Option, None, Some, Result, Ok, Err, IfOk, IfErr, refl, sym, subst, arith}
 use Rattle.std.specs.Prelude.{IsSome, MatchResult}
 use Rattle.std.proofs.lemmas.Bool.{false≢true}

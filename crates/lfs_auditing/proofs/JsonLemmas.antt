@@ -1,4 +1,8 @@
--- What an audit tells as JSON has no float, and grows by its parts.
+-- What an audit tells as JSON has no float, and grows by its parts: `report_plain` for `text_of`, `plain_more` for
+-- `push_plain`, `users_plain` for `tell_json`; `rules_more`, `rules_all` and `rule_none` for `rules_value` and
+-- `push_rule`. Numbers and texts are no floats, so a list or an object has one only if an item of it has, and each item
+-- is known to have none. The rules are told in their order, each beside its number, and one whose number is 0 adds
+-- nothing; so the first k + 1 of them are those of the first k and perhaps one more.
 use Rattle.std.proofs.Common.{◌≡◌, ℕ, ◌==◌, ◌+◌, ◌<◌, ◌≤◌, ◌||◌, Bool, true, false, List, [], ◌∷◌, ◌++◌, length, take, get_or}
 use Rattle.std.proofs.Common.{map, refl, ap, sym, ◌∙◌, arith}
 use Rattle.std.specs.List.{flat_map, zip}

@@ -1,4 +1,7 @@
--- The counts over each user's entries, with an entry more.
+-- The counts over each user's entries, with an entry more: `counted_more` and `users_few`, for `Users::add`. The map
+-- gets the old counts of the entry's user with the entry counted, and has what it had at each other number; the user's
+-- entries are those before and this one, and another user's are the same (`of_user-own`, `of_user-other`). No user has
+-- more entries than there are, so no count gets too big for its number.
 use Rattle.std.proofs.Common.{◌≡◌, ℕ, ◌-◌, ◌^◌, ◌<◌, ◌≤◌, ◌==◌, Bool, true, false, cond, List, [], ◌∷◌, ◌++◌, length}
 use Rattle.std.proofs.Common.{Some, refl, sym, ap, subst, ◌∙◌, arith}
 use Rattle.std.specs.Prelude.{unwrap_or}

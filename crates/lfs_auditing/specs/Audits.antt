@@ -17,8 +17,8 @@ use Rattle.lfs_auditing.specs.Users.{AreCounted}
 use Rattle.lfs_auditing.specs.declared.audit.Audit.{Audit}
 use Rattle.lfs_auditing.specs.declared.audit.Stop.{Stop}
 use Rattle.lfs_auditing.specs.declared.audit.Stop.TheVariants as stops
-use Rattle.lfs_auditing.specs.declared.fault.Unread.{Unread}
-use Rattle.lfs_auditing.specs.declared.fault.Unread.TheVariants.{Cut, TooLong, Gap, Line}
+use Rattle.lfs_auditing.specs.declared.fault.EntryLineFault.{EntryLineFault}
+use Rattle.lfs_auditing.specs.declared.fault.EntryLineFault.TheVariants.{Cut, TooLong, Gap, Line}
 
 -- the world behind entries from the one where the journal begins, of the volume whose journal is
 -- audited
@@ -61,16 +61,16 @@ abbrev pub lines_text : List (List ℕ) → List ℕ
 lines_text lines = flat_map (λ line. line ++ 10 ∷ []) lines
 
 -- what a line without its number tells: an entry, or why none
-abbrev pub told_there : Result Entry LineFault → Result Entry Unread
+abbrev pub told_there : Result Entry LineFault → Result Entry EntryLineFault
 told_there (Ok entry) = Ok entry
 told_there (Err fault) = Err (Line fault)
 
-abbrev pub told_of : Option (List ℕ) → Result Entry Unread
+abbrev pub told_of : Option (List ℕ) → Result Entry EntryLineFault
 told_of None = Err Gap
 told_of (Some text) = told_there (entry_told text)
 
 -- what a line tells as that of the entry of this number, which may stand before it
-abbrev pub told_as : ℕ → List ℕ → Result Entry Unread
+abbrev pub told_as : ℕ → List ℕ → Result Entry EntryLineFault
 told_as number line = told_of (unnumbered number line)
 
 -- each line tells its entry, the first that of this number

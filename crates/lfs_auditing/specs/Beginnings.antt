@@ -7,7 +7,7 @@ use Rattle.lfs_log.specs.Parts.{LogParts}
 use Rattle.lfs_parts.specs.declared.parts.Parts.{Parts}
 use Rattle.lfs_logstore.specs.States.{state_of}
 use Rattle.lfs_calls.specs.Volumes as stores
-use Rattle.lfs_fsck.specs.Stored.{settled}
+use Rattle.lfs_fsck.specs.Stored.{flushed}
 use Rattle.lfs_checking.specs.Files.{IsLoaded}
 use Rattle.lfs_checking.specs.Volumes.{IsVolume}
 use Rattle.lfs_trace.specs.Checking.{numbers_of}
@@ -27,7 +27,7 @@ pub record IsOfImage (bytes : List ℕ) (w : World) (inodes segments : ℕ) : Ty
   pub log : LogParts
   pub level : Level
   pub volume : IsVolume bytes log level
-  pub shown : stores.IsVolume (state_of (settled log)) w
+  pub shown : stores.IsVolume (state_of (flushed log)) w
   pub at_level : w.level ≡ level
   pub inodes_are : inodes ≡ length log.tables.rows
   pub segments_are : segments ≡ log.memory.segments

@@ -8,7 +8,7 @@ ghost use Rattle.lfs_trace.specs.Checking.{IsSameStanding, StandsAt, numbers_of}
 ghost use Rattle.lfs_auditing.specs.Audits.{HasRead, HasReadNone, HasReadOn, IsIllegalBehind, IsOfSame, NotesOnly, StopsAtLine, told_as};
 ghost use Rattle.lfs_auditing.specs.Users.{AreCounted};
 
-use crate::fault::{AuditFault, Unread};
+use crate::fault::{AuditFault, EntryLineFault};
 use crate::last::{Last, LastOnes};
 use crate::lines::{Piece, read_line};
 use crate::telling::next_of;
@@ -39,11 +39,11 @@ pub enum Stop {
     /// At an entry that isn't legal behind those before it.
     Illegal(Entry),
     /// At a line that tells no entry.
-    Unread(Unread),
+    Unread(EntryLineFault),
 }
 
-/// An audit of a journal: a checker of its entries, how many were legal so far, how each user's calls were answered, who
-/// changed which file last, and which other than its owner read it last.
+/// An audit of a journal: a checker of its entries, how many were legal so far, how each user's calls were answered,
+/// who changed which file last, and which other than its owner read it last.
 #[derive(Drop)]
 pub struct Audit {
     pub(crate) alloc: Global,
@@ -57,8 +57,8 @@ pub struct Audit {
 }
 
 impl Audit {
-    /// An audit of the journal of a volume with so many inode numbers and segments from its fresh tree on, which compares so
-    /// much of denials.
+    /// An audit of the journal of a volume with so many inode numbers and segments from its fresh tree on, which
+    /// compares so much of denials.
     pub fn new(
         alloc: Global,
         numbers: u32,
@@ -74,8 +74,8 @@ impl Audit {
         Ok(Audit::at(alloc, checker, numbers, denials)?)
     }
 
-    /// An audit of the journal that a volume goes on with, at this securelevel, from the tree that its store shows, which
-    /// compares so much of denials.
+    /// An audit of the journal that a volume goes on with, at this securelevel, from the tree that its store shows,
+    /// which compares so much of denials.
     pub fn over(
         alloc: Global,
         store: &mut LogStore,
@@ -144,15 +144,15 @@ impl Audit {
                     Some(stop) => return Ok(stop),
                 },
                 Piece::End => return Ok(Stop::End),
-                Piece::Cut => return Ok(Stop::Unread(Unread::Cut)),
-                Piece::TooLong => return Ok(Stop::Unread(Unread::TooLong)),
+                Piece::Cut => return Ok(Stop::Unread(EntryLineFault::Cut)),
+                Piece::TooLong => return Ok(Stop::Unread(EntryLineFault::TooLong)),
             }
         }
         Err(AuditFault::Read)
     }
 
-    /// Checks the entry that a line tells, behind its number where one stands before it; where there is something against
-    /// it, the audit stops there.
+    /// Checks the entry that a line tells, behind its number where one stands before it; where there is something
+    /// against it, the audit stops there.
     fn line(&mut self, line: &[u8]) -> Result<Option<Stop>, AuditFault>
         requires { (from : World) × (entries : List Entry) × HasRead from self.old entries }
         ensures read { IfOk result (λ stop. (from : World) (entries : List Entry)
@@ -272,13 +272,17 @@ impl Audit {
     }
 }
 
-/// What a line tells as that of the entry of a number, which may stand before it: the entry, or why none. An error where
-/// memory runs out.
-fn told_as(alloc: Global, line: &[u8], number: u64) -> Result<Result<Entry, Unread>, AuditFault>
+/// What a line tells as that of the entry of a number, which may stand before it: the entry, or why none. An error
+/// where memory runs out.
+fn told_as(
+    alloc: Global,
+    line: &[u8],
+    number: u64,
+) -> Result<Result<Entry, EntryLineFault>, AuditFault>
     ensures { IfOk result (λ told. told_as number line.now ≡ told) }
 {
     let Some(text) = unnumbered(line, number) else {
-        return Ok(Err(Unread::Gap));
+        return Ok(Err(EntryLineFault::Gap));
     };
     match read_entry(alloc, text) {
         Ok(entry) => Ok(Ok(entry)),
@@ -287,12 +291,12 @@ fn told_as(alloc: Global, line: &[u8], number: u64) -> Result<Result<Entry, Unre
 }
 
 /// Why a line with a fault tells no entry, but for want of memory.
-fn unread(fault: LineFault) -> Result<Unread, AuditFault>
-    ensures { IfOk result (λ why. (why ≡ Unread.Line fault) × (fault.kind ≢ FaultKind.Memory)) }
+fn unread(fault: LineFault) -> Result<EntryLineFault, AuditFault>
+    ensures { IfOk result (λ why. (why ≡ EntryLineFault.Line fault) × (fault.kind ≢ FaultKind.Memory)) }
 {
     match fault.kind {
         FaultKind::Memory => Err(AuditFault::Memory),
-        _ => Ok(Unread::Line(fault)),
+        _ => Ok(EntryLineFault::Line(fault)),
     }
 }
 

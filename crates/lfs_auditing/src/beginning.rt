@@ -18,8 +18,8 @@ use std::fs::File;
 use std::io::Read;
 use std::rt::Files;
 
-/// An audit that has read nothing: from the tree of the volume whose image a file has, where one is named, else from that of
-/// a fresh volume.
+/// An audit that has read nothing: from the tree of the volume whose image a file has, where one is named, else from
+/// that of a fresh volume.
 ///
 /// # Errors
 ///

@@ -81,7 +81,7 @@ impl From<WriteFault> for AuditFault {
 
 /// Why a line tells no entry.
 #[derive(Clone, Copy, PartialEq, Eq, Debug, Error)]
-pub enum Unread {
+pub enum EntryLineFault {
     /// It has no line feed.
     #[error("line: Cut")]
     Cut,

@@ -38,10 +38,10 @@ struct Parts {
 }
 
 impl Audit {
-    /// The JSON text, in a line, of an audit that stopped there: an object with `legal`, whether the journal is legal up to
-    /// its end; `entries`, how many entries are legal; `stopped`, null or the number of the entry behind them, with its line and
-    /// what the rules say, or its fault; `users`, how each user's calls were answered; `changed` and `read`, who did so last; and
-    /// `who`, who could act by a path that is asked of.
+    /// The JSON text, in a line, of an audit that stopped there: an object with `legal`, whether the journal is legal
+    /// up to its end; `entries`, how many entries are legal; `stopped`, null or the number of the entry behind them,
+    /// with its line and what the rules say, or its fault; `users`, how each user's calls were answered; `changed` and
+    /// `read`, who did so last; and `who`, who could act by a path that is asked of.
     pub fn tell_json(&mut self, stop: &Stop, who: &Option<Path>) -> Result<Vec<u8>, AllocError>
         ensures { IfOk result (λ text. IsJson self.old stop.now text.items) }
     {

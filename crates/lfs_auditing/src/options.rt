@@ -1,6 +1,6 @@
 //! What the arguments of `lfs_audit_trail` ask for.
 
-ghost use Rattle.std.specs.Prelude.{IfOk};
+ghost use Rattle.std.specs.Prelude.{IfErr, IfOk, IsErrAnd};
 ghost use Rattle.clap.specs.Values.{kind_of};
 ghost use Rattle.lfs_command.specs.Ends.{IsRefusal};
 ghost use Rattle.lfs_command.specs.Ranges.{IsBetween};
@@ -8,7 +8,8 @@ ghost use Rattle.lfs_auditing.specs.Ranges.{IsInRange};
 
 use clap::{Arg, ArgAction, ArgMatches, Command, Error};
 use lfs_command::numbers::NumberOption;
-use lfs_command::refusing::{self, wrong_value};
+use lfs_command::refusing::wrong_value;
+use lfs_command::words::{WordsFault, matches_of};
 use lfs_trace::errors::Denials;
 use lfs_types::path::{BadPath, Path};
 use std::alloc::{AllocError, Global};
@@ -85,13 +86,17 @@ pub struct Options<'a> {
 ///
 /// # Errors
 ///
-/// What the parser tells, with its exit code: 2 for a word that is no option or a number out of its range, 0 for `--help`; or
-/// want of memory.
-pub fn options_of<'a, S: AsStr>(alloc: Global, words: &'a [S]) -> Result<Options<'a>, Error>
-    ensures { IfOk result IsInRange }
+/// What the parser tells, with its exit code: 2 for a word that is no option, a number out of its range and words that
+/// are no text, 0 for `--help`; or want of memory.
+pub fn options_of<'a, S: AsStr>(
+    alloc: Global,
+    words: Result<&'a [S], WordsFault>,
+) -> Result<Options<'a>, Error>
+    ensures ranges { IfOk result IsInRange }
+    ensures unread { IfErr words.entry (λ _. IsErrAnd result (λ error. IsRefusal (kind_of error))) }
 {
     let mut command = command(alloc)?;
-    let matches = command.try_get_matches_from_mut(words)?;
+    let matches = matches_of(&mut command, words)?;
     let (inodes, segments) = match numbers_in(&matches) {
         Ok(numbers) => numbers,
         Err(refusal) => return Err(wrong_value(&mut command, refusal)),
@@ -129,13 +134,6 @@ fn denials_in(matches: &ArgMatches<'_>) -> Denials {
     } else {
         Denials::Whole
     }
-}
-
-/// The error of arguments that are no text, with exit code 2; or want of memory.
-pub fn not_utf8(alloc: Global) -> Error
-    ensures { IsRefusal (kind_of result) }
-{
-    refusing::not_utf8(command(alloc))
 }
 
 /// The inode numbers and the segments that the matches ask for, or what is told of the first that is refused.

@@ -6,15 +6,14 @@ ghost use Rattle.lfs_trace.specs.Checking.{numbers_of};
 ghost use Rattle.lfs_auditing.specs.Audits.{HasReadNone, IsAudited, status_of};
 ghost use Rattle.lfs_auditing.specs.Beginnings.{IsAuditedAsAsked, IsAuditedBy};
 ghost use Rattle.lfs_auditing.specs.Ends.{IsTrailEnd};
-ghost use Rattle.lfs_auditing.specs.Ranges.{IsInRange};
 
 use crate::audit::{Audit, Stop};
 use crate::beginning::begin;
 use crate::fault::AuditFault;
-use crate::options::{Options, not_utf8, options_of};
-use clap::Error;
+use crate::options::{Options, options_of};
 use lfs_command::refusing::refuse;
-use lfs_command::words::{NoWords, words};
+use lfs_command::streams::Streams;
+use lfs_command::words::{texts, words};
 use lfs_io::output::{flush, write_text};
 use lfs_io::tell::tell;
 use std::alloc::{AllocError, Global};
@@ -26,28 +25,28 @@ use std::rt::Files;
 /// The program's name.
 const NAME: &str = "lfs_audit_trail";
 
-/// Does what the arguments of an environment ask `lfs_audit_trail` for, and gives the status with which it ends: 0 for a journal
-/// that is legal, and for help; 1 for one that isn't, for a line that tells no entry, and for a fault, told in a line on
-/// standard error; 2 for words that are refused.
-pub fn lfs_audit_trail<E, F, R, W, D>(
-    env: &E,
-    files: &F,
-    stdin: &mut R,
-    stdout: &mut W,
-    stderr: &mut D,
-) -> u8
+/// Does what the arguments of an environment ask `lfs_audit_trail` for, and gives the status with which it ends: 0 for
+/// a journal that is legal, and for help; 1 for one that isn't, for a line that tells no entry, and for a fault, told
+/// in a line on standard error; 2 for words that are refused.
+pub fn lfs_audit_trail<E, F, R, W, D>(env: &E, files: &F, streams: &mut Streams<R, W, D>) -> u8
 where
     E: Env + AllocGlobal,
     F: Files,
     R: Read,
     W: Write,
     D: Write,
-    ensures { IsTrailEnd F.File.remaining (R.remaining stdin.old)
-        result stdin.old stdin.new stdout.old stdout.new stderr.old stderr.new }
+    ensures { IsTrailEnd F.File.remaining (R.remaining streams.old.stdin)
+        result streams.old.stdin streams.new.stdin streams.old.stdout streams.new.stdout
+        streams.old.stderr streams.new.stderr }
 {
     let alloc = env.alloc();
     let words = words(env);
-    match asked(alloc, &words) {
+    let Streams {
+        stdin,
+        stdout,
+        stderr,
+    } = streams;
+    match options_of(alloc, texts(&words)) {
         Ok(options) => end(stderr, run(files, alloc, &options, stdin, stdout)),
         Err(error) => refuse(stdout, stderr, NAME, &error),
     }
@@ -67,18 +66,8 @@ fn end<D: Write>(stderr: &mut D, outcome: Result<u8, AuditFault>) -> u8
     }
 }
 
-/// What the words of a command line ask for.
-fn asked<'a>(alloc: Global, words: &'a Result<Vec<String>, NoWords>) -> Result<Options<'a>, Error>
-    ensures { IfOk result IsInRange }
-{
-    match words {
-        Ok(words) => options_of(alloc, words.as_slice()),
-        Err(NoWords::Memory) => Err(AllocError.into()),
-        Err(NoWords::NotUtf8) => Err(not_utf8(alloc)),
-    }
-}
-
-/// Audits the journal of the file that is named, or that of standard input. Gives the status with which the program ends.
+/// Audits the journal of the file that is named, or that of standard input. Gives the status with which the program
+/// ends.
 fn run<F: Files, R: Read, W: Write>(
     files: &F,
     alloc: Global,

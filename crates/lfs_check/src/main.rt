@@ -2,16 +2,15 @@
 //! it. Or it finds a volume in its blocks alone.
 #![tactic(auto)]
 
+use lfs_command::streams::Streams;
 use lfs_rescue::program::lfs_check;
 use std::process::ExitCode;
 
 fn main(rt: HostRuntime) -> ExitCode {
-    let status = lfs_check(
-        &rt,
-        &rt,
-        &mut rt.stdin(),
-        &mut rt.stdout(),
-        &mut rt.stderr(),
-    );
-    ExitCode::from(status)
+    let mut streams = Streams {
+        stdin: rt.stdin(),
+        stdout: rt.stdout(),
+        stderr: rt.stderr(),
+    };
+    ExitCode::from(lfs_check(&rt, &rt, &mut streams))
 }

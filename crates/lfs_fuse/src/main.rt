@@ -2,16 +2,15 @@
 //! next is read.
 #![tactic(auto)]
 
+use lfs_command::streams::Streams;
 use lfs_fuse_talk::program::lfs_fuse;
 use std::process::ExitCode;
 
 fn main(rt: HostRuntime) -> ExitCode {
-    let status = lfs_fuse(
-        &rt,
-        &rt,
-        &mut rt.stdin(),
-        &mut rt.stdout(),
-        &mut rt.stderr(),
-    );
-    ExitCode::from(status)
+    let mut streams = Streams {
+        stdin: rt.stdin(),
+        stdout: rt.stdout(),
+        stderr: rt.stderr(),
+    };
+    ExitCode::from(lfs_fuse(&rt, &rt, &mut streams))
 }

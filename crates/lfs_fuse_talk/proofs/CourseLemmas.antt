@@ -1,4 +1,10 @@
--- A talk whose entries go to a file: message by message, and as a whole.
+-- A talk whose entries go to a file: message by message (`answered_of` for `ServedAnswerer::answer`, `rested_on` for
+-- `rest`), and as a whole (`served_all` and `shut_asked` for `serve`). What a message does is said for whatever entries
+-- were handed out before it (`Advances`); `course_all` goes along the messages and carries them on, with the fact that
+-- the file has the lines of all entries and gets the next number next (`Stands`). So it begins with no entry and a file
+-- that has none (`begun_file`), and each message either leaves its entries in the journal, or hands them out. The hard
+-- part is a file that takes no more: the reply then tells of it (`entered_lost`), and from there on nothing is said of
+-- its lines.
 use Rattle.std.proofs.Common.{◌≡◌, ℕ, ◌+◌, ◌⊎◌, inl, inr, Bool, true, false, List, [], ◌∷◌, ◌++◌, length, Option, None, Some}
 use Rattle.std.proofs.Common.{Result, Ok, Err, IfOk, IfSome, IsSome, refl, sym, ap, subst, ◌∙◌, arith, append-nil, length-append, is_some}
 use Rattle.std.specs.Io.KnownBytes.{Appends}

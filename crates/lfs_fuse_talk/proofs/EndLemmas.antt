@@ -1,4 +1,8 @@
--- How `lfs_fuse` ends, by how its talk did.
+-- How `lfs_fuse` ends, by how its talk did: `ends_served` for `mount`, `broken_talk` and `broken_save` for `serve`. A
+-- talk that was done and kept has status 0, and each fault has status 1 or 2 (`status_between`), so status 0 tells that
+-- all was served. The fault of a talk, of its file or of its image comes with what was served until then. The faults
+-- that come before the first read say besides that nothing was read; a talk that began has none of them
+-- (`broken_read`).
 use Rattle.std.proofs.Common.{◌≡◌, ℕ, ◌≤◌, ◌⊎◌, inl, inr, Bool, true, false, List, Option, Result, Ok, Err, IfOk, IfErr}
 use Rattle.std.proofs.Common.{IsSome, arith, sym, subst, ◌∙◌}
 use Rattle.std.specs.Prelude.{MatchResult, OnOk}

@@ -1,4 +1,7 @@
--- A message that is cut from bytes.
+-- A message that is cut from bytes: `first_of`, for `inbox::front`. The length that its first four bytes tell is at
+-- least 40, no more than may be read at once, and no more than there are bytes (`whole_in`). Cut to that length it
+-- tells the same, as its first bytes are the same (`number_at-take`), so it is a whole message, and fewer bytes are
+-- left behind it.
 use Rattle.std.proofs.Common.{◌≡◌, ℕ, zero, suc, ◌+◌, ◌≤◌}
 use Rattle.std.proofs.Common.{◌++◌, nat_lt, List, length}
 use Rattle.std.proofs.Common.{take, drop, slice_index, refl, ap, ◌∙◌, if◌then◌else◌, arith}

@@ -1,4 +1,8 @@
--- Messages are answered one after another.
+-- Messages are answered one after another: `left_less` for `write`, `so_far_next` for `answer_all`, `talked_next` and
+-- `talked_bad` for `talk`. The messages that were answered are cut from the front of the bytes that were read, and what
+-- is left is behind them (`SoFar`); a read puts bytes behind what is left, so the messages are the same however reads
+-- cut the bytes (`talked_far`). Of each reply a front was written, and the whole of it where `is_whole` says so: this
+-- is the conjunction over all replies (`AreSent-append`), so that one cut reply makes it false for the talk.
 use Rattle.std.proofs.Common.{◌≡◌, ℕ, Bool, true, false, ◌&&◌, List, [], ◌∷◌, ◌++◌, take, drop, Option}
 use Rattle.std.proofs.Common.{refl, sym, ap, subst, ◌∙◌, append_assoc, append-nil}
 use Rattle.std.specs.List.{concat}

@@ -5,7 +5,7 @@ use Rattle.std.specs.List.{list_any}
 use Rattle.lfs_types.specs.StoreStates.{StoreState}
 use Rattle.lfs_volume.specs.Seen.{Seen}
 use Rattle.lfs_model.specs.declared.journal.Entry.{Entry}
-use Rattle.lfs_parts.specs.Store.{IsSettled}
+use Rattle.lfs_parts.specs.Store.{IsFlushed}
 use Rattle.lfs_parts.specs.declared.parts.Parts.{Parts as Log}
 use Rattle.lfs_logstore.specs.States.{state_of}
 use Rattle.lfs_nodes.specs.declared.parts.Parts.{Parts}
@@ -44,20 +44,20 @@ holding_of volume nodes beside sizes outside =
 -- but its header's, if they can be known, and what it is then
 pub record Server (F P : Type 0) : Type 1 where
   pub state : F → StoreState
-  pub is_settled : F → Type 0
+  pub is_flushed : F → Type 0
   pub time : P → Time → P → Type 0
   pub groups : P → Header → Option (List ℕ) → P → Type 0
 
 abbrev pub server_of : {F P : Type 0} → (F → StoreState) → (F → Type 0) → (P → Time → P → Type 0)
     → (P → Header → Option (List ℕ) → P → Type 0) → Server F P
-server_of state is_settled time groups =
-    record { state = state; is_settled = is_settled; time = time; groups = groups }
+server_of state is_flushed time groups =
+    record { state = state; is_flushed = is_flushed; time = time; groups = groups }
 
 -- the same of a log
 abbrev pub log_server : {P : Type 0} → (P → Time → P → Type 0)
     → (P → Header → Option (List ℕ) → P → Type 0)
     → Server Log P
-log_server time groups = server_of state_of IsSettled time groups
+log_server time groups = server_of state_of IsFlushed time groups
 
 -- the messages that make calls, by their numbers in the protocol
 abbrev pub calling : List ℕ
@@ -84,7 +84,7 @@ IsAnsweredTo r now header None old message reply new =
     × (new.nodes ≡ old.nodes)
     × (new.beside ≡ old.beside) × (new.sizes ≡ old.sizes)
 IsAnsweredTo r now header (Some others) old message reply new =
-    IsAnswered r.state r.is_settled old.sizes now old.nodes new.nodes others message [] reply
+    IsAnswered r.state r.is_flushed old.sizes now old.nodes new.nodes others message [] reply
     old.volume new.volume old.beside
     new.beside × (new.sizes ≡ old.sizes)
 

@@ -141,8 +141,8 @@ impl<W: Write + Drop> Ledger<W> {
         !matches!(self.keeping, Keeping::Closed)
     }
 
-    /// Gives the file, where there is one that takes more, the entries of a mount's journal, and hands them out. Where it
-    /// doesn't take them, that is told once, and no call is served from then on. Whether none of them is lost.
+    /// Gives the file, where there is one that takes more, the entries of a mount's journal, and hands them out. Where
+    /// it doesn't take them, that is told once, and no call is served from then on. Whether none of them is lost.
     pub(crate) fn give<F: FileStore + Drop, D: Write>(
         &mut self,
         mount: &mut Mount<F>,
@@ -178,7 +178,8 @@ impl<W: Write + Drop> Ledger<W> {
         }
     }
 
-    /// Gives the file the entries, where there is one, and else lets them go once there are 32, or there is little room.
+    /// Gives the file the entries, where there is one, and else lets them go once there are 32, or there is little
+    /// room.
     pub(crate) fn go_on<F: FileStore + Drop, D: Write>(
         &mut self,
         alloc: Global,

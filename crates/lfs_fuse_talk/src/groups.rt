@@ -1,23 +1,23 @@
-//! The groups of a process: the kernel tells one in a message, and the others in a file of their own.
+//! The groups of a process: the kernel tells one in a message, and the others in the status of the process.
 
 ghost use Rattle.std.specs.Prelude.{◌≡◌, ◌==◌};
 ghost use Rattle.std.specs.List.{list_any};
 ghost use Rattle.lfs_fuse_talk.specs.Serving.{are_wanted, calling};
 
+use crate::statuses::Statuses;
 use lfs_fuse_wire::header::Header;
 use std::alloc::{AllocError, Global};
-use std::fs::File;
-use std::io::Read;
 use std::rt::Files;
 
 /// The most groups beside the first.
 const MOST: usize = 15;
 
-/// As many bytes of a process's file are read. Where the line of its groups doesn't end in them, they are more than 15.
+/// As many bytes of a process's status are read. Where the line of its groups doesn't end in them, they are more than
+/// 15.
 const STATUS_BYTES: usize = 4_096;
 
-/// The messages that make calls, by their numbers in the protocol: LOOKUP, GETATTR, SETATTR, MKNOD to RENAME, OPEN to WRITE,
-/// FSYNC, OPENDIR, FSYNCDIR to CREATE, IOCTL, RENAME2.
+/// The messages that make calls, by their numbers in the protocol: LOOKUP, GETATTR, SETATTR, MKNOD to RENAME, OPEN to
+/// WRITE, FSYNC, OPENDIR, FSYNCDIR to CREATE, IOCTL, RENAME2.
 const CALLING: [u32; 18] = [
     1, 3, 4, 8, 9, 10, 11, 12, 14, 15, 16, 20, 27, 30, 34, 35, 39, 45,
 ];
@@ -72,7 +72,8 @@ fn judged_as(text: &[u8], name: &[u8]) -> Option<u32> {
     word.parse::<u32>().ok()
 }
 
-/// The groups of a process but the first, by what its file says; none where it is another user's by now, or they are too many.
+/// The groups of a process but the first, by what its status says; none where it is another user's by now, or they are
+/// too many.
 fn others_in(alloc: Global, text: &[u8], header: &Header) -> Result<Option<Vec<u32>>, AllocError> {
     if judged_as(text, b"Uid:") != Some(header.uid)
         || judged_as(text, b"Gid:") != Some(header.gid)
@@ -93,21 +94,17 @@ fn others_in(alloc: Global, text: &[u8], header: &Header) -> Result<Option<Vec<u
     Ok(Some(groups))
 }
 
-/// The groups of the process of a message but that of its header, at most 15, in its file beneath `/proc`; `None` where they
-/// can't be known. The file is read once: the system gives all of it at once, or as many bytes as are asked for.
+/// The groups of the process of a message but that of its header, at most 15, by what its status says now; `None` where
+/// they can't be known.
 pub(crate) fn others<S: Files>(
     alloc: Global,
     files: &S,
+    statuses: &mut Statuses<S::File>,
     header: &Header,
 ) -> Result<Option<Vec<u32>>, AllocError> {
-    let pid = header.pid;
-    let path = format!(in alloc; "/proc/{pid}/status")?;
-    let Ok(mut file) = File::open(files, path.as_str()) else {
-        return Ok(None);
-    };
     let mut buffer = [0; STATUS_BYTES];
-    let Ok(count) = file.read(&mut buffer) else {
-        return Ok(None);
-    };
-    others_in(alloc, whole_lines(&buffer[..count]), header)
+    match statuses.read(alloc, files, header.pid, &mut buffer)? {
+        Some(count) => others_in(alloc, whole_lines(&buffer[..count]), header),
+        None => Ok(None),
+    }
 }

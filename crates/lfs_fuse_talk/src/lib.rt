@@ -9,5 +9,6 @@ pub mod options;
 pub mod outside;
 pub mod program;
 pub mod served;
+mod statuses;
 pub mod talk;
 mod volume;

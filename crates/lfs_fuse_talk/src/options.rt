@@ -1,6 +1,6 @@
 //! What the arguments of `lfs_fuse` ask for.
 
-ghost use Rattle.std.specs.Prelude.{IfOk};
+ghost use Rattle.std.specs.Prelude.{IfErr, IfOk, IsErrAnd};
 ghost use Rattle.clap.specs.Values.{kind_of};
 ghost use Rattle.lfs_command.specs.Ends.{IsRefusal};
 ghost use Rattle.lfs_fuse_talk.specs.Ranges.{IsInRange};
@@ -8,7 +8,8 @@ ghost use Rattle.lfs_fuse_talk.specs.Ranges.{IsInRange};
 use clap::{Arg, ArgAction, ArgMatches, Command, Error};
 use lfs_command::flags::SERIALS;
 use lfs_command::numbers::NumberOption;
-use lfs_command::refusing::{self, wrong_value};
+use lfs_command::refusing::wrong_value;
+use lfs_command::words::{WordsFault, matches_of};
 use lfs_types::store::Params;
 use std::alloc::{AllocError, Global};
 use std::convert::AsStr;
@@ -81,12 +82,17 @@ pub struct Options<'a> {
 ///
 /// # Errors
 ///
-/// What the parser tells: for a word that is no option, a number out of its range, and help; or want of memory.
-pub fn options_of<'a, S: AsStr>(alloc: Global, words: &'a [S]) -> Result<Options<'a>, Error>
-    ensures { IfOk result (λ options. IsInRange options.params) }
+/// What the parser tells: for a word that is no option, a number out of its range, words that are no text, and help; or
+/// want of memory.
+pub fn options_of<'a, S: AsStr>(
+    alloc: Global,
+    words: Result<&'a [S], WordsFault>,
+) -> Result<Options<'a>, Error>
+    ensures ranges { IfOk result (λ options. IsInRange options.params) }
+    ensures unread { IfErr words.entry (λ _. IsErrAnd result (λ error. IsRefusal (kind_of error))) }
 {
     let mut command = command(alloc)?;
-    let matches = command.try_get_matches_from_mut(words)?;
+    let matches = matches_of(&mut command, words)?;
     let params = match params_in(&matches) {
         Ok(params) => params,
         Err(refusal) => return Err(wrong_value(&mut command, refusal)),
@@ -102,13 +108,6 @@ pub fn options_of<'a, S: AsStr>(alloc: Global, words: &'a [S]) -> Result<Options
         journal_out,
         recorded,
     })
-}
-
-/// The error of arguments that are no text, with exit code 2; or want of memory.
-pub fn not_utf8(alloc: Global) -> Error
-    ensures { IsRefusal (kind_of result) }
-{
-    refusing::not_utf8(command(alloc))
 }
 
 /// The parameters that the matches ask for, or what is told of the first that is refused.

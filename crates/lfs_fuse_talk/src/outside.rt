@@ -1,11 +1,12 @@
 //! What a mount asks of the world outside: the time, and the groups of a process.
 
-ghost use Rattle.std.specs.Prelude.{ℕ, List, Option, IfOk};
+ghost use Rattle.std.specs.Prelude.{◌≡◌, ℕ, List, Option, IfOk};
 ghost use Rattle.std.specs.Option.{option_map};
 ghost use Rattle.lfs_fuse_wire.specs.declared.attributes.Time.{Time};
 ghost use Rattle.lfs_fuse_wire.specs.declared.header.Header.{Header};
 
 use crate::groups::others;
+use crate::statuses::Statuses;
 use lfs_fuse_wire::attributes::Time;
 use lfs_fuse_wire::header::Header;
 use std::alloc::{AllocError, Global};
@@ -33,18 +34,25 @@ pub trait Outside {
 #[derive(Drop)]
 pub struct System<'a, S: Files + Clock> {
     system: &'a S,
+    /// The last time that its clock read.
     last: Time,
+    /// The files of the processes whose groups were asked for.
+    statuses: Statuses<S::File>,
 }
 
 impl<'a, S: Files + Clock> System<'a, S> {
-    /// This system.
-    pub fn of(system: &'a S) -> System<'a, S> {
+    /// This system, whose clock has not been read.
+    pub fn of(alloc: Global, system: &'a S) -> System<'a, S>
+        ensures system { result.system.now ≡ system.now }
+        ensures last { result.last ≡ record { seconds = 0; nanoseconds = 0 } }
+    {
         System {
             system,
             last: Time {
                 seconds: 0,
                 nanoseconds: 0,
             },
+            statuses: Statuses::new(alloc),
         }
     }
 }
@@ -75,12 +83,12 @@ impl<S: Files + Clock> Outside for System<'_, S> {
     }
 
     fn others(&mut self, alloc: Global, header: &Header) -> Result<Option<Vec<u32>>, AllocError> {
-        others(alloc, self.system, header)
+        others(alloc, self.system, &mut self.statuses, header)
     }
 }
 
-/// A recorded talk, whose processes are gone: no group is known but that of a message, and each look at the time is a second
-/// behind the one before.
+/// A recorded talk, whose processes are gone: no group is known but that of a message, and each look at the time is a
+/// second behind the one before.
 #[derive(Drop)]
 pub struct Recording {
     seconds: u64,
@@ -88,7 +96,9 @@ pub struct Recording {
 
 impl Recording {
     /// The beginning of a talk, at second 0 of 1970.
-    pub fn new() -> Recording {
+    pub fn new() -> Recording
+        ensures { result ≡ record { seconds = 0 } }
+    {
         Recording { seconds: 0 }
     }
 }

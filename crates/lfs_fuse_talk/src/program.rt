@@ -5,63 +5,48 @@ ghost use Rattle.clap.specs.Values.{kind_of};
 ghost use Rattle.lfs_fuse_wire.specs.declared.framing.Frame.TheVariants.{Partial};
 ghost use Rattle.lfs_command.specs.Ends.{EndsUnasked};
 ghost use Rattle.lfs_fuse_talk.specs.Ends.{EndsMount, EndsServing, IsBroken, IsFuseEnd, IsUnserved, status_of};
-ghost use Rattle.lfs_fuse_talk.specs.Ranges.{IsInRange};
 ghost use Rattle.lfs_fuse_talk.specs.Serving.{BeginsServing, HasServed, log_server};
 
 use crate::fault::TalkFault;
 use crate::filing::{Ledger, NAME, open_journal};
-use crate::options::{Options, not_utf8, options_of};
+use crate::options::{Options, options_of};
 use crate::outside::{Outside, Recording, System};
 use crate::served::Served;
 use crate::talk::{Talked, talk};
 use crate::volume::{keep, mounted};
 use clap::Error;
 use lfs_command::refusing::refuse;
-use lfs_command::words::{NoWords, words};
+use lfs_command::streams::Streams;
+use lfs_command::words::{texts, words};
 use lfs_io::tell::tell;
 use lfs_logstore::LogStore;
-use std::alloc::{AllocError, Global};
+use std::alloc::Global;
 use std::env::Env;
 use std::io::{Read, Write};
 use std::rt::Files;
 use std::time::Clock;
 
-/// Does what the arguments of an environment ask `lfs_fuse` for, and gives the status with which it ends: 0 for a
-/// talk that has its end, behind which a file of the journal that is asked for has each entry, and the volume is kept where
-/// an image is asked for, and for help; 1 for a fault, told in a line on standard error; 2 for words that are refused, and
-/// for a file of the journal that is not made.
-pub fn lfs_fuse<E, S, R, W, D>(
-    env: &E,
-    system: &S,
-    stdin: &mut R,
-    stdout: &mut W,
-    stderr: &mut D,
-) -> u8
+/// Does what the arguments of an environment ask `lfs_fuse` for, and gives the status with which it ends: 0 for a talk
+/// that has its end, behind which a file of the journal that is asked for has each entry, and the volume is kept where
+/// an image is asked for, and for help; 1 for a fault, told in a line on standard error; 2 for words that are refused,
+/// and for a file of the journal that is not made.
+pub fn lfs_fuse<E, S, R, W, D>(env: &E, system: &S, streams: &mut Streams<R, W, D>) -> u8
 where
     E: Env + AllocGlobal,
     S: Files + Clock,
     R: Read,
     W: Write,
     D: Write,
-    ensures { IsFuseEnd S S.Dir S.File.contents (R.remaining stdin.old) (R.remaining stdin.new)
-        (W.contents stdout.old) (W.contents stdout.new)
-        result stdin.old stdin.new stdout.old stdout.new stderr.old stderr.new }
+    ensures { IsFuseEnd S S.Dir S.File.contents
+        (R.remaining streams.old.stdin) (R.remaining streams.new.stdin)
+        (W.contents streams.old.stdout) (W.contents streams.new.stdout)
+        result streams.old.stdin streams.new.stdin streams.old.stdout streams.new.stdout
+        streams.old.stderr streams.new.stderr }
 {
     let alloc = env.alloc();
     let words = words(env);
-    let asked = asked(alloc, &words);
-    serve_asked(system, alloc, asked, stdin, stdout, stderr)
-}
-
-/// What the words of a command line ask for; the first is the program's name.
-fn asked<'a>(alloc: Global, words: &'a Result<Vec<String>, NoWords>) -> Result<Options<'a>, Error>
-    ensures { IfOk result (λ options. IsInRange options.params) }
-{
-    match words {
-        Ok(words) => options_of(alloc, words.as_slice()),
-        Err(NoWords::Memory) => Err(AllocError.into()),
-        Err(NoWords::NotUtf8) => Err(not_utf8(alloc)),
-    }
+    let asked = options_of(alloc, texts(&words));
+    serve_asked(system, alloc, asked, streams)
 }
 
 /// Does what was asked for, or tells why that is nothing.
@@ -69,9 +54,7 @@ fn serve_asked<S, R, W, D>(
     system: &S,
     alloc: Global,
     asked: Result<Options<'_>, Error>,
-    stdin: &mut R,
-    stdout: &mut W,
-    stderr: &mut D,
+    streams: &mut Streams<R, W, D>,
 ) -> u8
 where
     S: Files + Clock,
@@ -79,15 +62,17 @@ where
     W: Write,
     D: Write,
     ensures mount { IfOk asked.entry (λ options. EndsMount S S.Dir S.File.contents options
-        (R.remaining stdin.old) (R.remaining stdin.new)
-        (W.contents stdout.old) (W.contents stdout.new)
-        result stdin.old stdin.new stdout.old stdout.new stderr.old stderr.new) }
-    ensures not_run { IfErr asked.entry (λ error. (stdin.new ≡ stdin.old)
-        × EndsUnasked (kind_of error) result stdout.old stdout.new stderr.old stderr.new) }
+        (R.remaining streams.old.stdin) (R.remaining streams.new.stdin)
+        (W.contents streams.old.stdout) (W.contents streams.new.stdout)
+        result streams.old.stdin streams.new.stdin streams.old.stdout streams.new.stdout
+        streams.old.stderr streams.new.stderr) }
+    ensures not_run { IfErr asked.entry (λ error. (streams.new.stdin ≡ streams.old.stdin)
+        × EndsUnasked (kind_of error) result streams.old.stdout streams.new.stdout
+        streams.old.stderr streams.new.stderr) }
 {
     match asked {
-        Ok(options) => run(system, alloc, &options, stdin, stdout, stderr),
-        Err(error) => refuse(stdout, stderr, NAME, &error),
+        Ok(options) => run(system, alloc, &options, streams),
+        Err(error) => refuse(&mut streams.stdout, &mut streams.stderr, NAME, &error),
     }
 }
 
@@ -96,9 +81,7 @@ fn run<S, R, W, D>(
     system: &S,
     alloc: Global,
     options: &Options<'_>,
-    stdin: &mut R,
-    stdout: &mut W,
-    stderr: &mut D,
+    streams: &mut Streams<R, W, D>,
 ) -> u8
 where
     S: Files + Clock,
@@ -106,30 +89,15 @@ where
     W: Write,
     D: Write,
     ensures { EndsMount S S.Dir S.File.contents options.now
-        (R.remaining stdin.old) (R.remaining stdin.new)
-        (W.contents stdout.old) (W.contents stdout.new)
-        result stdin.old stdin.new stdout.old stdout.new stderr.old stderr.new }
+        (R.remaining streams.old.stdin) (R.remaining streams.new.stdin)
+        (W.contents streams.old.stdout) (W.contents streams.new.stdout)
+        result streams.old.stdin streams.new.stdin streams.old.stdout streams.new.stdout
+        streams.old.stderr streams.new.stderr }
 {
     if options.recorded {
-        mount(
-            Recording::new(),
-            system,
-            alloc,
-            options,
-            stdin,
-            stdout,
-            stderr,
-        )
+        mount(Recording::new(), system, alloc, options, streams)
     } else {
-        mount(
-            System::of(system),
-            system,
-            alloc,
-            options,
-            stdin,
-            stdout,
-            stderr,
-        )
+        mount(System::of(alloc, system), system, alloc, options, streams)
     }
 }
 
@@ -139,9 +107,7 @@ fn mount<P, S, R, W, D>(
     files: &S,
     alloc: Global,
     options: &Options<'_>,
-    stdin: &mut R,
-    stdout: &mut W,
-    stderr: &mut D,
+    streams: &mut Streams<R, W, D>,
 ) -> u8
 where
     P: Outside + Drop,
@@ -150,16 +116,17 @@ where
     W: Write,
     D: Write,
     ensures { EndsServing S.File.contents options.now (log_server P.time P.groups)
-        (R.remaining stdin.old) (R.remaining stdin.new)
-        (W.contents stdout.old) (W.contents stdout.new)
-        result stdin.old stdin.new stdout.old stdout.new stderr.old stderr.new }
+        (R.remaining streams.old.stdin) (R.remaining streams.new.stdin)
+        (W.contents streams.old.stdout) (W.contents streams.new.stdout)
+        result streams.old.stdin streams.new.stdin streams.old.stdout streams.new.stdout
+        streams.old.stderr streams.new.stderr }
 {
     match begin(outside, files, alloc, options) {
         Ok(served) => {
-            let outcome = serve(served, files, alloc, options, stdin, stdout, stderr);
-            finish(stderr, outcome)
+            let outcome = serve(served, files, alloc, options, streams);
+            finish(&mut streams.stderr, outcome)
         }
-        Err(fault) => finish(stderr, Err(fault)),
+        Err(fault) => finish(&mut streams.stderr, Err(fault)),
     }
 }
 
@@ -187,16 +154,14 @@ fn begin<P: Outside + Drop, S: Files>(
     Ok(served)
 }
 
-/// Answers messages on a mount, whose volume is kept behind them where a file is named for it, also where the talk had a
-/// fault, or the file of its journal took no more.
+/// Answers messages on a mount, whose volume is kept behind them where a file is named for it, also where the talk had
+/// a fault, or the file of its journal took no more.
 fn serve<P, S, R, W, D>(
     served: Served<LogStore, P, S::File>,
     files: &S,
     alloc: Global,
     options: &Options<'_>,
-    stdin: &mut R,
-    stdout: &mut W,
-    stderr: &mut D,
+    streams: &mut Streams<R, W, D>,
 ) -> Result<Talked, TalkFault>
 where
     P: Outside + Drop,
@@ -206,14 +171,21 @@ where
     D: Write,
     requires { (first : Option (List ℕ)) × BeginsServing S.File.contents options.now first served }
     ensures served { IfOk result (λ talked. HasServed S.File.contents options.now
-        (log_server P.time P.groups) (R.remaining stdin.old) (R.remaining stdin.new)
-        (W.contents stdout.old) (W.contents stdout.new) Partial talked.is_whole true true) }
-    ensures silent { OnOk result (stderr.new ≡ stderr.old) }
+        (log_server P.time P.groups)
+        (R.remaining streams.old.stdin) (R.remaining streams.new.stdin)
+        (W.contents streams.old.stdout) (W.contents streams.new.stdout)
+        Partial talked.is_whole true true) }
+    ensures silent { OnOk result (streams.new.stderr ≡ streams.old.stderr) }
     ensures broken { IfErr result (IsBroken options.now ⊥
         (HasServed S.File.contents options.now (log_server P.time P.groups)
-        (R.remaining stdin.old) (R.remaining stdin.new)
-        (W.contents stdout.old) (W.contents stdout.new))) }
+        (R.remaining streams.old.stdin) (R.remaining streams.new.stdin)
+        (W.contents streams.old.stdout) (W.contents streams.new.stdout))) }
 {
+    let Streams {
+        stdin,
+        stdout,
+        stderr,
+    } = streams;
     let mut served = served;
     let talked = talk(alloc, &mut served, stdin, stdout, stderr);
     let is_kept = served.is_open();

@@ -85,7 +85,7 @@ impl<F: CleanedStore + Drop, P: Outside + Drop, W: Write + Drop> Served<F, P, W>
         message: &[u8],
     ) -> Result<Vec<u8>, AllocError>
         ensures served { IfOk result (λ reply. IsServedTo
-            (server_of F.state F.is_settled P.time P.groups)
+            (server_of F.state F.is_flushed P.time P.groups)
             header.now (held self.old) message.now reply.items (held self.new)) }
         ensures journal { OnOk result (GoesOn F.state self.old.mount.tree.volume
             self.new.mount.tree.volume) }
@@ -107,7 +107,7 @@ impl<F: CleanedStore + Drop, P: Outside + Drop, W: Write + Drop> Served<F, P, W>
 impl<F: CleanedStore + Drop, P: Outside + Drop, W: Write + Drop> Answerer for Served<F, P, W> {
     ghost answers = { λ old message reply new. Advances W.contents
         (λ first from to. IsServed W.contents first
-        (server_of F.state F.is_settled P.time P.groups) from message reply to) old new };
+        (server_of F.state F.is_flushed P.time P.groups) from message reply to) old new };
 
     ghost rests = { λ old new. Advances W.contents
         (λ first from to. HasRested W.contents first F.state from to) old new };

@@ -135,7 +135,7 @@ fn save<S: Files>(
 ) -> Result<(), KeepFault>
     ensures { OnOk result (IsKept S.File.contents mount.old.tree.volume) }
 {
-    if !mount.settle(alloc)? {
+    if !mount.flush(alloc)? {
         return Err(KeepFault::Save);
     }
     save_file(files, alloc, mount.store(), mount.level(), path)

@@ -1,4 +1,8 @@
--- How a run ends whose entries go to a file.
+-- How a run ends whose entries go to a file: `begun_of`, `filed_alone`, `broken_alone` and `broken_late` for
+-- `run_alone`, `filed_together` and `broken_together` for `run_together`. The promise has a part for a run on the
+-- caller's thread and one for threads; the options ask for one, and the other is absurd (`apart`). The volume was laid
+-- out by the numbers of the options (`fresh_as`, `unfit_as`), and its journal began at the opening tree. The sink's
+-- next line is number 1, so where it took all entries the file has the numbered lines of all.
 use Rattle.std.proofs.Common.{◌≡◌, ℕ, Bool, true, false, List, [], Option, None, Some, Result, Err, IfSome}
 use Rattle.std.proofs.Common.{refl, sym, subst, ◌≤◌, arith}
 use Rattle.std.specs.Io.KnownBytes.{Appends, Keeps}

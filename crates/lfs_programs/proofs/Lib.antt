@@ -3,3 +3,4 @@ pub mod ShellLemmas
 pub mod VolumeLemmas
 pub mod StandLemmas
 pub mod FiledLemmas
+pub mod OptionLemmas

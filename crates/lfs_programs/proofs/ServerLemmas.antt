@@ -1,4 +1,8 @@
--- How a run ends of the script that a reader has.
+-- How a run ends of the script that a reader has: `ends_run` and `ends_unread` for `run_from`. The script is read to
+-- its end before the run, so the run is of bytes that are known; where the reader tells its bytes they are the same,
+-- and so is the claim. Where it doesn't, the claim is of an unknown script: each cause of a fault loses what it says of
+-- the bytes and keeps the rest (`alone_unknown`, `together_unknown`, `filed_unknown`). A script that could not be read
+-- has status 1 and wrote nothing, and its fault says of the bytes at most that they are too many (`cause_read`).
 use Rattle.std.proofs.Common.{◌≡◌, ◌<◌, ℕ, Bool, false, true, List, length, Option, None, Some, IfSome}
 use Rattle.std.proofs.Common.{arith, refl, subst}
 use Rattle.std.specs.Io.KnownBytes.{Keeps}

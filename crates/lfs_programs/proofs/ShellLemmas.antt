@@ -1,4 +1,10 @@
--- How `lfs_shell` ends, by how its talk did.
+-- How `lfs_shell` ends, by how its talk did: `ends_talk` and `ends_unmade` for `talk_on`, `ends_unbegun` for `talk_in`,
+-- `ends_file` for `talk_of`, `ends_asked` for `talk_over`. `EndsTalk` says something for each status, so with the
+-- status known one of it is to be shown, and each other contradicts the number (`ends_broken`). Status 0 comes of an
+-- outcome without any fault, so the talk is one whose entries and volume are kept (`whole`) and whose film is written;
+-- status 1 of a fault, which tells what was talked until then: a failed read, the file of the journal, the image, the
+-- film, or a faulty line. No talk that has begun has a fault of beginning (`talk_cause`), and one that hasn't has no
+-- other (`unbegun_cause`).
 use Rattle.std.proofs.Common.{◌≡◌, ℕ, Bool, true, false, List, Option, Result, Ok, Err, IfErr, IfOk, IsSome, inl}
 use Rattle.std.proofs.Common.{IfSome, None, Some, is_some, refl, sym}
 use Rattle.std.proofs.Common.{ap, subst, ◌∙◌, arith}

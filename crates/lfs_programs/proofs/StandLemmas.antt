@@ -1,10 +1,14 @@
--- What a store over a log store is kept as, and how a volume over it begins.
+-- What a store over a log store is kept as, and how a volume over it begins: `fresh_over` and `opening_over` for
+-- `laid_out`, `image_over` and `world_over` for `over`, `saved_below` for `save`. Whatever stands over the log store
+-- contains what that contains (`same_content`), and which worlds a store shows is a matter of its content
+-- (`same_volume`). So over a log that was laid out it shows the opening tree, over one that was loaded the image's, and
+-- an image of the log store that is flushed keeps what the store shows at present.
 use Rattle.std.proofs.Common.{◌≡◌, ℕ, ◌∙◌, ap, sym, subst, [], Result, Ok, Err, OnOk, Option, List}
 use Rattle.lfs_types.specs.StoreStates.{StoreState}
 use Rattle.lfs_types.specs.Tree.{Content, World, opening_world}
 use Rattle.lfs_types.specs.declared.level.Level.{Level}
 use Rattle.lfs_types.specs.declared.level.Level.TheVariants.{Insecure}
-use Rattle.lfs_parts.specs.Store.{IsSettled}
+use Rattle.lfs_parts.specs.Store.{IsFlushed}
 use Rattle.lfs_parts.specs.declared.parts.Parts.{Parts}
 use Rattle.lfs_logstore.specs.States.{opening_state, state_of}
 use Rattle.lfs_calls.specs.Content.{Shows}
@@ -89,12 +93,12 @@ image_over {S} stand options log s level v on loaded is =
 -- what a talk left is kept where a file got the image of its log store
 pub saved_below : {F S : Type 0} (contents : F → Option (List ℕ)) (state : S → StoreState) (stand : Stand S)
     (left : Seen S) (s : S) (log : Parts) (level : Level) → log ≡ stand.parts s
-    → (state s).content ≡ (state_of (stand.parts s)).content → IsSettled (stand.parts s)
+    → (state s).content ≡ (state_of (stand.parts s)).content → IsFlushed (stand.parts s)
     → AtPresent state left (Begins (state s) level) → HasImage contents log.log level → HasSaved contents state left
-saved_below contents state stand left s log level is contains settled shown image = record {
+saved_below contents state stand left s log level is contains flushed shown image = record {
   store = stand.parts s;
   level = level;
-  settled = settled;
+  flushed = flushed;
   shown = λ from begun.
       let b = shown from begun in
       record { shown = same_volume (state s) (state_of (stand.parts s)) _ contains b.shown; at_level = b.at_level };

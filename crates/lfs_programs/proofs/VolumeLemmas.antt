@@ -1,4 +1,9 @@
--- Talks over the volume that was asked for.
+-- Talks over the volume that was asked for: `talked_alone`, `talked_filed`, `talked_so_far` and `still_closed` for
+-- `filming::hear`, `heard_shown` and `so_far_shown` for `hear_over`, `pieces_left` for `shell::run`. A volume that
+-- begins as was asked, laid out or of an image, has no entries (`begun_empty`), so lfs_live's promise of a talk holds
+-- of it. Whether a file of the journal is asked for decides which of two claims is made, and the other is absurd; with
+-- one, the sink's bytes are the file's and its next line is number 1, so the lines are a journal's. The look for the
+-- film changes nothing, so the talk behind it is one from the beginning.
 use Rattle.std.proofs.Common.{◌≡◌, ℕ, Bool, true, false, List, [], ◌++◌, Option, inl, inr, refl, sym}
 use Rattle.std.proofs.Common.{ap}
 use Rattle.std.proofs.Common.{subst, ◌∙◌, ◌==◌, is_some}

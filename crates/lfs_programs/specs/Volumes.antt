@@ -3,7 +3,7 @@ use Rattle.std.specs.Prelude.{◌≡◌, ◌⊎◌, ℕ, Bool, true, false, List
 use Rattle.lfs_types.specs.StoreStates.{StoreState}
 use Rattle.lfs_types.specs.Tree.{opening_world}
 use Rattle.lfs_types.specs.declared.level.Level.{Level}
-use Rattle.lfs_parts.specs.Store.{IsSettled}
+use Rattle.lfs_parts.specs.Store.{IsFlushed}
 use Rattle.lfs_parts.specs.declared.parts.Parts.{Parts}
 use Rattle.lfs_logstore.specs.States.{opening_state, state_of}
 use Rattle.lfs_volume.specs.Cleanings.{Cleaner, cleaner_of}
@@ -94,7 +94,7 @@ log_kind contents = kind_of contents log_cleaner log_texts IsCheckTold log_stand
 
 abbrev pub share_kind : {F : Type 0} → (F → Option (List ℕ)) → Kind Parts
 share_kind contents =
-    kind_of contents (cleaner_of shared_state IsSettled ComesTo shared_calls) log_texts IsCheckTold share_stand
+    kind_of contents (cleaner_of shared_state IsFlushed ComesTo shared_calls) log_texts IsCheckTold share_stand
 
 -- the kind of store that is asked for: one with a share, or the log store
 abbrev pub asked_kind : {F : Type 0} → (F → Option (List ℕ)) → Bool → Kind Parts

@@ -22,7 +22,8 @@ pub enum ShellFault {
     /// No volume was loaded from the image's file, and nothing is read.
     #[error("{0}")]
     Image(KeepFault),
-    /// The volume of the image takes more than the share that is asked for, or has no two clean segments, and nothing is read.
+    /// The volume of the image takes more than the share that is asked for, or has no two clean segments, and nothing
+    /// is read.
     #[error("image past its share")]
     PastShare,
     /// All was answered, and the volume is not kept in the image's file, which was told by then.

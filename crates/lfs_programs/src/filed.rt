@@ -9,7 +9,7 @@ use crate::options::{LEAST_WINDOW, Options};
 use crate::server::NAME;
 use lfs_audit::filing::FiledVolume;
 use lfs_audit::run::read_plan;
-use lfs_audit::threads::{read_sessions, run_sessions};
+use lfs_audit::threads::{SessionPlan, read_sessions, run_sessions};
 use lfs_io::tell::tell;
 use lfs_server::fresh::fresh_volume;
 use lfs_sinks::sink::LineSink;
@@ -125,7 +125,13 @@ where
     let sessions = read_sessions(alloc, &mut script)?;
     let file = make_journal(files, path)?;
     let mut sink = LineSink::new(alloc, file);
-    match run_sessions(rt, alloc, options.params, sessions, &mut sink, stdout)? {
+    let (setup, scripts) = sessions;
+    let sessions = SessionPlan {
+        params: options.params,
+        setup,
+        scripts,
+    };
+    match run_sessions(rt, alloc, sessions, &mut sink, stdout)? {
         None => Ok(()),
         Some(fault) => {
             let _ = tell(stderr, NAME, &fault);

@@ -5,7 +5,8 @@ ghost use Rattle.lfs_audit.specs.declared.fault.RunFault.TheVariants.{Read as Fa
 ghost use Rattle.lfs_live.specs.Faults.{IsTalkFault};
 ghost use Rattle.lfs_live.specs.Held.{HasBegun, sink_of};
 ghost use Rattle.lfs_live.specs.Talking.{HasKeptSoFar};
-ghost use Rattle.lfs_programs.specs.Talks.{Finishes, HasHeard, HasPage, HasTalked, HasTalkedSoFar, IsFilmOf};
+ghost use Rattle.lfs_programs.specs.Talks.{Finishes, HasHeard, HasPage, HasTalked, HasTalkedSoFar};
+ghost use Rattle.lfs_programs.specs.Talks.{IsFilmOf};
 ghost use Rattle.lfs_live.specs.Talkers.{texts_of};
 ghost use Rattle.lfs_programs.specs.Volumes.{IsBegun, kind_of};
 ghost use Rattle.lfs_volume.specs.Cleanings.{cleaner_of};
@@ -17,10 +18,11 @@ use crate::volume::keep;
 use lfs_audit::fault::RunFault;
 use lfs_checking::fault::KeepFault;
 use lfs_checking::keeping::save_file;
+use lfs_command::means::Means;
 use lfs_film::film::Film;
 use lfs_live::talk::{Setting, talk};
 use lfs_live::tended::Tended;
-use lfs_live::watch::{Unkept, Watch};
+use lfs_live::watch::{Watch, WatchFault};
 use lfs_live::witnesses::{Teller, Witnesses};
 use lfs_sinks::sink::{JournalSink, LineSink, Nowhere};
 use lfs_types::level::Level;
@@ -56,14 +58,14 @@ impl<S: OverLog, F: Files> Watch<S> for Filming<'_, F> {
         self.image.is_some()
     }
 
-    fn keep(&self, alloc: Global, store: &S, level: Level) -> Result<(), Unkept> {
+    fn keep(&self, alloc: Global, store: &S, level: Level) -> Result<(), WatchFault> {
         let Some(path) = self.image else {
-            return Err(Unkept::Unwritten);
+            return Err(WatchFault::Unwritten);
         };
         match save_file(self.files, alloc, store.log_store(), level, path) {
             Ok(()) => Ok(()),
-            Err(KeepFault::Memory) => Err(Unkept::Memory),
-            Err(_) => Err(Unkept::Unwritten),
+            Err(KeepFault::Memory) => Err(WatchFault::Memory),
+            Err(_) => Err(WatchFault::Unwritten),
         }
     }
 
@@ -79,17 +81,6 @@ impl<S: OverLog, F: Files> Watch<S> for Filming<'_, F> {
             None => Ok(()),
         }
     }
-}
-
-/// What a talk is had with.
-#[derive(Drop)]
-pub(crate) struct Means<'a, F: Files> {
-    /// The files.
-    pub(crate) files: &'a F,
-    /// The memory.
-    pub(crate) alloc: Global,
-    /// What was asked for.
-    pub(crate) options: ShellOptions<'a>,
 }
 
 /// What a talk begins with.
@@ -121,14 +112,14 @@ pub(crate) struct Heard {
     ending: Ending,
 }
 
-/// Answers lines as they come, and keeps the volume behind them, where that is asked for. The journal's entries go to a file,
-/// where there is one; why it takes no more, and why the volume is not kept, is told at once.
+/// Answers lines as they come, and keeps the volume behind them, where that is asked for. The journal's entries go to a
+/// file, where there is one; why it takes no more, and why the volume is not kept, is told at once.
 ///
 /// # Errors
 ///
 /// The talk's fault.
 pub(crate) fn hear<S: OverLog + Drop, F: Files, R: Read, W: Write, D: Write>(
-    means: &Means<'_, F>,
+    means: &Means<'_, F, ShellOptions<'_>>,
     outset: Outset<S, F::File>,
     reader: &mut R,
     writer: &mut W,
@@ -137,7 +128,7 @@ pub(crate) fn hear<S: OverLog + Drop, F: Files, R: Read, W: Write, D: Write>(
     requires begun { IsBegun S.state S.stand means.now.options outset.volume }
     requires filed { is_some outset.journal ≡ is_some means.now.options.journal_out }
     ensures talked { let kind = kind_of F.File.contents
-        (cleaner_of S.state S.is_settled S.made S.cleaner)
+        (cleaner_of S.state S.is_flushed S.made S.cleaner)
         (texts_of S.map_text S.segment_text S.space_text) S.checked S.stand in
         IfOk result (λ heard. HasTalked F.File.contents kind means.now.options heard.ending
         (R.remaining reader.old) (W.contents writer.old) (W.contents writer.new)) }
@@ -148,7 +139,7 @@ pub(crate) fn hear<S: OverLog + Drop, F: Files, R: Read, W: Write, D: Write>(
     ensures saved { IfOk result (λ heard. heard.ending.is_saved ≡ false
         → IsSome means.now.options.image) }
     ensures so_far { let kind = kind_of F.File.contents
-        (cleaner_of S.state S.is_settled S.made S.cleaner)
+        (cleaner_of S.state S.is_flushed S.made S.cleaner)
         (texts_of S.map_text S.segment_text S.space_text) S.checked S.stand in
         IfErr result (λ fault. fault ≡ Failed
         → HasTalkedSoFar F.File.contents kind means.now.options
@@ -199,21 +190,21 @@ pub(crate) fn hear<S: OverLog + Drop, F: Files, R: Read, W: Write, D: Write>(
     })
 }
 
-/// Answers lines as they come on a volume, and keeps it behind them, where that is asked for. It says nothing of the file of
-/// the journal.
+/// Answers lines as they come on a volume, and keeps it behind them, where that is asked for. It says nothing of the
+/// file of the journal.
 ///
 /// # Errors
 ///
 /// The talk's fault.
 fn hear_over<S: OverLog + Drop, F: Files, J: JournalSink + Drop, R: Read, W: Write, D: Write>(
-    means: &Means<'_, F>,
+    means: &Means<'_, F, ShellOptions<'_>>,
     tended: &mut Tended<S, J, Filming<'_, F>>,
     reader: &mut R,
     writer: &mut W,
     teller: &mut D,
 ) -> Result<Ending, RunFault>
     ensures heard { let kind = kind_of F.File.contents
-        (cleaner_of S.state S.is_settled S.made S.cleaner)
+        (cleaner_of S.state S.is_flushed S.made S.cleaner)
         (texts_of S.map_text S.segment_text S.space_text) S.checked S.stand in
         IfOk result (λ ending. HasBegun tended.old
         → HasHeard F.File.contents kind (sink_of J.contents J.next) means.now.options ending
@@ -227,7 +218,7 @@ fn hear_over<S: OverLog + Drop, F: Files, J: JournalSink + Drop, R: Read, W: Wri
     ensures saved { IfOk result (λ ending. ending.is_saved ≡ false
         → IsSome means.now.options.image) }
     ensures so_far { let kind = kind_of F.File.contents
-        (cleaner_of S.state S.is_settled S.made S.cleaner)
+        (cleaner_of S.state S.is_flushed S.made S.cleaner)
         (texts_of S.map_text S.segment_text S.space_text) S.checked S.stand in
         IfErr result (λ fault. fault ≡ Failed → HasBegun tended.old
         → HasKeptSoFar kind.talker means.now.options.framing (sink_of J.contents J.next)
@@ -261,10 +252,10 @@ fn hear_over<S: OverLog + Drop, F: Files, J: JournalSink + Drop, R: Read, W: Wri
 ///
 /// # Errors
 ///
-/// The talk's fault; `Film`: the page was not written; `Journal`: the file of the journal has not each entry; `Unsaved`: the
-/// volume is not kept; `Line`: a line had a fault, where that is asked for.
+/// The talk's fault; `Film`: the page was not written; `Journal`: the file of the journal has not each entry;
+/// `Unsaved`: the volume is not kept; `Line`: a line had a fault, where that is asked for.
 pub(crate) fn finish<F: Files>(
-    means: &Means<'_, F>,
+    means: &Means<'_, F, ShellOptions<'_>>,
     heard: Result<Heard, RunFault>,
 ) -> Result<(), ShellFault>
     ensures { Finishes F.File.contents means.now.options heard result }
@@ -295,13 +286,13 @@ pub(crate) fn finish<F: Files>(
     Ok(())
 }
 
-/// Writes the page of a film to a file beside that of this path, which then gets its name: so the file of this path is a whole
-/// film, or as it was.
+/// Writes the page of a film to a file beside that of this path, which then gets its name: so the file of this path is
+/// a whole film, or as it was.
 ///
 /// # Errors
 ///
-/// What has this path is no file, as a device, which would be replaced; the file could not be made, written or named so; there is
-/// no film; or memory ran out.
+/// What has this path is no file, as a device, which would be replaced; the file could not be made, written or named
+/// so; there is no film; or memory ran out.
 fn write_film<F: Files>(
     files: &F,
     alloc: Global,

@@ -1,6 +1,6 @@
 //! What the arguments of `lfsd` and of `lfs_shell` ask for.
 
-ghost use Rattle.std.specs.Prelude.{◌≤◌, IfOk, IsSome};
+ghost use Rattle.std.specs.Prelude.{◌≤◌, IfErr, IfOk, IsErrAnd, IsSome};
 ghost use Rattle.clap.specs.Values.{kind_of};
 ghost use Rattle.lfs_command.specs.Ends.{IsRefusal};
 ghost use Rattle.lfs_command.specs.Ranges.{IsBetween};
@@ -9,7 +9,8 @@ ghost use Rattle.lfs_programs.specs.Ranges.{IsInRange};
 use clap::{Arg, ArgAction, ArgMatches, Command, Error};
 use lfs_command::flags::SERIALS;
 use lfs_command::numbers::NumberOption;
-use lfs_command::refusing::{self, wrong_value};
+use lfs_command::refusing::wrong_value;
+use lfs_command::words::{WordsFault, matches_of};
 use lfs_live::framing::Framing;
 use lfs_types::store::Params;
 use std::alloc::{AllocError, Global};
@@ -134,15 +135,19 @@ pub struct Options<'a> {
 ///
 /// # Errors
 ///
-/// What the parser tells, with its exit code: 2 for a word that is no option or a number out of its range, 0 for `--help` and
-/// `--version`; or want of memory.
-pub fn options_of<'a, S: AsStr>(alloc: Global, words: &'a [S]) -> Result<Options<'a>, Error>
+/// What the parser tells, with its exit code: 2 for a word that is no option, a number out of its range and words that
+/// are no text, 0 for `--help` and `--version`; or want of memory.
+pub fn options_of<'a, S: AsStr>(
+    alloc: Global,
+    words: Result<&'a [S], WordsFault>,
+) -> Result<Options<'a>, Error>
     ensures ranges { IfOk result (λ options. IsInRange 100000 options.params) }
     ensures window { IfOk result (λ options. IsSome options.journal_out
         → 128 ≤ options.params.journal) }
+    ensures unread { IfErr words.entry (λ _. IsErrAnd result (λ error. IsRefusal (kind_of error))) }
 {
     let mut command = command(alloc)?;
-    let matches = command.try_get_matches_from_mut(words)?;
+    let matches = matches_of(&mut command, words)?;
     match params_in(&matches, &JOURNAL) {
         Ok(params) => {
             let journal_out = matches.get_str(JOURNAL_OUT);
@@ -194,14 +199,15 @@ pub struct ShellOptions<'a> {
 /// As those of `options_of`.
 pub fn shell_options_of<'a, S: AsStr>(
     alloc: Global,
-    words: &'a [S],
+    words: Result<&'a [S], WordsFault>,
 ) -> Result<ShellOptions<'a>, Error>
     ensures ranges { IfOk result (λ options. IsInRange 1000000 options.params) }
     ensures window { IfOk result (λ options. IsSome options.journal_out
         → 128 ≤ options.params.journal) }
+    ensures unread { IfErr words.entry (λ _. IsErrAnd result (λ error. IsRefusal (kind_of error))) }
 {
     let mut command = shell_command(alloc)?;
-    let matches = command.try_get_matches_from_mut(words)?;
+    let matches = matches_of(&mut command, words)?;
     match params_in(&matches, &SHELL_JOURNAL) {
         Ok(params) => {
             let film = matches.get_str(FILM);
@@ -229,29 +235,8 @@ pub fn shell_options_of<'a, S: AsStr>(
 /// What is told of a window that is too small.
 const SMALL_WINDOW: &str = "--journal-out takes a --journal of at least 128";
 
-/// The fault of arguments of `lfsd` that are no text.
-///
-/// # Errors
-///
-/// It is itself one, with exit code 2; or want of memory.
-pub fn not_utf8(alloc: Global) -> Error
-    ensures { IsRefusal (kind_of result) }
-{
-    refusing::not_utf8(command(alloc))
-}
-
-/// The same of `lfs_shell`.
-///
-/// # Errors
-///
-/// As those of `not_utf8`.
-pub fn shell_not_utf8(alloc: Global) -> Error
-    ensures { IsRefusal (kind_of result) }
-{
-    refusing::not_utf8(shell_command(alloc))
-}
-
-/// The parameters that the matches ask for, with this option for the journal, or what is told of the first that is refused.
+/// The parameters that the matches ask for, with this option for the journal, or what is told of the first that is
+/// refused.
 fn params_in(matches: &ArgMatches<'_>, journal: &NumberOption) -> Result<Params, &'static str>
     requires default { IsBetween journal.now.least journal.now.most journal.now.default }
     requires from_one { 1 ≤ journal.now.least }

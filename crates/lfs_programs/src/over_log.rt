@@ -1,7 +1,7 @@
 //! The kinds of store that `lfs_shell` is talked to over: each stands on a log store.
 
 ghost use Rattle.std.specs.Prelude.{◌≡◌, ◌≤◌, ℕ, IfNone, IfSome};
-ghost use Rattle.lfs_parts.specs.Store.{IsSettled};
+ghost use Rattle.lfs_parts.specs.Store.{IsFlushed};
 ghost use Rattle.lfs_parts.specs.declared.parts.Parts.{Parts};
 ghost use Rattle.lfs_logstore.specs.States.{opening_state, state_of};
 ghost use Rattle.lfs_programs.specs.Stands.{Stand};
@@ -32,7 +32,7 @@ pub(crate) trait OverLog: CleanedStore + ShowsLog + ChecksLog {
     /// It contains what its log store contains.
     ghost contains: { (s : Self) → (Self.state s).content ≡ (state_of (stand.parts s)).content };
     /// Where nothing waits in it, nothing waits in its log store.
-    ghost rests: { (s : Self) → Self.is_settled s → IsSettled (stand.parts s) };
+    ghost rests: { (s : Self) → Self.is_flushed s → IsFlushed (stand.parts s) };
     /// It may stand on one that was just laid out.
     ghost opens: { (segments numbers : ℕ) (p : Parts)
         → state_of p ≡ opening_state segments numbers → 6 ≤ segments → stand.refuses p → ⊥ };
@@ -46,7 +46,7 @@ impl OverLog for LogStore {
 
     ghost contains = { λ s. refl };
 
-    ghost rests = { λ s settled. settled };
+    ghost rests = { λ s flushed. flushed };
 
     ghost opens = { λ segments numbers p same enough refused. refused };
 
@@ -68,7 +68,7 @@ impl OverLog for SharedStore {
 
     ghost contains = { λ s. refl };
 
-    ghost rests = { λ s settled. settled };
+    ghost rests = { λ s flushed. flushed };
 
     ghost opens = { opening_within };
 

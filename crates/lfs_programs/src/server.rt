@@ -1,29 +1,32 @@
-//! `lfsd`: a script is read, from standard input or from a file, and run, with its sessions on threads where that is asked for.
+//! `lfsd`: a script is read, from standard input or from a file, and run, with its sessions on threads where that is
+//! asked for.
 
-ghost use Rattle.std.specs.Prelude.{◌≡◌, ◌≤◌, ℕ, List, Some, IfErr, IfOk, IfSome, IsSome, OnOk};
+ghost use Rattle.std.specs.Prelude.{◌≡◌, ℕ, List, Some, IfErr, IfOk, IfSome, OnOk};
 ghost use Rattle.std.specs.Io.KnownBytes.{Appends, Keeps};
 ghost use Rattle.clap.specs.Values.{kind_of};
 ghost use Rattle.lfs_command.specs.Ends.{EndsUnasked};
-ghost use Rattle.lfs_programs.specs.Ranges.{IsInRange};
 ghost use Rattle.lfs_audit.specs.Scripts.{IsLogOutput};
 ghost use Rattle.lfs_audit.specs.Threads.{MayHaveWrittenThreads};
-ghost use Rattle.lfs_programs.specs.Asked.{EndsRun, EndsServer, IsAloneFault, IsAskedFault, IsBroken, IsServerEnd, HasGotText, HasRun};
+ghost use Rattle.lfs_programs.specs.Asked.{EndsRun, EndsServer, IsAloneFault, IsAskedFault};
+ghost use Rattle.lfs_programs.specs.Asked.{IsBroken, IsServerEnd, HasGotText, HasRun};
 
 use crate::fault::ServerFault;
 use crate::filed::{FiledRun, run_filed};
-use crate::options::{Options, not_utf8, options_of};
+use crate::options::{Options, options_of};
 use crate::script::open_script;
 use crate::telling::tell_fault;
 use clap::Error;
 use lfs_audit::fault::ThreadsFault;
 use lfs_audit::run::run_script;
 use lfs_audit::threads::run_threads;
+use lfs_command::means::Means;
 use lfs_command::refusing::refuse;
-use lfs_command::words::{NoWords, words};
+use lfs_command::streams::Streams;
+use lfs_command::words::{texts, words};
 use lfs_io::read::read_script;
 use lfs_io::tell::tell;
 use lfs_types::store::Params;
-use std::alloc::{AllocError, Global};
+use std::alloc::Global;
 use std::env::Env;
 use std::io::{Read, Write};
 use std::rt::Files;
@@ -34,16 +37,9 @@ use std::thread::Threads;
 pub(crate) const NAME: &str = "lfsd";
 
 /// Does what the arguments of an environment ask `lfsd` for, and gives the status with which it ends: 0 for a run that
-/// is done, for help and for the version, 1 for a fault, told in a line on standard error, 2 for words that are refused, for
-/// a script's file that is not opened and for a file of the journal that is not made.
-pub fn lfsd<E, S, F, R, W, D>(
-    env: &E,
-    rt: &S,
-    files: &F,
-    stdin: &mut R,
-    stdout: &mut W,
-    stderr: &mut D,
-) -> u8
+/// is done, for help and for the version, 1 for a fault, told in a line on standard error, 2 for words that are
+/// refused, for a script's file that is not opened and for a file of the journal that is not made.
+pub fn lfsd<E, S, F, R, W, D>(env: &E, rt: &S, files: &F, streams: &mut Streams<R, W, D>) -> u8
 where
     E: Env + AllocGlobal,
     S: Threads + Wait + Sync,
@@ -51,27 +47,15 @@ where
     R: Read,
     W: Write,
     D: Write,
-    ensures { IsServerEnd F.File.contents
-        (R.remaining stdin.old) (W.contents stdout.old) (W.contents stdout.new)
-        result stdin.old stdin.new stdout.old stdout.new stderr.old stderr.new }
+    ensures { IsServerEnd F.File.contents (R.remaining streams.old.stdin)
+        (W.contents streams.old.stdout) (W.contents streams.new.stdout)
+        result streams.old.stdin streams.new.stdin streams.old.stdout streams.new.stdout
+        streams.old.stderr streams.new.stderr }
 {
     let alloc = env.alloc();
     let words = words(env);
-    let asked = asked(alloc, &words);
-    serve(rt, files, alloc, asked, stdin, stdout, stderr)
-}
-
-/// What the words of a command line ask for; the first is the program's name.
-fn asked<'a>(alloc: Global, words: &'a Result<Vec<String>, NoWords>) -> Result<Options<'a>, Error>
-    ensures ranges { IfOk result (λ options. IsInRange 100000 options.params) }
-    ensures window { IfOk result (λ options. IsSome options.journal_out
-        → 128 ≤ options.params.journal) }
-{
-    match words {
-        Ok(words) => options_of(alloc, words.as_slice()),
-        Err(NoWords::Memory) => Err(AllocError.into()),
-        Err(NoWords::NotUtf8) => Err(not_utf8(alloc)),
-    }
+    let asked = options_of(alloc, texts(&words));
+    serve(rt, files, alloc, asked, streams)
 }
 
 /// Does what was asked for, or tells why that is nothing.
@@ -80,9 +64,7 @@ pub fn serve<S, F, R, W, D>(
     files: &F,
     alloc: Global,
     asked: Result<Options<'_>, Error>,
-    stdin: &mut R,
-    stdout: &mut W,
-    stderr: &mut D,
+    streams: &mut Streams<R, W, D>,
 ) -> u8
 where
     S: Threads + Wait + Sync,
@@ -91,32 +73,64 @@ where
     W: Write,
     D: Write,
     ensures run { IfOk asked.entry (λ options. EndsServer F.File.contents options
-        (R.remaining stdin.old) (W.contents stdout.old) (W.contents stdout.new)
-        result stdin.old stdin.new stdout.old stdout.new stderr.old stderr.new) }
-    ensures not_run { IfErr asked.entry (λ error. (stdin.new ≡ stdin.old)
-        × EndsUnasked (kind_of error) result stdout.old stdout.new stderr.old stderr.new) }
+        (R.remaining streams.old.stdin)
+        (W.contents streams.old.stdout) (W.contents streams.new.stdout)
+        result streams.old.stdin streams.new.stdin streams.old.stdout streams.new.stdout
+        streams.old.stderr streams.new.stderr) }
+    ensures not_run { IfErr asked.entry (λ error. (streams.new.stdin ≡ streams.old.stdin)
+        × EndsUnasked (kind_of error) result streams.old.stdout streams.new.stdout
+        streams.old.stderr streams.new.stderr) }
 {
     match asked {
-        Ok(options) => match open_script(files, options.script) {
-            Ok(Some(mut script)) => {
-                run_from(rt, files, alloc, options, &mut script, stdout, stderr)
-            }
-            Ok(None) => run_from(rt, files, alloc, options, stdin, stdout, stderr),
-            Err(fault) => {
-                let _ = tell(stderr, NAME, &fault);
-                2
-            }
-        },
-        Err(error) => refuse(stdout, stderr, NAME, &error),
+        Ok(options) => {
+            let means = Means {
+                files,
+                alloc,
+                options,
+            };
+            serve_asked(rt, &means, streams)
+        }
+        Err(error) => refuse(&mut streams.stdout, &mut streams.stderr, NAME, &error),
+    }
+}
+
+/// Runs the script of the file that was asked for, or else of standard input. Gives the status with which the program
+/// ends.
+fn serve_asked<S, F, R, W, D>(
+    rt: &S,
+    means: &Means<'_, F, Options<'_>>,
+    streams: &mut Streams<R, W, D>,
+) -> u8
+where
+    S: Threads + Wait + Sync,
+    F: Files,
+    R: Read,
+    W: Write,
+    D: Write,
+    ensures { EndsServer F.File.contents means.now.options (R.remaining streams.old.stdin)
+        (W.contents streams.old.stdout) (W.contents streams.new.stdout)
+        result streams.old.stdin streams.new.stdin streams.old.stdout streams.new.stdout
+        streams.old.stderr streams.new.stderr }
+{
+    let Streams {
+        stdin,
+        stdout,
+        stderr,
+    } = streams;
+    match open_script(means.files, means.options.script) {
+        Ok(Some(mut script)) => run_from(rt, means, &mut script, stdout, stderr),
+        Ok(None) => run_from(rt, means, stdin, stdout, stderr),
+        Err(fault) => {
+            let _ = tell(stderr, NAME, &fault);
+            2
+        }
     }
 }
 
 /// Reads a script, runs it as was asked, and tells its fault. Gives the status with which the program ends.
 fn run_from<S, F, R, W, D>(
     rt: &S,
-    files: &F,
-    alloc: Global,
-    options: Options<'_>,
+    means: &Means<'_, F, Options<'_>>,
     reader: &mut R,
     stdout: &mut W,
     stderr: &mut D,
@@ -127,12 +141,12 @@ where
     R: Read,
     W: Write,
     D: Write,
-    ensures { EndsRun F.File.contents options.entry
+    ensures { EndsRun F.File.contents means.now.options
         (R.remaining reader.old) (W.contents stdout.old) (W.contents stdout.new)
         result stdout.old stdout.new stderr.old stderr.new }
 {
-    match read_script(alloc, reader) {
-        Ok(script) => run_bytes(rt, files, alloc, options, script.as_slice(), stdout, stderr),
+    match read_script(means.alloc, reader) {
+        Ok(script) => run_bytes(rt, means, script.as_slice(), stdout, stderr),
         Err(fault) => {
             let _ = tell(stderr, NAME, &fault);
             1
@@ -143,9 +157,7 @@ where
 /// Runs the script of these bytes as was asked, and tells its fault. Gives the status with which the program ends.
 fn run_bytes<S, F, W, D>(
     rt: &S,
-    files: &F,
-    alloc: Global,
-    options: Options<'_>,
+    means: &Means<'_, F, Options<'_>>,
     script: &[u8],
     stdout: &mut W,
     stderr: &mut D,
@@ -155,14 +167,14 @@ where
     F: Files,
     W: Write,
     D: Write,
-    ensures { EndsRun F.File.contents options.entry
+    ensures { EndsRun F.File.contents means.now.options
         (Some script.now) (W.contents stdout.old) (W.contents stdout.new)
         result stdout.old stdout.new stderr.old stderr.new }
 {
-    match run_asked(rt, files, alloc, options, script, stdout, stderr) {
+    match run_asked(rt, means, script, stdout, stderr) {
         Ok(()) => 0,
         Err(ServerFault::Run(fault)) => {
-            tell_fault(alloc, script, fault, stderr);
+            tell_fault(means.alloc, script, fault, stderr);
             1
         }
         Err(ServerFault::Open(fault)) => {
@@ -176,9 +188,7 @@ where
 /// Runs a script as was asked, with a file of its entries or without one.
 fn run_asked<S, F, W, D>(
     rt: &S,
-    files: &F,
-    alloc: Global,
-    options: Options<'_>,
+    means: &Means<'_, F, Options<'_>>,
     script: &[u8],
     stdout: &mut W,
     stderr: &mut D,
@@ -188,12 +198,17 @@ where
     F: Files,
     W: Write,
     D: Write,
-    ensures done { OnOk result (HasRun F.File.contents options.entry
+    ensures done { OnOk result (HasRun F.File.contents means.now.options
         (Some script.now) (W.contents stdout.old) (W.contents stdout.new)
         × (stderr.new ≡ stderr.old)) }
-    ensures failed { IfErr result (IsBroken F.File.contents options.entry (Some script.now)
+    ensures failed { IfErr result (IsBroken F.File.contents means.now.options (Some script.now)
         (W.contents stdout.old) (W.contents stdout.new) stdout.old stdout.new) }
 {
+    let Means {
+        files,
+        alloc,
+        options,
+    } = *means;
     match options.journal_out {
         Some(path) => {
             let run = FiledRun {

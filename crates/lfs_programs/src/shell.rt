@@ -1,74 +1,59 @@
-//! `lfs_shell`: a line is read, from standard input or from a file, and answered on standard output before the next is read.
+//! `lfs_shell`: a line is read, from standard input or from a file, and answered on standard output before the next is
+//! read.
 
 ghost use Rattle.std.specs.Prelude.{◌≡◌, false, true, IfErr, IfOk, IsSome, MatchResult, is_some};
 ghost use Rattle.clap.specs.Values.{kind_of as error_kind};
 ghost use Rattle.lfs_command.specs.Ends.{EndsUnasked};
-ghost use Rattle.lfs_programs.specs.Ranges.{IsInRange};
 ghost use Rattle.lfs_audit.specs.declared.fault.RunFault.TheVariants.{Read as Failed};
 ghost use Rattle.lfs_live.specs.Faults.{IsTalkFault};
 ghost use Rattle.lfs_live.specs.Talkers.{texts_of};
 ghost use Rattle.lfs_programs.specs.Volumes.{IsBegun, asked_kind, kind_of};
-ghost use Rattle.lfs_programs.specs.Talks.{EndsShell, EndsTalk, HasTalked, HasTalkedSoFar, IsShellEnd};
+ghost use Rattle.lfs_programs.specs.Talks.{EndsShell, EndsTalk, HasTalked, HasTalkedSoFar};
+ghost use Rattle.lfs_programs.specs.Talks.{IsShellEnd};
 ghost use Rattle.lfs_volume.specs.Cleanings.{cleaner_of};
 
 use crate::fault::{OpenFault, ShellFault};
-use crate::filming::{Heard, Means, NAME, Outset, finish, hear};
+use crate::filming::{Heard, NAME, Outset, finish, hear};
 use crate::journal::make_journal;
-use crate::options::{ShellOptions, shell_not_utf8, shell_options_of};
+use crate::options::{ShellOptions, shell_options_of};
 use crate::over_log::OverLog;
 use crate::script::open_script;
 use crate::volume::begin;
 use clap::Error;
 use lfs_audit::fault::RunFault;
+use lfs_command::means::Means;
 use lfs_command::refusing::refuse;
-use lfs_command::words::{NoWords, words};
+use lfs_command::streams::Streams;
+use lfs_command::words::{texts, words};
 use lfs_io::tell::{end, tell};
 use lfs_logstore::LogStore;
 use lfs_share::SharedStore;
 use lfs_volume::volume::Volume;
-use std::alloc::{AllocError, Global};
+use std::alloc::Global;
 use std::env::Env;
 use std::io::{BufReader, Read, Write};
 use std::rt::Files;
 
 /// Does what the arguments of an environment ask `lfs_shell` for, and gives the status with which it ends: 0 for a talk
-/// that has its end, with its film written where one is asked for, for help and for the version; 1 for a fault, told in a line
-/// on standard error; 2 for words that are refused, and for a file of the journal or of the lines that is not opened.
-pub fn lfs_shell<E, F, R, W, D>(
-    env: &E,
-    files: &F,
-    stdin: &mut R,
-    stdout: &mut W,
-    stderr: &mut D,
-) -> u8
+/// that has its end, with its film written where one is asked for, for help and for the version; 1 for a fault, told in
+/// a line on standard error; 2 for words that are refused, and for a file of the journal or of the lines that is not
+/// opened.
+pub fn lfs_shell<E, F, R, W, D>(env: &E, files: &F, streams: &mut Streams<R, W, D>) -> u8
 where
     E: Env + AllocGlobal,
     F: Files,
     R: Read,
     W: Write,
     D: Write,
-    ensures { IsShellEnd F.File.contents
-        (R.remaining stdin.old) (W.contents stdout.old) (W.contents stdout.new)
-        result stdin.old stdin.new stdout.old stdout.new stderr.old stderr.new }
+    ensures { IsShellEnd F.File.contents (R.remaining streams.old.stdin)
+        (W.contents streams.old.stdout) (W.contents streams.new.stdout)
+        result streams.old.stdin streams.new.stdin streams.old.stdout streams.new.stdout
+        streams.old.stderr streams.new.stderr }
 {
     let alloc = env.alloc();
     let words = words(env);
-    let asked = asked(alloc, &words);
-    converse(files, alloc, asked, stdin, stdout, stderr)
-}
-
-/// What the words of a command line ask for; the first is the program's name.
-fn asked<'a>(
-    alloc: Global,
-    words: &'a Result<Vec<String>, NoWords>,
-) -> Result<ShellOptions<'a>, Error>
-    ensures { IfOk result (λ options. IsInRange 1000000 options.params) }
-{
-    match words {
-        Ok(words) => shell_options_of(alloc, words.as_slice()),
-        Err(NoWords::Memory) => Err(AllocError.into()),
-        Err(NoWords::NotUtf8) => Err(shell_not_utf8(alloc)),
-    }
+    let asked = shell_options_of(alloc, texts(&words));
+    converse(files, alloc, asked, streams)
 }
 
 /// Does what was asked for, or tells why that is nothing.
@@ -76,9 +61,7 @@ pub fn converse<F, R, W, D>(
     files: &F,
     alloc: Global,
     asked: Result<ShellOptions<'_>, Error>,
-    stdin: &mut R,
-    stdout: &mut W,
-    stderr: &mut D,
+    streams: &mut Streams<R, W, D>,
 ) -> u8
 where
     F: Files,
@@ -86,10 +69,13 @@ where
     W: Write,
     D: Write,
     ensures talk { IfOk asked.entry (λ options. EndsShell F.File.contents options
-        (R.remaining stdin.old) (W.contents stdout.old) (W.contents stdout.new)
-        result stdin.old stdin.new stdout.old stdout.new stderr.old stderr.new) }
-    ensures not_run { IfErr asked.entry (λ error. (stdin.new ≡ stdin.old)
-        × EndsUnasked (error_kind error) result stdout.old stdout.new stderr.old stderr.new) }
+        (R.remaining streams.old.stdin)
+        (W.contents streams.old.stdout) (W.contents streams.new.stdout)
+        result streams.old.stdin streams.new.stdin streams.old.stdout streams.new.stdout
+        streams.old.stderr streams.new.stderr) }
+    ensures not_run { IfErr asked.entry (λ error. (streams.new.stdin ≡ streams.old.stdin)
+        × EndsUnasked (error_kind error) result streams.old.stdout streams.new.stdout
+        streams.old.stderr streams.new.stderr) }
 {
     match asked {
         Ok(options) => {
@@ -98,23 +84,30 @@ where
                 alloc,
                 options,
             };
-            talk_of(&means, stdin, stdout, stderr)
+            talk_of(&means, streams)
         }
-        Err(error) => refuse(stdout, stderr, NAME, &error),
+        Err(error) => refuse(&mut streams.stdout, &mut streams.stderr, NAME, &error),
     }
 }
 
-/// Answers the lines of the file that was asked for, or else of a reader, and gives the status with which the program ends.
-fn talk_of<F, R, W, D>(means: &Means<'_, F>, stdin: &mut R, stdout: &mut W, stderr: &mut D) -> u8
+/// Answers the lines of the file that was asked for, or else of standard input, and gives the status with which the
+/// program ends.
+fn talk_of<F, R, W, D>(means: &Means<'_, F, ShellOptions<'_>>, streams: &mut Streams<R, W, D>) -> u8
 where
     F: Files,
     R: Read,
     W: Write,
     D: Write,
-    ensures { EndsShell F.File.contents means.now.options
-        (R.remaining stdin.old) (W.contents stdout.old) (W.contents stdout.new)
-        result stdin.old stdin.new stdout.old stdout.new stderr.old stderr.new }
+    ensures { EndsShell F.File.contents means.now.options (R.remaining streams.old.stdin)
+        (W.contents streams.old.stdout) (W.contents streams.new.stdout)
+        result streams.old.stdin streams.new.stdin streams.old.stdout streams.new.stdout
+        streams.old.stderr streams.new.stderr }
 {
+    let Streams {
+        stdin,
+        stdout,
+        stderr,
+    } = streams;
     match open_script(means.files, means.options.script) {
         Ok(Some(mut lines)) => talk_over(means, &mut lines, stdout, stderr),
         Ok(None) => talk_over(means, stdin, stdout, stderr),
@@ -125,9 +118,14 @@ where
     }
 }
 
-/// Answers the lines of a reader as was asked, over the kind of store that was asked for, and gives the status with which the
-/// program ends.
-fn talk_over<F, R, W, D>(means: &Means<'_, F>, reader: &mut R, stdout: &mut W, stderr: &mut D) -> u8
+/// Answers the lines of a reader as was asked, over the kind of store that was asked for, and gives the status with
+/// which the program ends.
+fn talk_over<F, R, W, D>(
+    means: &Means<'_, F, ShellOptions<'_>>,
+    reader: &mut R,
+    stdout: &mut W,
+    stderr: &mut D,
+) -> u8
 where
     F: Files,
     R: Read,
@@ -147,7 +145,7 @@ where
 
 /// The same over a kind of store.
 fn talk_in<S, F, R, W, D>(
-    means: &Means<'_, F>,
+    means: &Means<'_, F, ShellOptions<'_>>,
     reader: &mut R,
     stdout: &mut W,
     stderr: &mut D,
@@ -159,7 +157,7 @@ where
     W: Write,
     D: Write,
     ensures { let kind = kind_of F.File.contents
-        (cleaner_of S.state S.is_settled S.made S.cleaner)
+        (cleaner_of S.state S.is_flushed S.made S.cleaner)
         (texts_of S.map_text S.segment_text S.space_text) S.checked S.stand in
         EndsTalk F.File.contents kind means.now.options
         (R.remaining reader.old) (W.contents stdout.old) (W.contents stdout.new)
@@ -173,7 +171,7 @@ where
 
 /// The same on a volume.
 fn talk_on<S, F, R, W, D>(
-    means: &Means<'_, F>,
+    means: &Means<'_, F, ShellOptions<'_>>,
     volume: Volume<S>,
     reader: &mut R,
     stdout: &mut W,
@@ -187,7 +185,7 @@ where
     D: Write,
     requires { IsBegun S.state S.stand means.now.options volume }
     ensures { let kind = kind_of F.File.contents
-        (cleaner_of S.state S.is_settled S.made S.cleaner)
+        (cleaner_of S.state S.is_flushed S.made S.cleaner)
         (texts_of S.map_text S.segment_text S.space_text) S.checked S.stand in
         EndsTalk F.File.contents kind means.now.options
         (R.remaining reader.old) (W.contents stdout.old) (W.contents stdout.new)
@@ -242,7 +240,7 @@ fn end_talk<D: Write>(stderr: &mut D, outcome: Result<(), ShellFault>) -> u8
 ///
 /// The talk's fault; `Memory` where there is none for the pieces.
 fn run<S: OverLog + Drop, F: Files, R: Read, W: Write, D: Write>(
-    means: &Means<'_, F>,
+    means: &Means<'_, F, ShellOptions<'_>>,
     outset: Outset<S, F::File>,
     reader: &mut R,
     stdout: &mut W,
@@ -251,7 +249,7 @@ fn run<S: OverLog + Drop, F: Files, R: Read, W: Write, D: Write>(
     requires begun { IsBegun S.state S.stand means.now.options outset.volume }
     requires filed { is_some outset.journal ≡ is_some means.now.options.journal_out }
     ensures talked { let kind = kind_of F.File.contents
-        (cleaner_of S.state S.is_settled S.made S.cleaner)
+        (cleaner_of S.state S.is_flushed S.made S.cleaner)
         (texts_of S.map_text S.segment_text S.space_text) S.checked S.stand in
         IfOk result (λ heard. HasTalked F.File.contents kind means.now.options heard.ending
         (R.remaining reader.old) (W.contents stdout.old) (W.contents stdout.new)) }
@@ -262,7 +260,7 @@ fn run<S: OverLog + Drop, F: Files, R: Read, W: Write, D: Write>(
     ensures saved { IfOk result (λ heard. heard.ending.is_saved ≡ false
         → IsSome means.now.options.image) }
     ensures so_far { let kind = kind_of F.File.contents
-        (cleaner_of S.state S.is_settled S.made S.cleaner)
+        (cleaner_of S.state S.is_flushed S.made S.cleaner)
         (texts_of S.map_text S.segment_text S.space_text) S.checked S.stand in
         IfErr result (λ fault. fault ≡ Failed
         → HasTalkedSoFar F.File.contents kind means.now.options

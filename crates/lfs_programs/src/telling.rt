@@ -3,8 +3,9 @@
 use crate::server::NAME;
 use lfs_audit::fault::{RunFault, ThreadsFault};
 use lfs_io::tell::tell;
-use lfs_script::fault::{FaultKind, ScriptFault};
+use lfs_script::fault::ScriptFault;
 use lfs_script::place::push_place;
+use lfs_words::fault::FaultKind;
 use std::alloc::{AllocError, Global};
 use std::io::Write;
 use std::str;
@@ -20,8 +21,8 @@ struct PlacedFault<'a> {
     place: &'a str,
 }
 
-/// Tells the fault of a run of the script of these bytes, of a line's fault also where it stands and what was expected there,
-/// unless memory is wanting.
+/// Tells the fault of a run of the script of these bytes, of a line's fault also where it stands and what was expected
+/// there, unless memory is wanting.
 pub(crate) fn tell_fault<D: Write>(
     alloc: Global,
     script: &[u8],

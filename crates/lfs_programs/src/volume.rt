@@ -24,8 +24,8 @@ use std::alloc::{AllocError, Global};
 use std::io::Write;
 use std::rt::Files;
 
-/// The volume that a talk begins with: that of the image's file, where one is asked for and there is such a file, and else a
-/// fresh one.
+/// The volume that a talk begins with: that of the image's file, where one is asked for and there is such a file, and
+/// else a fresh one.
 ///
 /// # Errors
 ///
@@ -107,7 +107,8 @@ fn over<S: OverLog + Drop>(
     }
 }
 
-/// Keeps the volume that a talk left in the image's file, where one is asked for. Whether it is kept there; why not is told.
+/// Keeps the volume that a talk left in the image's file, where one is asked for. Whether it is kept there; why not is
+/// told.
 pub(crate) fn keep<S: OverLog + Drop, F: Files, J: JournalSink + Drop, V: Drop, D: Write>(
     files: &F,
     alloc: Global,
@@ -143,7 +144,7 @@ fn save<S: OverLog + Drop, F: Files, J: JournalSink + Drop, V: Drop>(
     ensures saved { OnOk result (HasSaved F.File.contents S.state tended.old.volume) }
     ensures same { tended.new ≡ record tended.old { volume = tended.new.volume } }
 {
-    if !tended.settle()? {
+    if !tended.flush()? {
         return Err(KeepFault::Save);
     }
     let level = tended.level();

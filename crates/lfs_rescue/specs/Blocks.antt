@@ -8,7 +8,7 @@ use Rattle.lfs_segments.specs.Memory.{SegmentMemory}
 use Rattle.lfs_log.specs.Parts.{LogParts}
 use Rattle.lfs_logstore.specs.States.{state_of}
 use Rattle.lfs_calls.specs.Volumes.{HasWorld}
-use Rattle.lfs_fsck.specs.Stored.{IsStored, settled}
+use Rattle.lfs_fsck.specs.Stored.{IsStored, flushed}
 use Rattle.lfs_checking.specs.Files.{HasImage}
 use Rattle.lfs_checking.specs.Volumes.{well_text}
 use Rattle.lfs_rescue.specs.declared.fault.RecoverFault.{RecoverFault}
@@ -68,7 +68,7 @@ pub record IsFound {F S : Type 0} (contents : F → Option (List ℕ)) (save : O
   pub log : LogParts
   pub found : IsFoundIn bytes log
   pub stored : IsStored log
-  pub world : HasWorld (state_of (settled log))
+  pub world : HasWorld (state_of (flushed log))
   pub told : text ≡ well_text log
   pub kept : IfSome save (λ _. HasImage contents log HighlySecure)
 

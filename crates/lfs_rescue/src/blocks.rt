@@ -11,8 +11,9 @@ use crate::fault::RecoverFault;
 use crate::recovering::recover;
 use lfs_image::read_blocks;
 use lfs_logstore::LogStore;
-use lfs_segments::segments::{LEAST_SEGMENTS, MOST_SEGMENTS, SEGMENT_BLOCKS, Segments};
+use lfs_segments::segments::Segments;
 use lfs_types::level::Level;
+use lfs_types::limits::{LEAST_SEGMENTS, MOST_SEGMENTS, SEGMENT_BLOCKS};
 use std::alloc::Global;
 
 /// The bytes of a segment.
@@ -33,7 +34,7 @@ pub fn recover_blocks(
     requires at_most { frames ≤ most_frames }
     ensures found { IfOk result (λ store. IsFoundIn bytes.now store.log) }
     ensures stored { IfOk result (λ store. IsStored store.log) }
-    ensures settled { IfOk result (λ store. store ≡ stored frames store.log) }
+    ensures flushed { IfOk result (λ store. store ≡ stored frames store.log) }
     ensures world { IfOk result (λ store. HasWorld (state_of store)) }
     ensures fault { IfErr result (IsBlocksFaultOf bytes.now) }
 {

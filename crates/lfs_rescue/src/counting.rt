@@ -5,8 +5,9 @@ ghost use Rattle.std.specs.Prelude.{◌≡◌, vec_len};
 use lfs_inodes::addresses::{entry, root_address};
 use lfs_inodes::inode::{DIRECT_COUNT, DOUBLE_PLACE, ENTRY_COUNT, Inode, ROOT_COUNT};
 use lfs_reach::bytes_at;
-use lfs_segments::segments::{SEGMENT_BLOCKS, Segments};
+use lfs_segments::segments::Segments;
 use lfs_types::block::{BLOCK_SIZE, Block};
+use lfs_types::limits::SEGMENT_BLOCKS;
 
 /// The bytes of a record.
 const RECORD_BYTES: u32 = 128;

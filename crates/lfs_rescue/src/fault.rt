@@ -1,7 +1,8 @@
 //! Why no volume is found in blocks.
 
 ghost use Rattle.std.specs.Prelude.{◌≡◌};
-ghost use Rattle.lfs_checking.specs.declared.fault.CheckFault.TheVariants.{Memory as NoMemory, Write};
+ghost use Rattle.lfs_checking.specs.declared.fault.CheckFault.TheVariants.{Memory as NoMemory};
+ghost use Rattle.lfs_checking.specs.declared.fault.CheckFault.TheVariants.{Write};
 ghost use Rattle.lfs_rescue.specs.declared.fault.RecoverFault.TheVariants.{Memory};
 ghost use Rattle.lfs_rescue.specs.declared.fault.RescueFault.TheVariants.{Check};
 

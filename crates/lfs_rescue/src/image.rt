@@ -8,10 +8,10 @@ use byteorder::{BigEndian, ByteOrder};
 use lfs_inodes::inode::Inode;
 use lfs_reach::record_of;
 use lfs_recovery::{PartialSegment, RecordPlace};
-use lfs_segments::segments::{SEGMENT_BLOCKS, Segments};
+use lfs_segments::segments::Segments;
 use lfs_types::block::ZERO_BLOCK;
 use lfs_types::level::Level;
-use lfs_types::limits::MOST_INODES;
+use lfs_types::limits::{MOST_INODES, SEGMENT_BLOCKS};
 use std::alloc::{AllocError, Global};
 
 /// `LFSI`, with which an image begins.
@@ -30,19 +30,29 @@ const DIRTY: u32 = 1;
 
 const ACTIVE: u32 = 2;
 
-/// The image of the volume that ends behind a partial segment, where each number that is marked is in use: its head with
-/// the next serial, its blocks with zeros behind the end, its ifile.
+/// What was found of a volume.
+#[derive(Clone, Copy)]
+pub(crate) struct Found<'a> {
+    /// Its blocks.
+    pub(crate) memory: &'a Segments,
+    /// Where the newest record of each number stands.
+    pub(crate) places: &'a [Option<RecordPlace>],
+    /// For each number whether names lead to it.
+    pub(crate) marks: &'a [bool],
+}
+
+/// The image of the volume that ends behind a partial segment, where each number that is marked is in use: its head
+/// with the next serial, its blocks with zeros behind the end, its ifile.
 pub(crate) fn image_of(
     alloc: Global,
-    memory: &Segments,
+    found: Found<'_>,
     level: Level,
     last: &PartialSegment,
-    places: &[Option<RecordPlace>],
-    marks: &[bool],
 ) -> Result<Vec<u8>, AllocError>
-    requires places { length places.now ≡ most_inodes }
-    requires marks { length marks.now ≡ most_inodes }
+    requires places { length found.places.now ≡ most_inodes }
+    requires marks { length found.marks.now ≡ most_inodes }
 {
+    let memory = found.memory;
     let segments = memory.segments();
     let inodes = inodes_told(memory);
     let active = last.address / SEGMENT_BLOCKS;
@@ -64,7 +74,7 @@ pub(crate) fn image_of(
     )?;
     image.extend_from_slice(&ZERO_BLOCK[32..])?;
     push_blocks(&mut image, memory, active, end)?;
-    push_ifile(alloc, &mut image, memory, active, inodes, places, marks)?;
+    push_ifile(alloc, &mut image, found, active, inodes)?;
     Ok(image)
 }
 
@@ -122,38 +132,30 @@ fn push_blocks(
 fn push_ifile(
     alloc: Global,
     image: &mut Vec<u8>,
-    memory: &Segments,
+    found: Found<'_>,
     active: u32,
     inodes: u32,
-    places: &[Option<RecordPlace>],
-    marks: &[bool],
 ) -> Result<(), AllocError>
     requires few { inodes ≤ most_inodes }
-    requires places { length places.now ≡ most_inodes }
-    requires marks { length marks.now ≡ most_inodes }
+    requires places { length found.places.now ≡ most_inodes }
+    requires marks { length found.marks.now ≡ most_inodes }
 {
-    let live = live_bytes(alloc, memory, inodes, places, marks)?;
-    push_words(image, &[IFILE_MARK, memory.segments(), inodes])?;
+    let live = live_bytes(alloc, found, inodes)?;
+    push_words(image, &[IFILE_MARK, found.memory.segments(), inodes])?;
     push_uses(image, &live, active)?;
-    push_rows(image, inodes, places, marks)
+    push_rows(image, found, inodes)
 }
 
 /// The live bytes of each segment.
-fn live_bytes(
-    alloc: Global,
-    memory: &Segments,
-    inodes: u32,
-    places: &[Option<RecordPlace>],
-    marks: &[bool],
-) -> Result<Vec<u32>, AllocError>
+fn live_bytes(alloc: Global, found: Found<'_>, inodes: u32) -> Result<Vec<u32>, AllocError>
     requires few { inodes ≤ most_inodes }
-    requires places { length places.now ≡ most_inodes }
-    requires marks { length marks.now ≡ most_inodes }
+    requires places { length found.places.now ≡ most_inodes }
+    requires marks { length found.marks.now ≡ most_inodes }
 {
-    let mut live = vec![in alloc; 0; memory.segments() as usize]?;
+    let mut live = vec![in alloc; 0; found.memory.segments() as usize]?;
     for number in 0..inodes as usize {
-        if marks[number] {
-            count_at(&mut live, memory, &places[number]);
+        if found.marks[number] {
+            count_at(&mut live, found.memory, &found.places[number]);
         }
     }
     Ok(live)
@@ -195,18 +197,16 @@ fn push_uses(image: &mut Vec<u8>, live: &[u32], active: u32) -> Result<(), Alloc
 }
 
 /// Adds the row of each inode number.
-fn push_rows(
-    image: &mut Vec<u8>,
-    inodes: u32,
-    places: &[Option<RecordPlace>],
-    marks: &[bool],
-) -> Result<(), AllocError>
+fn push_rows(image: &mut Vec<u8>, found: Found<'_>, inodes: u32) -> Result<(), AllocError>
     requires few { inodes ≤ most_inodes }
-    requires places { length places.now ≡ most_inodes }
-    requires marks { length marks.now ≡ most_inodes }
+    requires places { length found.places.now ≡ most_inodes }
+    requires marks { length found.marks.now ≡ most_inodes }
 {
     for number in 0..inodes as usize {
-        push_words(image, &row_words(&places[number], marks[number]))?;
+        push_words(
+            image,
+            &row_words(&found.places[number], found.marks[number]),
+        )?;
     }
     Ok(())
 }

@@ -1,17 +1,20 @@
 //! Whether a volume is the one that the newest records of some blocks tell.
 
-ghost use Rattle.std.specs.Prelude.{◌≡◌, ◌<◌, ◌*◌, ◌+◌, ◌/◌, ◌↔◌, IfErr, IsTrue, OnOk, Some, length};
+ghost use Rattle.std.specs.Prelude.{◌≡◌, ◌<◌, ◌*◌, ◌+◌, ◌/◌, ◌↔◌, IfErr, IsTrue, OnOk, Some};
+ghost use Rattle.std.specs.Prelude.{length};
 ghost use Rattle.lfs_types.specs.declared.limits.TheConstants.{SEGMENT_BLOCKS};
 ghost use Rattle.lfs_types.specs.Ranges.{most_inodes};
 ghost use Rattle.lfs_segments.specs.Memory.{next_address};
-ghost use Rattle.lfs_rescue.specs.Recovering.{AreAt, AreKept, GoesOn, HasNewest, IsBehind, IsKept, IsOther, StandsAt};
+ghost use Rattle.lfs_rescue.specs.Recovering.{AreAt, AreKept, GoesOn, HasNewest, IsBehind, IsKept};
+ghost use Rattle.lfs_rescue.specs.Recovering.{IsOther, StandsAt};
 
 use crate::fault::RecoverFault;
 use lfs_ifile::InodePlace;
 use lfs_log::Log;
 use lfs_recovery::{PartialSegment, RecordPlace};
-use lfs_segments::segments::{SEGMENT_BLOCKS, Segments};
+use lfs_segments::segments::Segments;
 use lfs_types::block::{Block, ZERO_BLOCK};
+use lfs_types::limits::SEGMENT_BLOCKS;
 
 /// What of a volume is not as the newest records, the last partial segment and the blocks have it.
 pub(crate) fn judge(
@@ -25,7 +28,8 @@ pub(crate) fn judge(
     requires marks { length marks.now ≡ most_inodes }
     ensures numbers { OnOk result (AreAt log.now places.now marks.now) }
     ensures active { OnOk result (log.now.memory.active ≡ last.now.address / SEGMENT_BLOCKS) }
-    ensures end { OnOk result (next_address log.now.memory ≡ last.now.address + 1 + last.now.count) }
+    ensures end { OnOk result
+        (next_address log.now.memory ≡ last.now.address + 1 + last.now.count) }
     ensures serial { OnOk result (GoesOn log.now.memory.serial last.now.serial) }
     ensures segments { OnOk result (log.now.memory.segments ≡ memory.now.segments) }
     ensures kept { OnOk result (AreKept memory.now log.now.memory) }
@@ -39,7 +43,8 @@ pub(crate) fn judge(
 /// Whether a log ends behind a partial segment, in its segment, and goes on with the next serial.
 fn check_end(log: &Log, last: &PartialSegment) -> Result<(), RecoverFault>
     ensures active { OnOk result (log.now.memory.active ≡ last.now.address / SEGMENT_BLOCKS) }
-    ensures end { OnOk result (next_address log.now.memory ≡ last.now.address + 1 + last.now.count) }
+    ensures end { OnOk result
+        (next_address log.now.memory ≡ last.now.address + 1 + last.now.count) }
     ensures serial { OnOk result (GoesOn log.now.memory.serial last.now.serial) }
     ensures fault { IfErr result IsOther }
 {

@@ -15,5 +15,5 @@ mod tests;
 
 pub use blocks::recover_blocks;
 pub use fault::{RecoverFault, RescueFault};
-pub use options::{Options, not_utf8, options_of};
+pub use options::{Options, options_of};
 pub use recovering::recover;

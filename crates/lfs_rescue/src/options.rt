@@ -1,11 +1,12 @@
 //! What the arguments of `lfs_check` ask for.
 
-ghost use Rattle.std.specs.Prelude.{◌≡◌, IfOk, IsSome, true};
+ghost use Rattle.std.specs.Prelude.{◌≡◌, IfErr, IfOk, IsErrAnd, IsSome, true};
 ghost use Rattle.clap.specs.Values.{kind_of};
 ghost use Rattle.lfs_command.specs.Ends.{IsRefusal};
 
 use clap::{Arg, ArgAction, Command, Error};
-use lfs_command::refusing::{self, wrong_value};
+use lfs_command::refusing::wrong_value;
+use lfs_command::words::{WordsFault, matches_of};
 use std::alloc::{AllocError, Global};
 use std::convert::AsStr;
 
@@ -38,13 +39,17 @@ pub struct Options<'a> {
 ///
 /// # Errors
 ///
-/// What the parser tells, with its exit code: 2 for a word that is no option, or `--save` alone, 0 for `--help`; or want
-/// of memory.
-pub fn options_of<'a, S: AsStr>(alloc: Global, words: &'a [S]) -> Result<Options<'a>, Error>
-    ensures { IfOk result (λ options. IsSome options.save → options.recovers ≡ true) }
+/// What the parser tells, with its exit code: 2 for a word that is no option, for `--save` alone, and for words that
+/// are no text, 0 for `--help`; or want of memory.
+pub fn options_of<'a, S: AsStr>(
+    alloc: Global,
+    words: Result<&'a [S], WordsFault>,
+) -> Result<Options<'a>, Error>
+    ensures saved { IfOk result (λ options. IsSome options.save → options.recovers ≡ true) }
+    ensures unread { IfErr words.entry (λ _. IsErrAnd result (λ error. IsRefusal (kind_of error))) }
 {
     let mut command = command(alloc)?;
-    let matches = command.try_get_matches_from_mut(words)?;
+    let matches = matches_of(&mut command, words)?;
     let recovers = matches.get_flag(RECOVER);
     let save = matches.get_str(SAVE);
     if save.is_some() && !recovers {
@@ -55,13 +60,6 @@ pub fn options_of<'a, S: AsStr>(alloc: Global, words: &'a [S]) -> Result<Options
         recovers,
         save,
     })
-}
-
-/// The error of arguments that are no text, with exit code 2; or want of memory.
-pub fn not_utf8(alloc: Global) -> Error
-    ensures { IsRefusal (kind_of result) }
-{
-    refusing::not_utf8(command(alloc))
 }
 
 /// The command line.

@@ -5,10 +5,11 @@ ghost use Rattle.lfs_types.specs.Ranges.{least_frames, most_frames};
 ghost use Rattle.lfs_calls.specs.Volumes.{HasWorld};
 ghost use Rattle.lfs_logstore.specs.States.{state_of};
 ghost use Rattle.lfs_fsck.specs.Stored.{IsStored, stored};
-ghost use Rattle.lfs_rescue.specs.Recovering.{IsLastOf, IsOther, IsRecovered, IsRecoverFaultOf, TellsTheSame, last_serial, later};
+ghost use Rattle.lfs_rescue.specs.Recovering.{IsLastOf, IsOther, IsRecovered, IsRecoverFaultOf};
+ghost use Rattle.lfs_rescue.specs.Recovering.{TellsTheSame, last_serial, later};
 
 use crate::fault::RecoverFault;
-use crate::image::image_of;
+use crate::image::{Found, image_of};
 use crate::judging::judge;
 use lfs_checking::fault::VolumeFault;
 use lfs_checking::volume::load_volume;
@@ -20,14 +21,14 @@ use lfs_types::level::Level;
 use std::alloc::Global;
 
 /// The store of the volume whose blocks a memory has, at any moment of a flush too, with a cache of so many frames, 32
-/// to 1,024, all empty. Nothing waits in the store. Its summaries have serials, and the next one gets that behind the highest:
-/// so what it writes is found again too. The securelevel is no part of the blocks: whoever recovers has to know it. Each
-/// block is read some few times, and an image is made of all of them.
+/// to 1,024, all empty. Nothing waits in the store. Its summaries have serials, and the next one gets that behind the
+/// highest: so what it writes is found again too. The securelevel is no part of the blocks: whoever recovers has to
+/// know it. Each block is read some few times, and an image is made of all of them.
 ///
 /// # Errors
 ///
-/// No log has a partial segment; one has the last serial, which others may have too; what the blocks tell is no volume, or
-/// another one was made of them; or there is no memory.
+/// No log has a partial segment; one has the last serial, which others may have too; what the blocks tell is no volume,
+/// or another one was made of them; or there is no memory.
 pub fn recover(
     alloc: Global,
     memory: &Segments,
@@ -40,7 +41,7 @@ pub fn recover(
     // Its blocks tell the same, so it can be recovered again.
     ensures again { IfOk result (λ store. TellsTheSame memory.now store.log.memory) }
     ensures stored { IfOk result (λ store. IsStored store.log) }
-    ensures settled { IfOk result (λ store. store ≡ stored frames store.log) }
+    ensures flushed { IfOk result (λ store. store ≡ stored frames store.log) }
     ensures world { IfOk result (λ store. HasWorld (state_of store)) }
     ensures fault { IfErr result (IsRecoverFaultOf memory.now) }
 {
@@ -53,7 +54,12 @@ pub fn recover(
     }
     let places = newest_records(alloc, memory)?;
     let marks = reached(alloc, memory, &places)?;
-    let image = image_of(alloc, memory, level, &last, &places, &marks)?;
+    let found = Found {
+        memory,
+        places: &places,
+        marks: &marks,
+    };
+    let image = image_of(alloc, found, level, &last)?;
     let store = store_in(alloc, &image, frames)?;
     judge(&store.parts().log, memory, &last, &places, &marks)?;
     Ok(store)
@@ -99,7 +105,7 @@ fn store_in(alloc: Global, image: &[u8], frames: u32) -> Result<LogStore, Recove
     requires at_least { least_frames ≤ frames }
     requires at_most { frames ≤ most_frames }
     ensures stored { IfOk result (λ store. IsStored store.log) }
-    ensures settled { IfOk result (λ store. store ≡ stored frames store.log) }
+    ensures flushed { IfOk result (λ store. store ≡ stored frames store.log) }
     ensures world { IfOk result (λ store. HasWorld (state_of store)) }
     ensures fault { IfErr result IsOther }
 {

@@ -2,10 +2,11 @@
 
 ghost use Rattle.std.specs.Prelude.{◌≡◌, IfErr, IfOk, IfSome, OnOk};
 ghost use Rattle.lfs_types.specs.declared.level.Level.TheVariants.{HighlySecure};
-ghost use Rattle.lfs_parts.specs.Store.{IsSettled};
+ghost use Rattle.lfs_parts.specs.Store.{IsFlushed};
 ghost use Rattle.lfs_checking.specs.Files.{HasImage};
 ghost use Rattle.lfs_rescue.specs.Blocks.{IsFaultLine, IsRescueVerdict};
-ghost use Rattle.lfs_rescue.specs.Ends.{IsAnswered, IsAskedVerdict, IsFindingFault, IsRescueFaultOf};
+ghost use Rattle.lfs_rescue.specs.Ends.{IsAnswered, IsAskedVerdict, IsFindingFault};
+ghost use Rattle.lfs_rescue.specs.Ends.{IsRescueFaultOf};
 
 use crate::blocks::recover_blocks;
 use crate::fault::{RecoverFault, RescueFault};
@@ -23,9 +24,9 @@ use std::alloc::{AllocError, Global};
 use std::io::{Read, Write};
 use std::rt::Files;
 
-/// Checks the image that a reader has, or finds the volume whose blocks it has, as was asked. Writes that it is well and
-/// how full it is, or why there is none, in a line, and gives the status: 0 or 1. The image of what is found is kept in a
-/// file, where one is asked for, at the highest securelevel, as the blocks don't tell theirs.
+/// Checks the image that a reader has, or finds the volume whose blocks it has, as was asked. Writes that it is well
+/// and how full it is, or why there is none, in a line, and gives the status: 0 or 1. The image of what is found is
+/// kept in a file, where one is asked for, at the highest securelevel, as the blocks don't tell theirs.
 ///
 /// # Errors
 ///
@@ -101,7 +102,7 @@ fn keep<F: Files>(
     store: &LogStore,
     options: &Options<'_>,
 ) -> Result<(), RescueFault>
-    requires { IsSettled store.now }
+    requires { IsFlushed store.now }
     ensures kept { OnOk result (IfSome options.now.save
         (λ _. HasImage F.File.contents store.now.log HighlySecure)) }
     ensures fault { IfErr result (IsFindingFault options.now) }

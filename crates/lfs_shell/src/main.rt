@@ -5,6 +5,7 @@
 ghost use Rattle.std.specs.Process.{exit_status};
 ghost use Rattle.lfs_programs.specs.Talks.{IsShellEnd};
 
+use lfs_command::streams::Streams;
 use lfs_programs::shell::lfs_shell;
 use lfs_terminal::painted::Painted;
 use lfs_terminal::prompted::Prompted;
@@ -17,30 +18,39 @@ use std::rt::Files;
 const PROMPT: &str = "lfs> ";
 
 fn main(rt: HostRuntime) -> ExitCode {
-    let mut stdin = rt.stdin();
-    let mut stdout = rt.stdout();
-    let mut stderr = rt.stderr();
+    let stdin = rt.stdin();
+    let stdout = rt.stdout();
+    let stderr = rt.stderr();
     if !stdout.is_terminal() {
-        return run(&rt, &mut stdin, &mut stdout, &mut stderr);
+        let mut streams = Streams {
+            stdin,
+            stdout,
+            stderr,
+        };
+        return run(&rt, &mut streams);
     }
     let prompt = if stdin.is_terminal() { PROMPT } else { "" };
-    let mut lines = Prompted::new(stdin, rt.stdout(), prompt);
-    let mut answers = Painted::new(stdout, wants_colours(&rt));
-    run(&rt, &mut lines, &mut answers, &mut stderr)
+    let mut streams = Streams {
+        stdin: Prompted::new(stdin, rt.stdout(), prompt),
+        stdout: Painted::new(stdout, wants_colours(&rt)),
+        stderr,
+    };
+    run(&rt, &mut streams)
 }
 
 /// Does what the arguments of a host ask for, over these streams, and gives the code with which the program ends.
-fn run<H, R, W, D>(host: &H, stdin: &mut R, stdout: &mut W, stderr: &mut D) -> ExitCode
+fn run<H, R, W, D>(host: &H, streams: &mut Streams<R, W, D>) -> ExitCode
 where
     H: Env + AllocGlobal + Files,
     R: Read,
     W: Write,
     D: Write,
-    ensures { IsShellEnd H.File.contents
-        (R.remaining stdin.old) (W.contents stdout.old) (W.contents stdout.new)
-        (exit_status result) stdin.old stdin.new stdout.old stdout.new stderr.old stderr.new }
+    ensures { IsShellEnd H.File.contents (R.remaining streams.old.stdin)
+        (W.contents streams.old.stdout) (W.contents streams.new.stdout)
+        (exit_status result) streams.old.stdin streams.new.stdin
+        streams.old.stdout streams.new.stdout streams.old.stderr streams.new.stderr }
 {
-    ExitCode::from(lfs_shell(host, host, stdin, stdout, stderr))
+    ExitCode::from(lfs_shell(host, host, streams))
 }
 
 /// Whether the environment lets a terminal have colours: `NO_COLOR` is not there, or empty.

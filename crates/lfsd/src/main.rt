@@ -5,6 +5,7 @@
 ghost use Rattle.std.specs.Process.{exit_status};
 ghost use Rattle.lfs_programs.specs.Asked.{IsServerEnd};
 
+use lfs_command::streams::Streams;
 use lfs_programs::server::lfsd;
 use std::env::Env;
 use std::io::{Read, Write};
@@ -14,19 +15,25 @@ use std::sync::Wait;
 use std::thread::Threads;
 
 fn main(rt: HostRuntime) -> ExitCode {
-    run(&rt, &mut rt.stdin(), &mut rt.stdout(), &mut rt.stderr())
+    let mut streams = Streams {
+        stdin: rt.stdin(),
+        stdout: rt.stdout(),
+        stderr: rt.stderr(),
+    };
+    run(&rt, &mut streams)
 }
 
 /// Does what the arguments of a host ask for, over these streams, and gives the code with which the program ends.
-fn run<H, R, W, D>(host: &H, stdin: &mut R, stdout: &mut W, stderr: &mut D) -> ExitCode
+fn run<H, R, W, D>(host: &H, streams: &mut Streams<R, W, D>) -> ExitCode
 where
     H: Env + AllocGlobal + Threads + Wait + Sync + Files,
     R: Read,
     W: Write,
     D: Write,
-    ensures { IsServerEnd H.File.contents
-        (R.remaining stdin.old) (W.contents stdout.old) (W.contents stdout.new)
-        (exit_status result) stdin.old stdin.new stdout.old stdout.new stderr.old stderr.new }
+    ensures { IsServerEnd H.File.contents (R.remaining streams.old.stdin)
+        (W.contents streams.old.stdout) (W.contents streams.new.stdout)
+        (exit_status result) streams.old.stdin streams.new.stdin
+        streams.old.stdout streams.new.stdout streams.old.stderr streams.new.stderr }
 {
-    ExitCode::from(lfsd(host, host, host, stdin, stdout, stderr))
+    ExitCode::from(lfsd(host, host, host, streams))
 }

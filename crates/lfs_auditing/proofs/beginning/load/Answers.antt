@@ -8,7 +8,7 @@ returns g c = record {
     bytes = c.in_ok-bytes.bytes.items;
     image = subst (λ bs. IsVolume bs c.in_ok-both.both.0.log c.in_ok-both.both.1) c.as_slice.ensures.value
         c.in_ok-both.ensures.volume;
-    settled = c.in_ok-both.ensures.settled;
+    flushed = c.in_ok-both.ensures.flushed;
     world = c.in_ok-both.ensures.world;
   };
   whole = c.in_ok-bytes.ensures.whole;

@@ -5,6 +5,6 @@ use Rattle.lfs_fuse_talk.proofs.program.mount.Goals as goal
 pub returns-in-Ok : goal.returns-in-Ok
 returns-in-Ok g c =
     ends_served g.S.File.Write.contents c.args.options.now (log_server g.P.Outside.time g.P.Outside.groups) _ _ _ _
-    c.finish.result c.args.stdin.now c.serve-outcome.new.stdin c.args.stdout.now c.serve-outcome.new.stdout
-    c.args.stderr.now c.serve-outcome.new.stderr c.finish.new.stderr c.serve-outcome.result
+    c.finish.result c.args.streams.now.stdin c.serve-outcome.new.streams.stdin c.args.streams.now.stdout c.serve-outcome.new.streams.stdout
+    c.args.streams.now.stderr c.serve-outcome.new.streams.stderr c.finish.new.stderr c.serve-outcome.result
     c.serve-outcome.ensures.served c.serve-outcome.ensures.silent c.serve-outcome.ensures.broken c.finish.ensures

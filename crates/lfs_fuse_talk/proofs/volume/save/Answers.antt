@@ -8,7 +8,7 @@ use Rattle.lfs_fuse_talk.proofs.volume.save.Goals as goal
 
 pub returns : goal.returns
 returns g c =
-    let volume = c.settle.new.self.tree.volume in
+    let volume = c.flush.new.self.tree.volume in
     let saved = subst (λ (l : Level). OnOk c.save_file.result (HasImage g.S.File.Write.contents volume.store.log l))
     c.level.ensures
     (subst (λ (s : Parts). OnOk c.save_file.result (HasImage g.S.File.Write.contents s.log c.level.result))
@@ -16,7 +16,7 @@ returns g c =
     ok_map c.save_file.result (λ image. record {
       store = volume.store;
       level = volume.level;
-      settled = c.in_ok-settle.ensures.settled (search (rules, tests));
-      shown = c.settle.ensures.shown;
+      flushed = c.in_ok-flush.ensures.flushed (search (rules, tests));
+      shown = c.flush.ensures.shown;
       image = image;
     }) saved

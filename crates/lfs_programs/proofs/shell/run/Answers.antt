@@ -10,7 +10,7 @@ use Rattle.lfs_programs.proofs.shell.run.Goals as goal
 pub returns-in-Ok-clause-so_far : goal.returns-in-Ok-clause-so_far
 returns-in-Ok-clause-so_far g c =
     let kind = kind_of g.F.File.Write.contents
-    (cleaner_of g.S.FileStore.state g.S.FileStore.is_settled g.S.FileStore.made g.S.CleanedStore.cleaner)
+    (cleaner_of g.S.FileStore.state g.S.FileStore.is_flushed g.S.FileStore.made g.S.CleanedStore.cleaner)
     (texts_of g.S.ShowsLog.map_text g.S.ShowsLog.segment_text g.S.ShowsLog.space_text) g.S.ChecksLog.checked
     g.S.OverLog.stand in
     subst (λ (known : Option (List ℕ)). IfErr c.hear.result (λ fault. fault ≡ Read

@@ -6,5 +6,5 @@ pub returns-in-Ok-Some : goal.returns-in-Ok-Some
 returns-in-Ok-Some g c =
     let named = sym (ap is_some c.in-Ok-Some.field-0-is) ∙ c.in-Ok-Some.ensures.opened in
     ends_file g.F.File.Write.contents c.args.means.now.options _ _ _ _
-    c.in-Ok-Some.lines c.talk_over.new.reader c.args.stdin.now c.args.stdout.now c.talk_over.new.stdout _ _
+    c.in-Ok-Some.lines c.talk_over.new.reader c.args.streams.now.stdin c.args.streams.now.stdout c.talk_over.new.stdout _ _
     (g.F.File.Read.remaining c.in-Ok-Some.lines) named c.talk_over.ensures

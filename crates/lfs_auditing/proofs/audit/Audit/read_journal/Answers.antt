@@ -2,7 +2,7 @@ use Rattle.std.proofs.Common.{◌≡◌, ◌+◌, ◌++◌, length, refl, subst,
 use Rattle.std.specs.Prelude.{Ok}
 use Rattle.lfs_auditing.specs.Audits.{StopsAtLine, told_as}
 use Rattle.lfs_auditing.specs.declared.audit.Stop.TheVariants.{End, Unread}
-use Rattle.lfs_auditing.specs.declared.fault.Unread.TheVariants.{Cut, TooLong}
+use Rattle.lfs_auditing.specs.declared.fault.EntryLineFault.TheVariants.{Cut, TooLong}
 use Rattle.lfs_auditing.proofs.AuditLemmas.{none_so_far, one_more, stopped, stops_at}
 use Rattle.lfs_auditing.proofs.audit.Audit.read_journal.Goals as goal
 

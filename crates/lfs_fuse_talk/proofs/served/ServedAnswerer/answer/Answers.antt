@@ -12,7 +12,7 @@ returns-clause-answered g c =
       ledger = c.give-is_kept.new.self;
       clean = c.reply.new.self.clean;
     } in
-    answered_of g.W.Write.contents (server_of g.F.FileStore.state g.F.FileStore.is_settled g.P.Outside.time
+    answered_of g.W.Write.contents (server_of g.F.FileStore.state g.F.FileStore.is_flushed g.P.Outside.time
     g.P.Outside.groups) c.in-Some.header _ c.args.self.now c.reply.new.self new c.args.message.now
     c.in_ok-reply.reply.items (λ v. v.items) c.told_or_lost.result c.give-is_kept.result (search rules)
     c.in_ok-reply.ensures.served c.in_ok-reply.ensures.journal c.reply.ensures.ledger
