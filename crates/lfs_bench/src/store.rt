@@ -92,8 +92,8 @@ pub fn log_volume(alloc: Global, scale: &Scale, calls: u32) -> Result<Volume<Log
     Ok(Volume::new(alloc, store, params.journal)?)
 }
 
-/// The numbers of a volume over a log. Its journal has room for the calls that make the tree and so many behind them, and
-/// for the cleaner's calls between.
+/// The numbers of a volume over a log. Its journal has room for the calls that make the tree and so many behind them,
+/// and for the cleaner's calls between.
 pub fn log_params(scale: &Scale, calls: u32) -> Params {
     Params {
         segments: scale.segments,

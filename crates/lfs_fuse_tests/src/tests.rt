@@ -6,7 +6,7 @@ mod journal;
 mod messages;
 mod replies;
 
-use lfs_fuse_wire::message::{BadMessage, Message};
+use lfs_fuse_wire::message::{Message, MessageFault};
 use std::alloc::{AllocError, Global};
 use std::fmt::Debug;
 use std::process::Abort;
@@ -46,7 +46,7 @@ fn expect_message(
     alloc: Global,
     head: [u8; 2],
     body: &[u8],
-    wanted: Result<Message<'_>, BadMessage>,
+    wanted: Result<Message<'_>, MessageFault>,
 ) {
     let bytes = message_of(alloc, head[0], head[1], body).expect(rt, "room");
     expect_eq(rt, Message::decode(&bytes), wanted);

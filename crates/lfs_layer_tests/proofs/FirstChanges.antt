@@ -1,4 +1,7 @@
--- Changes that may be asked for of a fresh store, one after another at one number.
+-- Changes that may be asked for of a fresh store, one after another at one number: `made_and_put`, for the tests that
+-- make file 4 and put bytes into it. Each change has to be one that may be asked for in the content that those before
+-- it leave; that is computed as far as the file at this number is known, which each of them has just put there
+-- (`at_file`, `after`).
 use Rattle.std.proofs.Common.{◌≡◌, ℕ, ◌≤◌, Bor, List, [], ◌∷◌, length, IsSomeAnd, sym, ap, subst, ◌∙◌, arith}
 use Rattle.std.specs.FinMap as map
 use Rattle.lfs_types.specs.Changes.{CanChangeAll, changed_at, IsLength}

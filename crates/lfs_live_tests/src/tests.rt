@@ -11,8 +11,8 @@ mod watch;
 mod yielding;
 
 use lfs_logstore::LogStore;
+use lfs_print::print::append_answer;
 use lfs_script::plan::{Act, Plan, Step};
-use lfs_script::print::append_answer;
 use lfs_script::script::parse_script;
 use lfs_server::fresh::fresh_volume;
 use lfs_server::gate::Gate;

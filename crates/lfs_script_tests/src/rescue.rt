@@ -1,6 +1,7 @@
 //! A volume of `lfs_shell` that `lfs_check` finds in its blocks alone.
 
 use crate::shell::{Ended, Words, run};
+use lfs_command::streams::Streams;
 use lfs_rescue::program::lfs_check;
 use std::fs;
 use std::rt::Files;
@@ -36,12 +37,18 @@ waiting 0 blocks 0 records
 /// Runs `lfs_check` with these words on these bytes.
 fn check<R: Files + AllocGlobal>(rt: &R, words: &[&str], input: &[u8]) -> Ended {
     let alloc = rt.alloc();
-    let mut out = Vec::new(alloc);
-    let mut err = Vec::new(alloc);
-    let mut stdin = input;
+    let mut streams = Streams {
+        stdin: input,
+        stdout: Vec::new(alloc),
+        stderr: Vec::new(alloc),
+    };
     let env = (Words { words }, alloc);
-    let status = lfs_check(&env, rt, &mut stdin, &mut out, &mut err);
-    Ended { status, out, err }
+    let status = lfs_check(&env, rt, &mut streams);
+    Ended {
+        status,
+        out: streams.stdout,
+        err: streams.stderr,
+    }
 }
 
 /// What `lfs_check` tells of the blocks of a volume that a talk with these words left, and keeps.

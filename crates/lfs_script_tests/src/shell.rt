@@ -1,6 +1,7 @@
 //! Runs of `lfs_shell` over the files of the folder where the program runs: an image, passes unasked, a film, faults and
 //! frames.
 
+use lfs_command::streams::Streams;
 use lfs_programs::shell::lfs_shell;
 use std::alloc::Global;
 use std::env::{Env, FillError};
@@ -58,12 +59,18 @@ impl Ended {
 /// Runs `lfs_shell` with these words on this input.
 pub fn run<R: Files + AllocGlobal>(rt: &R, words: &[&str], input: &str) -> Ended {
     let alloc = rt.alloc();
-    let mut out = Vec::new(alloc);
-    let mut err = Vec::new(alloc);
-    let mut stdin = input.as_bytes();
+    let mut streams = Streams {
+        stdin: input.as_bytes(),
+        stdout: Vec::new(alloc),
+        stderr: Vec::new(alloc),
+    };
     let env = (Words { words }, alloc);
-    let status = lfs_shell(&env, rt, &mut stdin, &mut out, &mut err);
-    Ended { status, out, err }
+    let status = lfs_shell(&env, rt, &mut streams);
+    Ended {
+        status,
+        out: streams.stdout,
+        err: streams.stderr,
+    }
 }
 
 /// Lines, each with its line feed.
@@ -175,11 +182,13 @@ fn is_saved_before_a_break<R: Files + AllocGlobal>(rt: &R) -> bool {
     let _ = fs::remove_file(rt, IMAGE);
     let alloc = rt.alloc();
     let mut room = [0; 11];
-    let mut out = room.as_mut_slice();
-    let mut err = Vec::new(alloc);
-    let mut stdin = "create /a 0644\n.save\nunlink /a\n".as_bytes();
+    let mut streams = Streams {
+        stdin: "create /a 0644\n.save\nunlink /a\n".as_bytes(),
+        stdout: room.as_mut_slice(),
+        stderr: Vec::new(alloc),
+    };
     let env = (Words { words: &SMALL }, alloc);
-    let status = lfs_shell(&env, rt, &mut stdin, &mut out, &mut err);
+    let status = lfs_shell(&env, rt, &mut streams);
     let then = run(rt, &SMALL, "stat /a\n");
     let _ = fs::remove_file(rt, IMAGE);
     status == 1 && then.answers() == "0 stat 4 file 0 0 0644 00000000 0\n"

@@ -3,6 +3,7 @@
 //! a journal's file that is.
 
 use crate::shell::{Ended, Words};
+use lfs_command::streams::Streams;
 use lfs_programs::server::lfsd;
 use lfs_programs::shell::lfs_shell;
 use std::fs;
@@ -37,14 +38,21 @@ where
     R: Files + AllocGlobal + Threads + Wait + Sync,
 {
     let alloc = rt.alloc();
-    let mut out = Vec::new(alloc);
-    let mut err = Vec::new(alloc);
+    let mut streams = Streams {
+        stdin,
+        stdout: Vec::new(alloc),
+        stderr: Vec::new(alloc),
+    };
     let env = (Words { words }, alloc);
     let status = match program {
-        Program::Server => lfsd(&env, rt, rt, stdin, &mut out, &mut err),
-        Program::Shell => lfs_shell(&env, rt, stdin, &mut out, &mut err),
+        Program::Server => lfsd(&env, rt, rt, &mut streams),
+        Program::Shell => lfs_shell(&env, rt, &mut streams),
     };
-    Ended { status, out, err }
+    Ended {
+        status,
+        out: streams.stdout,
+        err: streams.stderr,
+    }
 }
 
 /// Whether a run ended so: with this status, and these bytes on its streams.

@@ -18,7 +18,7 @@ where
     R: Files + AllocGlobal + Print + Threads + Wait + Sync,
 {
     let words = words_in(rt, line)?;
-    let mut options = options_of(rt.alloc(), words.as_slice()).map_err(|error| anyhow!(
+    let mut options = options_of(rt.alloc(), Ok(words.as_slice())).map_err(|error| anyhow!(
         "{line}: {error}"
     ))?;
     if !prints_stored(rt, line, options)? {

@@ -13,7 +13,7 @@ use std::rt::Files;
 pub fn tells_as_stored<R: Files + AllocGlobal + Print>(rt: &R, line: &str) -> anyhow::Result<bool> {
     let alloc = rt.alloc();
     let words = words_in(rt, line)?;
-    let options = shell_options_of(alloc, words.as_slice()).map_err(|error| anyhow!(
+    let options = shell_options_of(alloc, Ok(words.as_slice())).map_err(|error| anyhow!(
         "{line}: {error}"
     ))?;
     let name = line.split(' ').next().unwrap_or_default();

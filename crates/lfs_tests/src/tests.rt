@@ -9,8 +9,8 @@ mod steps;
 mod unswept;
 
 use lfs_logstore::LogStore;
+use lfs_print::print::append_answer;
 use lfs_script::plan::{Act, Plan, Step};
-use lfs_script::print::append_answer;
 use lfs_script::script::parse_script;
 use lfs_types::answer::Answer;
 use lfs_types::store::Params;

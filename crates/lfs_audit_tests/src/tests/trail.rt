@@ -3,6 +3,7 @@
 use super::image::Image;
 use super::{expect_eq, fresh, plan_of};
 use lfs_auditing::program::lfs_audit_trail;
+use lfs_command::streams::Streams;
 use lfs_image::save;
 use lfs_script::plan::{Act, Step};
 use lfs_types::answer::{Answer, Served};
@@ -127,11 +128,17 @@ fn image(rt: &impl Abort, alloc: Global) -> Vec<u8> {
 fn audited(alloc: Global, image: &[u8], words: &[&[u8]], journal: &str) -> Ended {
     let env = (Words { words }, alloc);
     let files = Image { bytes: image };
-    let mut stdin = journal.as_bytes();
-    let mut out = Vec::new(alloc);
-    let mut err = Vec::new(alloc);
-    let status = lfs_audit_trail(&env, &files, &mut stdin, &mut out, &mut err);
-    Ended { status, out, err }
+    let mut streams = Streams {
+        stdin: journal.as_bytes(),
+        stdout: Vec::new(alloc),
+        stderr: Vec::new(alloc),
+    };
+    let status = lfs_audit_trail(&env, &files, &mut streams);
+    Ended {
+        status,
+        out: streams.stdout,
+        err: streams.stderr,
+    }
 }
 
 /// Asserts with which status the program ends, and what it writes.

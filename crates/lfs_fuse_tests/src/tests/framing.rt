@@ -2,7 +2,7 @@
 
 use super::{expect_eq, message_of};
 use lfs_fuse_wire::framing::Frame;
-use lfs_fuse_wire::message::{BadMessage, Message};
+use lfs_fuse_wire::message::{Message, MessageFault};
 
 #[test]
 fn two_messages_in_one_buffer(rt: HostRuntime) {
@@ -26,7 +26,7 @@ fn cut_messages(rt: HostRuntime) {
     for cut in bytes.iter().enumerate().map(|(place, _)| place) {
         let front = bytes.get(..cut).unwrap_or(&[]);
         expect_eq(&rt, Frame::first(front, 4096), Frame::Partial);
-        expect_eq(&rt, Message::decode(front), Err(BadMessage::Cut));
+        expect_eq(&rt, Message::decode(front), Err(MessageFault::Cut));
     }
     expect_eq(&rt, Frame::first(&bytes, 4096), Frame::Whole(46));
 }
@@ -35,7 +35,7 @@ fn cut_messages(rt: HostRuntime) {
 fn a_length_below_a_header(rt: HostRuntime) {
     let bytes = message_of(rt.alloc(), 39, 17, b"").expect(&rt, "room");
     expect_eq(&rt, Frame::first(&bytes, 4096), Frame::Bad);
-    expect_eq(&rt, Message::decode(&bytes), Err(BadMessage::Cut));
+    expect_eq(&rt, Message::decode(&bytes), Err(MessageFault::Cut));
 }
 
 #[test]
@@ -43,7 +43,7 @@ fn a_length_above_what_is_there(rt: HostRuntime) {
     let bytes = message_of(rt.alloc(), 41, 17, b"").expect(&rt, "room");
     expect_eq(&rt, Frame::first(&bytes, 4096), Frame::Partial);
     expect_eq(&rt, Frame::first(&bytes, 40), Frame::Bad);
-    expect_eq(&rt, Message::decode(&bytes), Err(BadMessage::Cut));
+    expect_eq(&rt, Message::decode(&bytes), Err(MessageFault::Cut));
 }
 
 /// The next number of a generator (Knuth's MMIX).
@@ -65,6 +65,10 @@ fn bytes_of_a_generator(rt: HostRuntime) {
         let bytes = message_of(rt.alloc(), 140, opcode, &body).expect(&rt, "room");
         expect_eq(&rt, Frame::first(&bytes, 140), Frame::Whole(140));
         // all bytes are there, so what is missing is within the message
-        expect_eq(&rt, Message::decode(&bytes) == Err(BadMessage::Cut), false);
+        expect_eq(
+            &rt,
+            Message::decode(&bytes) == Err(MessageFault::Cut),
+            false,
+        );
     }
 }

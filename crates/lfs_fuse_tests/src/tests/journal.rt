@@ -2,6 +2,7 @@
 
 use super::disk::Disk;
 use super::{expect_bytes, expect_eq, message_of};
+use lfs_command::streams::Streams;
 use lfs_fuse_talk::program::lfs_fuse;
 use std::alloc::Global;
 use std::env::{Env, FillError};
@@ -54,27 +55,39 @@ fn talk(rt: &impl Abort, alloc: Global) -> Vec<u8> {
     bytes
 }
 
+/// Streams over a talk, which keep what is written.
+fn streams_of(alloc: Global, talk: &[u8]) -> Streams<&[u8], Vec<u8>, Vec<u8>> {
+    Streams {
+        stdin: talk,
+        stdout: Vec::new(alloc),
+        stderr: Vec::new(alloc),
+    }
+}
+
 /// The line of each entry, and behind it the reply to its message: 16 bytes, ENOENT (2), the message's number.
 const ENTERED: &[u8] = b"#1 0 as 1000 100 | stat /a | denied N2 ENOENT 0 1\n\
     \x10\0\0\0\xfe\xff\xff\xff\x07\0\0\0\0\0\0\0\
     #2 0 as 1000 100 | stat /bc | denied N2 ENOENT 0 1\n\
     \x10\0\0\0\xfe\xff\xff\xff\x07\0\0\0\0\0\0\0";
 
+/// The status with which a talk ends whose replies go to the disk too, and what is told of it.
+fn end_on(disk: &Disk, alloc: Global, talk: &[u8]) -> (u8, Vec<u8>) {
+    let mut streams = Streams {
+        stdin: talk,
+        stdout: disk.files(),
+        stderr: Vec::new(alloc),
+    };
+    let env = (Words { words: FILED }, alloc);
+    let status = lfs_fuse(&env, &disk.files(), &mut streams);
+    (status, streams.stderr)
+}
+
 #[test]
 fn each_line_stands_before_its_reply(rt: HostRuntime) {
     let alloc = rt.alloc();
     let disk = Disk::new(alloc, false);
     let bytes = talk(&rt, alloc);
-    let mut input = bytes.as_slice();
-    let mut told = Vec::new(alloc);
-    let env = (Words { words: FILED }, alloc);
-    let status = lfs_fuse(
-        &env,
-        &disk.files(),
-        &mut input,
-        &mut disk.files(),
-        &mut told,
-    );
+    let (status, told) = end_on(&disk, alloc, &bytes);
     expect_eq(&rt, status, 0);
     expect_eq(&rt, told.len(), 0);
     expect_eq(&rt, disk.is_saved(), true);
@@ -90,15 +103,13 @@ fn file_that_takes_no_more_is_told_once(rt: HostRuntime) {
     let alloc = rt.alloc();
     let disk = Disk::new(alloc, true);
     let bytes = talk(&rt, alloc);
-    let mut input = bytes.as_slice();
-    let mut replies = Vec::new(alloc);
-    let mut told = Vec::new(alloc);
+    let mut streams = streams_of(alloc, &bytes);
     let env = (Words { words: FILED }, alloc);
-    let status = lfs_fuse(&env, &disk.files(), &mut input, &mut replies, &mut told);
+    let status = lfs_fuse(&env, &disk.files(), &mut streams);
     expect_eq(&rt, status, 1);
-    expect_bytes(&rt, &replies, LOST);
+    expect_bytes(&rt, &streams.stdout, LOST);
     let why = b"lfs_fuse: journal not written: write failed\n";
-    expect_bytes(&rt, &told, why);
+    expect_bytes(&rt, &streams.stderr, why);
     expect_eq(&rt, disk.is_saved(), true);
     expect_eq(&rt, disk.into_written().len(), 0);
 }
@@ -108,14 +119,12 @@ fn file_that_is_there_is_left(rt: HostRuntime) {
     let alloc = rt.alloc();
     let disk = Disk::new(alloc, false);
     let bytes = talk(&rt, alloc);
-    let mut input = bytes.as_slice();
-    let mut replies = Vec::new(alloc);
-    let mut told = Vec::new(alloc);
+    let mut streams = streams_of(alloc, &bytes);
     let words: &[&[u8]] = &[b"lfs_fuse", b"--journal-out=there.out"];
     let env = (Words { words }, alloc);
-    let status = lfs_fuse(&env, &disk.files(), &mut input, &mut replies, &mut told);
+    let status = lfs_fuse(&env, &disk.files(), &mut streams);
     expect_eq(&rt, status, 2);
-    expect_eq(&rt, replies.len(), 0);
-    expect_bytes(&rt, &told, b"lfs_fuse: journal file exists\n");
-    expect_bytes(&rt, input, &bytes);
+    expect_eq(&rt, streams.stdout.len(), 0);
+    expect_bytes(&rt, &streams.stderr, b"lfs_fuse: journal file exists\n");
+    expect_bytes(&rt, streams.stdin, &bytes);
 }

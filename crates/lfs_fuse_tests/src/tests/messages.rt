@@ -9,7 +9,7 @@ use lfs_fuse_wire::header::Header;
 use lfs_fuse_wire::init::{Init, InitFlags};
 use lfs_fuse_wire::ioctl::{Command, Ioctl};
 use lfs_fuse_wire::kind::FileKind;
-use lfs_fuse_wire::message::{BadMessage, Message};
+use lfs_fuse_wire::message::{Message, MessageFault};
 use lfs_fuse_wire::naming::{Create, Mkdir, Mknod, Rename, RenameMode};
 use lfs_fuse_wire::opcode::Unserved;
 
@@ -134,7 +134,7 @@ fn renames_by_hand(rt: HostRuntime) {
     );
     // the second name has no end
     let body = [2, 1, 0, 0, 0, 0, 0, 0, b'a', 0, b'b'];
-    expect_message(&rt, alloc, [51, 12], &body, Err(BadMessage::Short));
+    expect_message(&rt, alloc, [51, 12], &body, Err(MessageFault::Short));
 }
 
 #[test]
@@ -261,7 +261,7 @@ fn reads_by_hand(rt: HostRuntime) {
     expect_message(&rt, alloc, [80, 15], &body, Ok(Message::Read(read)));
     expect_message(&rt, alloc, [80, 28], &body, Ok(Message::Readdir(read)));
     expect_message(&rt, alloc, [80, 44], &body, Ok(Message::Readdirplus(read)));
-    expect_message(&rt, alloc, [79, 15], &body[..39], Err(BadMessage::Short));
+    expect_message(&rt, alloc, [79, 15], &body[..39], Err(MessageFault::Short));
 }
 
 #[test]
@@ -298,7 +298,7 @@ fn a_write_by_hand(rt: HostRuntime) {
         &body,
         Ok(Message::Write(write, b"hi")),
     );
-    expect_message(&rt, alloc, [81, 16], &body[..41], Err(BadMessage::Short));
+    expect_message(&rt, alloc, [81, 16], &body[..41], Err(MessageFault::Short));
 }
 
 #[test]
@@ -459,7 +459,7 @@ fn forgettings_by_hand(rt: HostRuntime) {
         }),
     );
     expect_eq(&rt, nodes.get(2), None);
-    expect_message(&rt, alloc, [79, 42], &body[..39], Err(BadMessage::Short));
+    expect_message(&rt, alloc, [79, 42], &body[..39], Err(MessageFault::Short));
 }
 
 #[test]

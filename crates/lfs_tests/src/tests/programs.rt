@@ -10,6 +10,7 @@ mod streams;
 
 use self::files::Disk;
 use crate::tests::expect_eq;
+use lfs_command::streams::Streams;
 use lfs_programs::server::lfsd;
 use lfs_programs::shell::lfs_shell;
 use std::alloc::Global;
@@ -67,9 +68,7 @@ fn status_of<S, R, W, D>(
     alloc: Global,
     program: Program,
     words: &[&[u8]],
-    stdin: &mut R,
-    stdout: &mut W,
-    stderr: &mut D,
+    streams: &mut Streams<R, W, D>,
 ) -> u8
 where
     S: Threads + Wait + Sync,
@@ -81,11 +80,11 @@ where
     match program {
         Program::Server => {
             let disk = Disk::new(alloc);
-            lfsd(&env, rt, &disk.files(false), stdin, stdout, stderr)
+            lfsd(&env, rt, &disk.files(false), streams)
         }
         Program::Shell => {
             let disk = Disk::new(alloc);
-            lfs_shell(&env, &disk.files(false), stdin, stdout, stderr)
+            lfs_shell(&env, &disk.files(false), streams)
         }
     }
 }
@@ -96,12 +95,19 @@ fn end_of<S: Threads + Wait + Sync>(
     alloc: Global,
     program: Program,
     words: &[&[u8]],
-    mut input: &[u8],
+    input: &[u8],
 ) -> Ended {
-    let mut out = Vec::new(alloc);
-    let mut err = Vec::new(alloc);
-    let status = status_of(rt, alloc, program, words, &mut input, &mut out, &mut err);
-    Ended { status, out, err }
+    let mut streams = Streams {
+        stdin: input,
+        stdout: Vec::new(alloc),
+        stderr: Vec::new(alloc),
+    };
+    let status = status_of(rt, alloc, program, words, &mut streams);
+    Ended {
+        status,
+        out: streams.stdout,
+        err: streams.stderr,
+    }
 }
 
 /// Asserts that a program with these words on this input ends with this status, and writes exactly this.

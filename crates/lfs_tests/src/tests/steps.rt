@@ -10,8 +10,8 @@ mod waiting;
 
 use crate::tests::{expect_lines, fresh, plan_of};
 use lfs_logstore::LogStore;
+use lfs_print::print::{append_answer, append_cleaner};
 use lfs_script::plan;
-use lfs_script::print::{append_answer, append_cleaner};
 use lfs_types::store::Params;
 use lfs_volume::journal::{CleanerAnswer, CleanerKind};
 use lfs_volume::steps::{Act, Step, StepAnswer};

@@ -27,7 +27,7 @@ impl Unswept {
 impl FileStore for Unswept {
     ghost state = { λ store. ⟦<FlatFiles as FileStore>⟧.state store.files };
 
-    ghost is_settled = { λ store. ⟦<FlatFiles as FileStore>⟧.is_settled store.files };
+    ghost is_flushed = { λ store. ⟦<FlatFiles as FileStore>⟧.is_flushed store.files };
 
     ghost made = { λ old changes by result new.
         ⟦<FlatFiles as FileStore>⟧.made old.files changes by result new.files };

@@ -5,7 +5,7 @@ ghost use Rattle.lfs_logstore.specs.States.{opening_state};
 
 use crate::tests::expect_eq;
 use lfs_ifile::{SegState, SegUse, usage_in};
-use lfs_logstore::{LogStore, NotGainful};
+use lfs_logstore::{GainFault, LogStore};
 use lfs_types::attrs::{Attrs, Kind};
 use lfs_types::cleaned::CleanedStore;
 use lfs_types::cleaner::{BlockInfo, CleanFault, INODE_BLOCK, InfoList, MarkList, SINGLE_BLOCK};
@@ -323,7 +323,7 @@ fn a_new_file_has_no_address_before_a_sync(rt: HostRuntime) {
 }
 
 /// Asserts what becomes of a try to gain room, and how many segments are clean behind it.
-fn expect_gain(rt: &impl Abort, store: &mut LogStore, wanted: Result<(), NotGainful>, clean: u32) {
+fn expect_gain(rt: &impl Abort, store: &mut LogStore, wanted: Result<(), GainFault>, clean: u32) {
     expect_eq(rt, store.gain(), wanted);
     expect_clean(rt, store, clean);
 }
@@ -336,5 +336,5 @@ fn a_gain_takes_what_was_counted(rt: HostRuntime) {
     expect_record_at(&rt, &store, 131);
     expect_gain(&rt, &mut store, Ok(()), 5);
     expect_record_at(&rt, &store, 131);
-    expect_gain(&rt, &mut store, Err(NotGainful), 5);
+    expect_gain(&rt, &mut store, Err(GainFault), 5);
 }

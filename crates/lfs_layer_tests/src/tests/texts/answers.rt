@@ -3,8 +3,8 @@
 use crate::tests::expect_eq;
 use lfs_model::counts::Counts;
 use lfs_model::journal::{CleanerAnswer, CleanerKind};
-use lfs_script::print::{print_answer, print_cleaner};
-use lfs_script::report::report_counts;
+use lfs_print::print::{print_answer, print_cleaner};
+use lfs_print::report::report_counts;
 use lfs_types::answer::{Answer, Resource, Served};
 use lfs_types::attrs::{Attrs, Kind};
 use lfs_types::cleaner::{BlockInfo, CleanFault, InfoList};

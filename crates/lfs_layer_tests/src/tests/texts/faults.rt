@@ -2,11 +2,12 @@
 
 use super::repeated;
 use crate::tests::expect_eq;
-use lfs_script::fault::{FaultKind, ScriptFault};
+use lfs_script::fault::ScriptFault;
 use lfs_script::script::parse_script;
 use lfs_types::cred::BadCred;
 use lfs_types::name::BadName;
 use lfs_types::path::BadPath;
+use lfs_words::fault::FaultKind;
 use std::alloc::Global;
 use std::process::Abort;
 

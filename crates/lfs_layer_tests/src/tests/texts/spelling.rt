@@ -2,8 +2,8 @@
 
 use crate::tests::expect_eq;
 use lfs_model::journal::CleanerOutcome;
+use lfs_print::print::push_outcome;
 use lfs_script::plan::{Act, Step};
-use lfs_script::print::push_outcome;
 use lfs_script::script::parse_script;
 use lfs_script::spelling::push_request;
 use lfs_types::cleaner::CleanFault;

@@ -4,6 +4,7 @@ use super::files::Disk;
 use super::server::{BY_SESSION, LINE_BY_LINE, PASSED, TURNS};
 use super::{Ended, Program, Words, expect_refused, has_part};
 use crate::tests::{expect_eq, push, repeated};
+use lfs_command::streams::Streams;
 use lfs_programs::server::lfsd;
 use std::alloc::Global;
 use std::process::Abort;
@@ -34,20 +35,20 @@ fn end_of<S: Threads + Wait + Sync>(
     alloc: Global,
     disk: (&Disk, bool),
     words: &[&[u8]],
-    mut input: &[u8],
+    input: &[u8],
 ) -> Ended {
     let env = (Words { words }, alloc);
-    let mut out = Vec::new(alloc);
-    let mut err = Vec::new(alloc);
-    let status = lfsd(
-        &env,
-        rt,
-        &disk.0.files(disk.1),
-        &mut input,
-        &mut out,
-        &mut err,
-    );
-    Ended { status, out, err }
+    let mut streams = Streams {
+        stdin: input,
+        stdout: Vec::new(alloc),
+        stderr: Vec::new(alloc),
+    };
+    let status = lfsd(&env, rt, &disk.0.files(disk.1), &mut streams);
+    Ended {
+        status,
+        out: streams.stdout,
+        err: streams.stderr,
+    }
 }
 
 /// Asserts that it ends with this status, and writes exactly this.

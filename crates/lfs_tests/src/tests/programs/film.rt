@@ -5,6 +5,7 @@ use super::files::Disk;
 use crate::tests::expect_eq;
 use crate::tests::film::{FRAMES, MARKED, MARKED_FRAMES, TALK, expect_frames};
 use crate::tests::scripts::fakes::Failing;
+use lfs_command::streams::Streams;
 use lfs_programs::shell::lfs_shell;
 use std::alloc::Global;
 use std::io::{ErrorKind, Read};
@@ -28,12 +29,15 @@ pub(super) fn expect_end<R: Read>(
 ) {
     let env = (Words { words }, alloc);
     let (disk, is_full) = disk;
-    let mut out = Vec::new(alloc);
-    let mut err = Vec::new(alloc);
-    let status = lfs_shell(&env, &disk.files(is_full), stdin, &mut out, &mut err);
+    let mut streams = Streams {
+        stdin,
+        stdout: Vec::new(alloc),
+        stderr: Vec::new(alloc),
+    };
+    let status = lfs_shell(&env, &disk.files(is_full), &mut streams);
     expect_eq(rt, status, wanted.0);
-    expect_eq(rt, out.as_slice(), wanted.1.as_bytes());
-    expect_eq(rt, err.as_slice(), wanted.2.as_bytes());
+    expect_eq(rt, streams.stdout.as_slice(), wanted.1.as_bytes());
+    expect_eq(rt, streams.stderr.as_slice(), wanted.2.as_bytes());
 }
 
 #[test]

@@ -3,6 +3,7 @@
 use super::{Program, status_of};
 use crate::tests::expect_eq;
 use crate::tests::scripts::fakes::{Failing, Full, Shut};
+use lfs_command::streams::Streams;
 use std::alloc::Global;
 use std::io::{ErrorKind, Read, Write};
 use std::process::Abort;
@@ -22,16 +23,14 @@ fn expect_fault<S: Abort + Threads + Wait + Sync, R: Read, W: Write>(
     rt: &S,
     alloc: Global,
     program: (Program, &[&[u8]], &str),
-    stdin: &mut R,
-    stdout: &mut W,
+    streams: &mut Streams<R, W, Vec<u8>>,
     text: &str,
 ) {
-    let mut err = Vec::new(alloc);
     let (program, words, name) = program;
-    let status = status_of(rt, alloc, program, words, stdin, stdout, &mut err);
+    let status = status_of(rt, alloc, program, words, streams);
     expect_eq(rt, status, 1);
-    let told = err.strip_prefix(name.as_bytes()).expect(rt, "its name");
-    expect_eq(rt, told, text.as_bytes());
+    let told = streams.stderr.strip_prefix(name.as_bytes());
+    expect_eq(rt, told.expect(rt, "its name"), text.as_bytes());
 }
 
 #[test]
@@ -39,15 +38,19 @@ fn programs_over_a_reader_that_fails(rt: HostRuntime) {
     let alloc = rt.alloc();
     for (program, name, told) in PROGRAMS {
         for reads in 0..=INPUT.len() {
-            let mut stdin = Failing {
+            let stdin = Failing {
                 rest: INPUT,
                 reads,
                 kind: ErrorKind::Other,
             };
-            let mut out = Vec::new(alloc);
+            let mut streams = Streams {
+                stdin,
+                stdout: Vec::new(alloc),
+                stderr: Vec::new(alloc),
+            };
             let words: &[&[u8]] = &[name];
             let asked = (program, words, told);
-            expect_fault(&rt, alloc, asked, &mut stdin, &mut out, "read failed\n");
+            expect_fault(&rt, alloc, asked, &mut streams, "read failed\n");
         }
     }
 }
@@ -58,11 +61,14 @@ fn programs_over_a_writer_that_fails(rt: HostRuntime) {
     for (program, name, told) in PROGRAMS {
         // The first write fails; or up to nine pass, and the flush fails.
         for (writes, flushes) in [(0, true), (9, false)] {
-            let mut stdin = INPUT;
-            let mut stdout = Full { writes, flushes };
+            let mut streams = Streams {
+                stdin: INPUT,
+                stdout: Full { writes, flushes },
+                stderr: Vec::new(alloc),
+            };
             let words: &[&[u8]] = &[name];
             let asked = (program, words, told);
-            expect_fault(&rt, alloc, asked, &mut stdin, &mut stdout, "write failed\n");
+            expect_fault(&rt, alloc, asked, &mut streams, "write failed\n");
         }
     }
 }
@@ -71,11 +77,14 @@ fn programs_over_a_writer_that_fails(rt: HostRuntime) {
 fn help_that_can_not_be_written_is_a_fault(rt: HostRuntime) {
     let alloc = rt.alloc();
     for (program, name, told) in PROGRAMS {
-        let mut stdin = INPUT;
-        let mut stdout = Shut { is_asked: false };
+        let mut streams = Streams {
+            stdin: INPUT,
+            stdout: Shut { is_asked: false },
+            stderr: Vec::new(alloc),
+        };
         let words: &[&[u8]] = &[name, b"--help"];
         let asked = (program, words, told);
-        expect_fault(&rt, alloc, asked, &mut stdin, &mut stdout, "write failed\n");
+        expect_fault(&rt, alloc, asked, &mut streams, "write failed\n");
     }
 }
 
@@ -86,21 +95,16 @@ const STATUSES: [(&[u8], &[u8], u8); 2] = [(b"--none", b"", 2), (b"--journal=1",
 fn status_stays_where_nothing_can_be_told(rt: HostRuntime) {
     let alloc = rt.alloc();
     for (program, name, _) in PROGRAMS {
-        for (word, mut stdin, status) in STATUSES {
-            let mut stdout = Shut { is_asked: false };
-            let mut stderr = Shut { is_asked: false };
+        for (word, stdin, status) in STATUSES {
+            let mut streams = Streams {
+                stdin,
+                stdout: Shut { is_asked: false },
+                stderr: Shut { is_asked: false },
+            };
             let words: &[&[u8]] = &[name, word];
-            let found = status_of(
-                &rt,
-                alloc,
-                program,
-                words,
-                &mut stdin,
-                &mut stdout,
-                &mut stderr,
-            );
+            let found = status_of(&rt, alloc, program, words, &mut streams);
             expect_eq(&rt, found, status);
-            expect_eq(&rt, stderr.is_asked, true);
+            expect_eq(&rt, streams.stderr.is_asked, true);
         }
     }
 }

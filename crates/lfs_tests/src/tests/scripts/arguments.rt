@@ -4,7 +4,8 @@ use super::expect_parts;
 use crate::tests::expect_eq;
 use clap::Error;
 use clap::error::ErrorKind;
-use lfs_programs::options::{Options, not_utf8, options_of, shell_options_of};
+use lfs_command::words::WordsFault;
+use lfs_programs::options::{Options, options_of, shell_options_of};
 use lfs_types::store::Params;
 use std::alloc::Global;
 use std::process::Abort;
@@ -77,7 +78,7 @@ const TAKEN: [(&[&str], Options<'static>); 3] = [
 #[test]
 fn parameters(rt: HostRuntime) {
     for (words, options) in TAKEN {
-        let found = options_of(rt.alloc(), words).expect(&rt, "options");
+        let found = options_of(rt.alloc(), Ok(words)).expect(&rt, "options");
         expect_eq(&rt, found, options);
     }
 }
@@ -115,7 +116,7 @@ const FILMS: [(&[&str], Params, Option<&str>); 3] = [
 #[test]
 fn numbers_and_film_of_the_shell(rt: HostRuntime) {
     for (words, params, film) in FILMS {
-        let found = shell_options_of(rt.alloc(), words).expect(&rt, "options");
+        let found = shell_options_of(rt.alloc(), Ok(words)).expect(&rt, "options");
         expect_eq(&rt, found.params, params);
         expect_eq(&rt, found.film, film);
     }
@@ -131,7 +132,7 @@ const NO_FILMS: [&[&str]; 3] = [
 #[test]
 fn film_without_a_file_or_with_two_is_refused(rt: HostRuntime) {
     for words in NO_FILMS {
-        let error = shell_options_of(rt.alloc(), words)
+        let error = shell_options_of(rt.alloc(), Ok(words))
             .err()
             .expect(&rt, "a fault");
         expect_eq(&rt, error.exit_code(), 2);
@@ -169,7 +170,7 @@ const REFUSED: [&[&str]; 25] = [
 
 /// The fault of words that are refused, or a call for help.
 fn fault_of(rt: &impl Abort, alloc: Global, words: &[&str]) -> Error {
-    options_of(alloc, words).err().expect(rt, "a fault")
+    options_of(alloc, Ok(words)).err().expect(rt, "a fault")
 }
 
 /// Asserts that the program ends with status 2 at these words.
@@ -192,7 +193,9 @@ fn usage_faults(rt: HostRuntime) {
 
 #[test]
 fn arguments_that_are_no_text_are_a_usage_fault(rt: HostRuntime) {
-    let error = not_utf8(rt.alloc());
+    let error = options_of::<&str>(rt.alloc(), Err(WordsFault::NotUtf8))
+        .err()
+        .expect(&rt, "a fault");
     expect_eq(&rt, error.exit_code(), 2);
     expect_told(&rt, rt.alloc(), &error, &["UTF-8", "--help"]);
 }

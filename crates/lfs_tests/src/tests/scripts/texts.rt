@@ -2,12 +2,13 @@
 
 use super::expect_told;
 use lfs_audit::fault::{RunFault, ThreadsFault};
-use lfs_script::fault::{FaultKind, ScriptFault};
+use lfs_script::fault::ScriptFault;
 use lfs_server::serving::ServeFault;
 use lfs_types::cred::BadCred;
 use lfs_types::fault::FormatFault;
 use lfs_types::name::BadName;
 use lfs_types::path::BadPath;
+use lfs_words::fault::FaultKind;
 
 /// Faults of a run, and what is told of each.
 const FAULTS: [(ThreadsFault, &[u8]); 8] = [

@@ -4,7 +4,8 @@ use super::{PARAMS, expect_unwritten};
 use crate::tests::scripts::output_with;
 use crate::tests::{expect_eq, expect_lines};
 use lfs_audit::fault::RunFault;
-use lfs_script::fault::{FaultKind, ScriptFault};
+use lfs_script::fault::ScriptFault;
+use lfs_words::fault::FaultKind;
 
 /// A script of six lines.
 const SCRIPT: &str = "\
