@@ -1,23 +1,25 @@
 #!/usr/bin/env python3
 """Sets the built program beside two others that keep to no contract, and prints how many times as fast it is.
 
-beside.py PROGRAM [--runs N] [--calls N] [--write] [WORKLOAD ..] builds `calls.c` (a script's lines by system calls on a
+beside.py PROGRAM [--runs N] [--calls N] [--instructions] [--write] [WORKLOAD ..] builds `calls.c` (a script's lines by system calls on a
 tmpfs, no journal) with gcc and `plain.rs` (hash tables, search, read and write permission alone, a journal) with rustc,
 both with optimisation, and runs the scripts of `workload.awk` on PROGRAM, a built `lfsd`, and on these two, by turns. A
 time is the processor's, user and system, the least of N runs, with that of the script without the timed calls taken
-away. Needs root, for the callers of the first. With --write the table goes to docs/speed/beside.csv, with the processor,
-the kernel and the commit.
+away. Needs root, for the callers of the first. With --instructions it counts instructions in place of time, by
+valgrind's callgrind, of PROGRAM and the second, which takes no idle machine. With --write the table goes to
+docs/speed/beside.csv, or instructions.csv, with the processor, the kernel and the commit.
 """
 import argparse
 import os
 import platform
+import re
 import subprocess
 import sys
 import tempfile
 from pathlib import Path
 
 BENCH = Path(__file__).resolve().parent
-TABLE = BENCH.parent / "docs" / "speed" / "beside.csv"
+SPEED = BENCH.parent / "docs" / "speed"
 # a script of lfsd has at most 1,048,576 bytes
 MOST = {"write-4k": 100, "read-hot": 1000}
 NAMES = {"create-unlink": 240, "rename": 240}
@@ -25,6 +27,7 @@ OPTIONS = ["--segments", "1024", "--inodes", "512", "--journal", "100000"]
 LOADS = "stat-deep read-hot write-4k write-small create-unlink rename list-large deny mixed".split()
 HEAD = ("Workload,names,lfsd ns a call,system calls on a tmpfs,plain Rust,"
         "times as fast as system calls,times as fast as plain Rust")
+COUNTED_HEAD = "Workload,names,lfsd instructions a call,plain Rust,times as few as plain Rust"
 SECONDS = 120
 
 
@@ -47,6 +50,22 @@ def seconds_of(words, script, folder):
         return used.ru_utime + used.ru_stime
 
 
+def instructions_of(words, script):
+    """The instructions of a run on a script."""
+    counted = ["valgrind", "--tool=callgrind", "--callgrind-out-file=/dev/null", *words]
+    with open(script, "rb") as lines:
+        ran = subprocess.run(counted, stdin=lines, stdout=subprocess.DEVNULL, stderr=subprocess.PIPE, text=True, check=True)
+    return int(re.search(r"Collected : (\d+)", ran.stderr)[1])
+
+
+def counted(load, programs, asked, folder):
+    """A line of the table of instructions."""
+    calls, names = min(asked.calls, MOST.get(load, asked.calls)), NAMES.get(load, 15)
+    whole, start = (script_of(load, names, count, folder / f"{count}") for count in (calls, 0))
+    own, plain = (round((instructions_of(words, whole) - instructions_of(words, start)) / calls) for words in programs)
+    return f"{load},{names},{own},{plain},{plain / own:.2f}"
+
+
 def least(programs, script, runs, folder):
     """The least time of each program on a script, the programs by turns."""
     found = {name: [] for name in programs}
@@ -60,7 +79,8 @@ def measured(load, programs, asked, folder):
     calls, names = min(asked.calls, MOST.get(load, asked.calls)), NAMES.get(load, 15)
     whole = least(programs, script_of(load, names, calls, folder / "whole"), asked.runs, folder)
     start = least(programs, script_of(load, names, 0, folder / "start"), asked.runs, folder)
-    return [load, names, *[max(1, round(1e9 * (whole[name] - start[name]) / calls)) for name in programs]]
+    own, system, plain = (max(1, round(1e9 * (whole[name] - start[name]) / calls)) for name in programs)
+    return f"{load},{names},{own},{system},{plain},{system / own:.2f},{plain / own:.2f}"
 
 
 def built(folder):
@@ -80,6 +100,7 @@ def main():
     parser.add_argument("loads", nargs="*", metavar="WORKLOAD", help=" ".join(LOADS))
     parser.add_argument("--runs", type=int, default=11)
     parser.add_argument("--calls", type=int, default=10000)
+    parser.add_argument("--instructions", action="store_true")
     parser.add_argument("--write", action="store_true")
     asked = parser.parse_args()
     with tempfile.TemporaryDirectory(dir="/dev/shm") as room:
@@ -87,13 +108,17 @@ def main():
         os.chmod(folder, 0o755)
         built(folder)
         programs = {"lfsd": [os.path.abspath(asked.program), *OPTIONS], "calls": [folder / "calls"], "plain": [folder / "plain"]}
-        rows = [measured(load, programs, asked, folder) for load in asked.loads or LOADS]
-    lines = [f"{load},{names},{own},{calls},{plain},{calls / own:.2f},{plain / own:.2f}"
-             for load, names, own, calls, plain in rows]
-    text = "\n".join([machine(), HEAD, *lines]) + "\n"
+        loads = asked.loads or LOADS
+        if asked.instructions:
+            head, table, both = COUNTED_HEAD, "instructions.csv", [programs["lfsd"], programs["plain"]]
+            lines = [counted(load, both, asked, folder) for load in loads]
+        else:
+            head, table = HEAD, "beside.csv"
+            lines = [measured(load, programs, asked, folder) for load in loads]
+    text = "\n".join([machine(), head, *lines]) + "\n"
     print(text, end="")
     if asked.write:
-        TABLE.write_text(text, encoding="utf-8")
+        (SPEED / table).write_text(text, encoding="utf-8")
 
 
 if __name__ == "__main__":

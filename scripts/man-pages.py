@@ -32,34 +32,16 @@ def commands():
             yield made[1], source, made[2]
 
 
-def constant(source, word):
-    """The text that a word stands for: a literal, or a constant of the crate."""
-    if word.startswith('"'):
-        return word[1:-1]
-    found = re.search(rf"const {word}: &str\s*=\s*{TEXT}", source)
-    return found[1] if found else sys.exit(f"man-pages: no constant {word}")
-
-
-def stated(source, name):
-    """How an option is written that is a constant, with the number that it may take, and its help."""
+def option(source, name):
+    """What a page shows of an argument of the command, which is a constant: how it is written, and what it does."""
     both = source + text_of("lfs_command")
-    found = re.search(rf"const {name}: (Number|Flag)Option = \w+ {{(.*?)\n}};", both, re.S)
-    value = " N" if found[1] == "Number" else ""
-    return f'--{re.search(rf"name: {TEXT}", found[2])[1]}{value}', re.search(rf"help:\s*{TEXT}", found[2])[1]
-
-
-def option(source, argument):
-    """What a page shows of an argument of the command: how it is written, and what it does."""
-    constant_name = re.fullmatch(r"([A-Z_]+)\.arg\(alloc\)", argument)
-    if constant_name:
-        return stated(source, constant_name[1])
-    function = re.fullmatch(r"(\w+)\(alloc\)", argument)[1]
-    body = re.search(rf"fn {function}<'a>\(alloc: Global\)[^{{]*{{(.*?)\n}}", source, re.S)[1]
-    told = re.search(rf"\.help\(\s*{TEXT}", body)[1]
-    value = re.search(rf"\.value_name\({TEXT}\)", body)
-    long = re.search(r'\.long\(("?\w+"?)\)', body)
-    shown = f"--{constant(source, long[1])}" if long else ""
-    return " ".join(it for it in (shown, value and value[1]) if it), told
+    found = re.search(rf"const {name}: (NumberOption|FlagOption|TextOption|Operand) = \w+ {{(.*?)\n}};", both, re.S)
+    if not found:
+        sys.exit(f"man-pages: no constant {name}")
+    kind, fields = found[1], dict(re.findall(rf"(\w+):\s*{TEXT}", found[2]))
+    value = "N" if kind == "NumberOption" else fields.get("value")
+    shown = None if kind == "Operand" else f"--{fields['name']}"
+    return " ".join(it for it in (shown, value) if it), fields["help"]
 
 
 def escaped(text):
@@ -69,7 +51,7 @@ def escaped(text):
 
 def lines_of(source, chain):
     """The lines of a page for a program's options, with help, which each has."""
-    found = [option(source, it) for it in re.findall(r"\.arg\((\w+(?:\.arg)?\(alloc\))\)", chain)]
+    found = [option(source, it) for it in re.findall(r"\.arg\((\w+)\.arg\(alloc\)\)", chain)]
     found.append(("-h, --help", "Prints help"))
     if ".version(" in chain:
         found.append(("-V, --version", "Prints version"))

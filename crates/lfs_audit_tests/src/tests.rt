@@ -1,7 +1,14 @@
-//! What no clause says of audits: that the journals of threads are legal, and what is told of a journal.
+//! What no clause says of audits: that the journals of threads are legal, what is told of a journal, lines that are
+//! read and told again, and entries that are judged by hand. And of images: verdicts on them, and volumes found in
+//! blocks.
 
+mod checking;
+mod command;
 mod image;
 mod journals;
+mod lines;
+mod rescue;
+mod trace;
 mod trail;
 
 use lfs_logstore::LogStore;

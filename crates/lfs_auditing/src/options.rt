@@ -6,9 +6,12 @@ ghost use Rattle.lfs_command.specs.Ends.{IsRefusal};
 ghost use Rattle.lfs_command.specs.Ranges.{IsBetween};
 ghost use Rattle.lfs_auditing.specs.Ranges.{IsInRange};
 
-use clap::{Arg, ArgAction, ArgMatches, Command, Error};
+use clap::{ArgMatches, Command, Error};
+use lfs_command::flags::FlagOption;
 use lfs_command::numbers::NumberOption;
+use lfs_command::operands::Operand;
 use lfs_command::refusing::wrong_value;
+use lfs_command::texts::TextOption;
 use lfs_command::words::{WordsFault, matches_of};
 use lfs_trace::errors::Denials;
 use lfs_types::path::{BadPath, Path};
@@ -33,20 +36,38 @@ const INODES: NumberOption = NumberOption {
     refusal: "--inodes takes a number of decimal digits alone, from 16 to 4096",
 };
 
-/// The word that names the file of the journal.
-const JOURNAL: &str = "journal";
+/// The option for the file of an image.
+const FROM: TextOption = TextOption {
+    name: "from",
+    value: "IMAGE",
+    help: "Begins at the tree and the securelevel of the volume whose image this file has; the numbers are its too",
+};
 
-/// The option that takes the file of an image.
-const FROM: &str = "from";
+/// The option for a path.
+const WHO: TextOption = TextOption {
+    name: "who",
+    value: "PATH",
+    help: "Tells who could make which call by this path at the end, over all users and groups",
+};
 
-/// The option that takes a path.
-const WHO: &str = "who";
+/// The option that has error names alone compared, for a journal of another system.
+const ERRORS: FlagOption = FlagOption {
+    name: "errors",
+    help: "Compares of a denial its error name alone, as other systems tell no rule and no place",
+};
 
-/// The flag that has error names alone compared.
-const ERRORS: &str = "errors";
+/// The option that has the report told as JSON.
+const JSON: FlagOption = FlagOption {
+    name: "json",
+    help: "Tells what is found as a JSON object in a line",
+};
 
-/// The flag that has the report told as JSON.
-const JSON: &str = "json";
+/// The word for the file of the journal.
+const JOURNAL: Operand = Operand {
+    name: "journal",
+    value: "JOURNAL",
+    help: "The file of the journal; without it, the journal is read from standard input",
+};
 
 /// What is told of a text that is no path.
 const WHO_REFUSAL: &str = "--who takes a path of the volume, which begins with a slash";
@@ -106,8 +127,8 @@ pub fn options_of<'a, S: AsStr>(
         Err(BadPath::Memory) => return Err(AllocError.into()),
         Err(_) => return Err(wrong_value(&mut command, WHO_REFUSAL)),
     };
-    let journal = matches.get_str(JOURNAL);
-    let from = matches.get_str(FROM);
+    let journal = JOURNAL.text(&matches);
+    let from = FROM.text(&matches);
     Ok(Options {
         inodes,
         segments,
@@ -115,13 +136,13 @@ pub fn options_of<'a, S: AsStr>(
         journal,
         who,
         denials: denials_in(&matches),
-        json: matches.get_flag(JSON),
+        json: matches.get_flag(JSON.name),
     })
 }
 
 /// The path that the matches ask of, if they do.
 fn path_in(alloc: Global, matches: &ArgMatches<'_>) -> Result<Option<Path>, BadPath> {
-    match matches.get_str(WHO) {
+    match WHO.text(matches) {
         Some(text) => Ok(Some(Path::parse(alloc, text)?)),
         None => Ok(None),
     }
@@ -129,7 +150,7 @@ fn path_in(alloc: Global, matches: &ArgMatches<'_>) -> Result<Option<Path>, BadP
 
 /// What the matches ask to compare of denials.
 fn denials_in(matches: &ArgMatches<'_>) -> Denials {
-    if matches.get_flag(ERRORS) {
+    if matches.get_flag(ERRORS.name) {
         Denials::ByError
     } else {
         Denials::Whole
@@ -141,7 +162,7 @@ fn numbers_in(matches: &ArgMatches<'_>) -> Result<(u32, u32), &'static str>
     ensures inodes { IfOk result (λ numbers. IsBetween 16 4096 numbers.0) }
     ensures segments { IfOk result (λ numbers. IsBetween 6 1024 numbers.1) }
 {
-    if matches.contains_id(FROM) && has_numbers(matches) {
+    if matches.contains_id(FROM.name) && has_numbers(matches) {
         return Err(FROM_REFUSAL);
     }
     let inodes = INODES.number(matches)?;
@@ -163,55 +184,9 @@ fn command<'a>(alloc: Global) -> Result<Command<'a>, AllocError> {
         .after_help(MORE)
         .arg(INODES.arg(alloc))?
         .arg(SEGMENTS.arg(alloc))?
-        .arg(from(alloc))?
-        .arg(who(alloc))?
-        .arg(errors(alloc))?
-        .arg(json(alloc))?
-        .arg(journal(alloc))
-}
-
-/// The option for the file of an image.
-fn from<'a>(alloc: Global) -> Arg<'a> {
-    Arg::new(alloc, FROM)
-        .long(FROM)
-        .value_name("IMAGE")
-        .action(ArgAction::Set)
-        .help(
-            "Begins at the tree and the securelevel of the volume whose image this file has; the numbers are its too",
-        )
-}
-
-/// The option for a path.
-fn who<'a>(alloc: Global) -> Arg<'a> {
-    Arg::new(alloc, WHO)
-        .long(WHO)
-        .value_name("PATH")
-        .action(ArgAction::Set)
-        .help("Tells who could make which call by this path at the end, over all users and groups")
-}
-
-/// The flag for a journal of another system.
-fn errors<'a>(alloc: Global) -> Arg<'a> {
-    Arg::new(alloc, ERRORS)
-        .long(ERRORS)
-        .action(ArgAction::SetTrue)
-        .help(
-            "Compares of a denial its error name alone, as other systems tell no rule and no place",
-        )
-}
-
-/// The flag for a report as JSON.
-fn json<'a>(alloc: Global) -> Arg<'a> {
-    Arg::new(alloc, JSON)
-        .long(JSON)
-        .action(ArgAction::SetTrue)
-        .help("Tells what is found as a JSON object in a line")
-}
-
-/// The word for the file of the journal.
-fn journal<'a>(alloc: Global) -> Arg<'a> {
-    Arg::new(alloc, JOURNAL)
-        .value_name("JOURNAL")
-        .action(ArgAction::Set)
-        .help("The file of the journal; without it, the journal is read from standard input")
+        .arg(FROM.arg(alloc))?
+        .arg(WHO.arg(alloc))?
+        .arg(ERRORS.arg(alloc))?
+        .arg(JSON.arg(alloc))?
+        .arg(JOURNAL.arg(alloc))
 }

@@ -1,3 +1,4 @@
+pub mod AlikeLemmas
 pub mod ArrivalLemmas
 pub mod AskLemmas
 pub mod AskedLemmas

@@ -1,12 +1,13 @@
 //! The walk along a path.
 
-ghost use Rattle.std.specs.Prelude.{◌≡◌, ◌<◌, ◌≤◌, IsSome, length};
+ghost use Rattle.std.specs.Prelude.{◌≡◌, ◌<◌, ◌≤◌, IsSome, length, true};
 ghost use Rattle.std.specs.FinMap.{get};
 ghost use Rattle.lfs_types.specs.declared.path.TheConstants.{PATH_MAX};
+ghost use Rattle.lfs_types.specs.Kinds.{is_directory_kind};
 ghost use Rattle.lfs_types.specs.Tree.{root};
 ghost use Rattle.lfs_model.specs.Rules.{front, last};
 ghost use Rattle.lfs_model.specs.Walks.{stepped, walked};
-ghost use Rattle.lfs_calls.specs.Reaches.{Reaches};
+ghost use Rattle.lfs_calls.specs.Reaches.{EndsAlike, GrantsAlike, Reaches};
 ghost use Rattle.lfs_calls.specs.Volumes.{HasWorld, InWorld};
 
 use crate::cached_store::CachedStore;
@@ -16,6 +17,7 @@ use lfs_checks::site::Site;
 use lfs_types::attrs::Attrs;
 use lfs_types::cred::Cred;
 use lfs_types::limits::ROOT_INODE;
+use lfs_types::mode::ModeBits;
 use lfs_types::name::Name;
 use lfs_types::path::Path;
 use lfs_types::rule::{Denial, Rule};
@@ -71,6 +73,47 @@ pub(crate) fn walk<F: FileStore>(
         dir = step(store, cred, site, dir, name)?;
     }
     Ok(dir)
+}
+
+/// Whether this is a directory that grants search alike to every caller of a user, whatever his groups are: it is his, or
+/// its mode grants its group what it grants others.
+fn grants_alike(dir: &Attrs, uid: u32) -> bool
+    ensures directory { result ≡ true → is_directory_kind dir.now.kind ≡ true }
+    ensures alike { result ≡ true → GrantsAlike dir.now uid }
+{
+    if !dir.kind.is_directory() {
+        return false;
+    }
+    if dir.uid == uid {
+        return true;
+    }
+    dir.mode.contains(ModeBits::S_IXGRP) == dir.mode.contains(ModeBits::S_IXOTH)
+}
+
+/// Whether a walk from the root along names is sure to end alike for every caller of a user, whatever his groups are: each
+/// directory on the way grants search alike. It goes by what is known of names, and reads no directory: of a way that
+/// isn't known it isn't sure.
+pub fn ends_alike<F: FileStore>(store: &CachedStore<F>, uid: u32, names: &[Name]) -> bool
+    ensures { result ≡ true
+        → InWorld (F.state store.now) (λ w. EndsAlike w.rows uid names.now) }
+{
+    let mut dir = ROOT_INODE;
+    for (at, name) in names.iter().enumerate() {
+        let Some(attrs) = store.attrs(dir) else {
+            return false;
+        };
+        if !grants_alike(&attrs, uid) {
+            return false;
+        }
+        if at + 1 == names.len() {
+            return true;
+        }
+        let Some(Some(next)) = store.known(dir, name) else {
+            return false;
+        };
+        dir = next;
+    }
+    true
 }
 
 /// A file that a path leads to.

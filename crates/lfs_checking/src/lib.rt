@@ -8,7 +8,5 @@ pub mod keeping;
 pub mod reading;
 pub mod saving;
 pub mod standing;
-#[cfg(test)]
-mod tests;
 pub mod verdict;
 pub mod volume;

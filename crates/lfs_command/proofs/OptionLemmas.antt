@@ -34,3 +34,27 @@ flagged made long acted helped name help action is with_long with_action with_he
     ∙ ap rule_of with_action
     ∙ ap (λ (r : Rule). record r { action = Some action })
     (ap rule_of with_long ∙ ap (λ (r : Rule). record r { long = Some name.now }) is)
+
+-- one with a long name, a name of its value, an action and a help
+pub valued : (made long named acted helped : Arg) (name value help : Bor (List ℕ)) (action : ArgAction)
+    → rule_of made ≡ new_rule name.now → long ≡ record made { long = Some name }
+    → named ≡ record long { val_names = One value } → acted ≡ record named { action = Some action }
+    → helped ≡ record acted { help = Some help }
+    → rule_of helped ≡ record (new_rule name.now) { long = Some name.now; value_names = 1; action = Some action }
+valued made long named acted helped name value help action is with_long with_name with_action with_help =
+    ap rule_of with_help
+    ∙ ap rule_of with_action
+    ∙ ap (λ (r : Rule). record r { action = Some action })
+    (ap rule_of with_name ∙ ap (λ (r : Rule). record r { value_names = 1 })
+    (ap rule_of with_long ∙ ap (λ (r : Rule). record r { long = Some name.now }) is))
+
+-- one with a name of its value, an action and a help
+pub placed : (made named acted helped : Arg) (name value help : Bor (List ℕ)) (action : ArgAction)
+    → rule_of made ≡ new_rule name.now → named ≡ record made { val_names = One value }
+    → acted ≡ record named { action = Some action } → helped ≡ record acted { help = Some help }
+    → rule_of helped ≡ record (new_rule name.now) { value_names = 1; action = Some action }
+placed made named acted helped name value help action is with_name with_action with_help =
+    ap rule_of with_help
+    ∙ ap rule_of with_action
+    ∙ ap (λ (r : Rule). record r { action = Some action })
+    (ap rule_of with_name ∙ ap (λ (r : Rule). record r { value_names = 1 }) is)

@@ -5,6 +5,8 @@
 pub mod flags;
 pub mod means;
 pub mod numbers;
+pub mod operands;
 pub mod refusing;
 pub mod streams;
+pub mod texts;
 pub mod words;

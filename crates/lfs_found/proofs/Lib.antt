@@ -1,4 +1,5 @@
 pub mod ChainLemmas
 pub mod NamedLemmas
+pub mod NewLemmas
 pub mod RecoverableLemmas
 pub mod WrittenLemmas

@@ -1,7 +1,7 @@
 -- The records of recovery are those that the log names: `finds_records`. A summary's k-th entry is what the log names at
 -- the k-th address behind it (`entry-behind`), as its blocks stand in its segment. So the newest of a number is the
 -- latest that the log names (`finds_newest`), and there is one (`latest_is_one`): slot and address make one place.
-use Rattle.std.proofs.Common.{◌≡◌, ℕ, zero, suc, ◌+◌, ◌-◌, ◌*◌, ◌/◌, ◌<◌, ◌≤◌, ◌⊎◌, true, List, [], ◌∷◌, Some}
+use Rattle.std.proofs.Common.{◌≡◌, ℕ, zero, suc, ◌+◌, ◌-◌, ◌*◌, ◌/◌, ◌<◌, ◌≤◌, true, List, [], ◌∷◌, Some}
 use Rattle.std.proofs.Common.{drop, get_or, length, refl, sym, ap, ◌∙◌, ⊎_elim, arith}
 use Rattle.std.specs.List.{slice_get}
 use Rattle.std.proofs.lemmas.Option.{same_Some}
@@ -27,7 +27,7 @@ get_drop (e ∷ es) zero low = refl
 get_drop (e ∷ es) (suc j) low = get_drop es j (omega arith)
 
 -- what the log names at an address of a partial segment
-entry-behind : (m : SegmentMemory) (next : ℕ) (p : PartialSegment) (k : ℕ) → has_serials m ≡ true → IsRisingTo m next
+pub entry-behind : (m : SegmentMemory) (next : ℕ) (p : PartialSegment) (k : ℕ) → has_serials m ≡ true → IsRisingTo m next
     → AreWhole m → (b : IsBegun m p) → k < p.count
     → entry_at m (p.address + 1 + k) ≡ Some (get_or b.told.entries k unused)
 entry-behind m next p k kind rising whole b low =

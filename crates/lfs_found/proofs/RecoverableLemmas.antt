@@ -2,7 +2,7 @@
 -- steps of `WrittenLemmas`. These ask for the serial of what is written, and that it isn't the last one: it is below the
 -- next one then, as the new summary is one of those whose serials are (`new_summary`). A summary that is written, and
 -- then the blocks of its entries, make a partial segment (`partial_entries`).
-use Rattle.std.proofs.Common.{◌≡◌, ℕ, ◌+◌, ◌*◌, ◌<◌, ◌≤◌, inl, inr, true, false, List, [], Option, Some, None, is_some}
+use Rattle.std.proofs.Common.{◌≡◌, ℕ, ◌+◌, ◌*◌, ◌<◌, ◌≤◌, inl, inr, true, List, [], Option, Some, None, is_some}
 use Rattle.std.proofs.Common.{length, refl, sym, ap, subst, ◌∙◌, ⊎_elim, arith}
 use Rattle.std.proofs.lemmas.Bool.{false≢true}
 use Rattle.lfs_segments.specs.declared.entry.SummaryEntry.{SummaryEntry}
@@ -85,7 +85,7 @@ partial_entries m b n entries ready again laid first second next summary grown l
 -- ---- the memory then
 
 -- the summary of what was written is one
-new_summary : (m n : SegmentMemory) (t : Told) → log_start m.active ≤ m.fill → IsLaidOut n → WritesPartial m n t
+pub new_summary : (m n : SegmentMemory) (t : Told) → log_start m.active ≤ m.fill → IsLaidOut n → WritesPartial m n t
     → IsSummaryAt n (next_address m) t
 new_summary m n t begun after w =
     let within = after.within in

@@ -30,10 +30,10 @@ unfolding has_record
 has_record-same m n a same = ap (λ (block : List ℕ). is_there (fields_in (slot_of block 0))) same
 
 -- the partial segment of a summary
-abbrev partial_at : ℕ → Told → PartialSegment
+abbrev pub partial_at : ℕ → Told → PartialSegment
 partial_at a t = record { serial = t.serial; address = a; count = length t.entries }
 
-begun_at : (m : SegmentMemory) (a : ℕ) (t : Told) → IsSummaryAt m a t → IsBegun m (partial_at a t)
+pub begun_at : (m : SegmentMemory) (a : ℕ) (t : Told) → IsSummaryAt m a t → IsBegun m (partial_at a t)
 begun_at m a t s = record { told = t; summary = s; serial = refl; count = refl }
 
 -- its blocks stand in its segment
@@ -88,11 +88,11 @@ module _ (m n : SegmentMemory) (t : Told) (f : IsFindable m t.serial) (w : Write
   new_kind = w.extends.serials ∙ f.kind
 
   -- the log expects the new summary
-  expects_new : expected_at n m.active (next_address m) ≡ Some []
+  pub expects_new : expected_at n m.active (next_address m) ≡ Some []
   expects_new = expected_at-same m n m.active (next_address m) w.extends.serials (λ b from below. w.extends.blocks b (inl below))
       ∙ w.ready.pending
 
-  summary_back : (a : ℕ) (u : Told) → IsSummaryAt n a u → IsSummaryAt m a u ⊎ ((a ≡ next_address m) × (u ≡ t))
+  pub summary_back : (a : ℕ) (u : Told) → IsSummaryAt n a u → IsSummaryAt m a u ⊎ ((a ≡ next_address m) × (u ≡ t))
   summary_back a u p =
       let laid = f.laid_out in
       let begun = laid.begun in
@@ -144,7 +144,7 @@ module _ (m n : SegmentMemory) (t : Told) (f : IsFindable m t.serial) (w : Write
   }
 
   -- a block of a partial segment that was there
-  older_in : (p : PartialSegment) (a : ℕ) → IsBegun m p → p.address < a → a ≤ p.address + p.count → IsOlder m a
+  pub older_in : (p : PartialSegment) (a : ℕ) → IsBegun m p → p.address < a → a ≤ p.address + p.count → IsOlder m a
   older_in p a b behind within =
       let k : ℕ = a - p.address in
       let at : p.address + k ≡ a = omega arith in

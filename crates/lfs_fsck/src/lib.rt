@@ -12,8 +12,6 @@ mod names;
 mod reader;
 mod records;
 mod tail;
-#[cfg(test)]
-mod tests;
 
 pub use checking::check_log;
 pub use fault::LogFault;

@@ -1,6 +1,6 @@
 -- A mount that answers messages, as the world outside tells.
 use Rattle.std.specs.Prelude.{◌≡◌, ℕ, ◌==◌, ◌&&◌, ◌⊎◌, not, Bool, true, false, List, [], ◌∷◌, ◌++◌}
-use Rattle.std.specs.Prelude.{Option, None, Some, IfSome, is_some}
+use Rattle.std.specs.Prelude.{Option, None, Some, IfSome, IsSomeAnd, is_some}
 use Rattle.std.specs.List.{list_any}
 use Rattle.lfs_types.specs.StoreStates.{StoreState}
 use Rattle.lfs_volume.specs.Seen.{Seen}
@@ -10,12 +10,14 @@ use Rattle.lfs_parts.specs.declared.parts.Parts.{Parts as Log}
 use Rattle.lfs_logstore.specs.States.{state_of}
 use Rattle.lfs_nodes.specs.declared.parts.Parts.{Parts}
 use Rattle.lfs_fuse_wire.specs.Header.{header_in}
+use Rattle.lfs_fuse_wire.specs.Said.{said}
 use Rattle.lfs_fuse_wire.specs.declared.attributes.Time.{Time}
 use Rattle.lfs_fuse_wire.specs.declared.header.Header.{Header}
 use Rattle.lfs_fuse_reply.specs.declared.errno.Errno.TheVariants.{EACCES}
 use Rattle.lfs_fuse_calls.specs.Told.{told_bytes}
 use Rattle.lfs_fuse_calls.specs.declared.told.Told.TheVariants.{Error}
 use Rattle.lfs_mount.specs.Answered.{IsAnswered}
+use Rattle.lfs_mount.specs.Groups.{NeedsNoGroups}
 use Rattle.lfs_mount.specs.declared.mount.Beside.{Beside}
 use Rattle.lfs_mount.specs.declared.mount.Sizes.{Sizes}
 use Rattle.lfs_fuse_wire.specs.declared.framing.Frame.{Frame}
@@ -63,16 +65,32 @@ log_server time groups = server_of state_of IsFlushed time groups
 abbrev pub calling : List ℕ
 calling = 1 ∷ 3 ∷ 4 ∷ 8 ∷ 9 ∷ 10 ∷ 11 ∷ 12 ∷ 14 ∷ 15 ∷ 16 ∷ 20 ∷ 27 ∷ 30 ∷ 34 ∷ 35 ∷ 39 ∷ 45 ∷ []
 
--- whether the groups of the caller count: in a message that makes calls, and not of the superuser
+-- whether the groups of the caller may count: in a message that makes calls, and not of the superuser
 abbrev pub are_wanted : Header → Bool
 are_wanted header = not (header.uid == 0) && list_any (λ n. n == header.opcode) calling
 
+-- whether the groups of the caller count, and why not: they can't, or the message needs none, as the mount stands
+abbrev pub DoCount : {F : Type 0} → (F → StoreState) → Seen F → Parts → Header → List ℕ → Bool
+    → Type 0
+DoCount state volume nodes header message true = are_wanted header ≡ true
+DoCount state volume nodes header message false = (are_wanted header ≡ false)
+    ⊎ IsSomeAnd (said message) (NeedsNoGroups state volume nodes header)
+
 -- the groups that the world outside tells, where they count, and else none
-abbrev pub AreGroups : {P : Type 0} → (P → Header → Option (List ℕ) → P → Type 0) → Bool → P
+abbrev pub AreTold : {P : Type 0} → (P → Header → Option (List ℕ) → P → Type 0) → Bool → P
     → Header → Option (List ℕ)
     → P → Type 0
-AreGroups groups true old header found new = groups old header found new
-AreGroups groups false old header found new = (found ≡ Some []) × (new ≡ old)
+AreTold groups true old header found new = groups old header found new
+AreTold groups false old header found new = (found ≡ Some []) × (new ≡ old)
+
+-- the same of a message that came to a mount with this volume and these nodes
+pub record AreGroups {F P : Type 0} (state : F → StoreState)
+    (groups : P → Header → Option (List ℕ) → P → Type 0)
+    (volume : Seen F) (nodes : Parts) (header : Header) (message : List ℕ) (old : P)
+    (found : Option (List ℕ)) (new : P) : Type 0 where
+  pub count : Bool
+  pub why : DoCount state volume nodes header message count
+  pub told : AreTold groups count old header found new
 
 -- A mount answered a message that came now, of a process with these other groups: its calls were made with them, as
 -- `Mount::answer` says; where they can't be known, it is denied and nothing is done.
@@ -88,7 +106,8 @@ IsAnsweredTo r now header (Some others) old message reply new =
     old.volume new.volume old.beside
     new.beside × (new.sizes ≡ old.sizes)
 
--- the same of a message that came when the world outside told the time, of a process whose groups it told
+-- the same of a message that came when the world outside told the time, of a process whose groups it told, where they
+-- count
 pub record IsServedTo {F P : Type 0} (r : Server F P) (header : Header) (old : Holding F P)
     (message reply : List ℕ)
     (new : Holding F P) : Type 0 where
@@ -96,7 +115,8 @@ pub record IsServedTo {F P : Type 0} (r : Server F P) (header : Header) (old : H
   pub then : P
   pub others : Option (List ℕ)
   pub told : r.time old.outside now then
-  pub groups : AreGroups r.groups (are_wanted header) then header others new.outside
+  pub groups : AreGroups r.state r.groups old.volume old.nodes header message then others
+      new.outside
   pub answered : IsAnsweredTo r now header others old message reply new
 
 -- a mount that answers messages, with this volume

@@ -7,6 +7,7 @@ ghost use Rattle.lfs_fuse_talk.specs.Serving.{are_wanted, calling};
 use crate::statuses::Statuses;
 use lfs_fuse_wire::header::Header;
 use std::alloc::{AllocError, Global};
+use std::os::unix::fs::FileExt;
 use std::rt::Files;
 
 /// The most groups beside the first.
@@ -29,7 +30,7 @@ fn makes_calls(opcode: u32) -> bool
     CALLING.contains(&opcode)
 }
 
-/// Whether the groups of the caller count: a superuser is granted everything, whatever they are.
+/// Whether the groups of the caller may count: a superuser is granted everything, whatever they are.
 pub(crate) fn are_wanted(header: &Header) -> bool
     ensures { result ≡ are_wanted header.now }
 {
@@ -101,7 +102,10 @@ pub(crate) fn others<S: Files>(
     files: &S,
     statuses: &mut Statuses<S::File>,
     header: &Header,
-) -> Result<Option<Vec<u32>>, AllocError> {
+) -> Result<Option<Vec<u32>>, AllocError>
+where
+    S::File: FileExt,
+{
     let mut buffer = [0; STATUS_BYTES];
     match statuses.read(alloc, files, header.pid, &mut buffer)? {
         Some(count) => others_in(alloc, whole_lines(&buffer[..count]), header),

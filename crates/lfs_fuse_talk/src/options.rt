@@ -5,10 +5,11 @@ ghost use Rattle.clap.specs.Values.{kind_of};
 ghost use Rattle.lfs_command.specs.Ends.{IsRefusal};
 ghost use Rattle.lfs_fuse_talk.specs.Ranges.{IsInRange};
 
-use clap::{Arg, ArgAction, ArgMatches, Command, Error};
-use lfs_command::flags::SERIALS;
+use clap::{ArgMatches, Command, Error};
+use lfs_command::flags::{FlagOption, SERIALS};
 use lfs_command::numbers::NumberOption;
 use lfs_command::refusing::wrong_value;
+use lfs_command::texts::{IMAGE, TextOption};
 use lfs_command::words::{WordsFault, matches_of};
 use lfs_types::store::Params;
 use std::alloc::{AllocError, Global};
@@ -50,14 +51,18 @@ const JOURNAL: NumberOption = NumberOption {
     refusal: "--journal takes a number of decimal digits alone, from 512 to 100000",
 };
 
-/// The name of the option for an image.
-const IMAGE: &str = "image";
+/// The option for the file of the journal.
+const JOURNAL_OUT: TextOption = TextOption {
+    name: "journal-out",
+    value: "FILE",
+    help: "Writes each entry of the journal to FILE, which may not exist, before its reply",
+};
 
-/// The name of the option for the file of the journal.
-const JOURNAL_OUT: &str = "journal-out";
-
-/// The name of the option for a recording.
-const RECORDED: &str = "recorded";
+/// The option for a recording.
+const RECORDED: FlagOption = FlagOption {
+    name: "recorded",
+    help: "The messages are a recording: a caller has the group of his message alone, each message a second",
+};
 
 /// What `--help` tells behind the options.
 const MORE: &str =
@@ -97,10 +102,10 @@ pub fn options_of<'a, S: AsStr>(
         Ok(params) => params,
         Err(refusal) => return Err(wrong_value(&mut command, refusal)),
     };
-    let image = matches.get_str(IMAGE);
+    let image = IMAGE.text(&matches);
     let serials = matches.get_flag(SERIALS.name);
-    let journal_out = matches.get_str(JOURNAL_OUT);
-    let recorded = matches.get_flag(RECORDED);
+    let journal_out = JOURNAL_OUT.text(&matches);
+    let recorded = matches.get_flag(RECORDED.name);
     Ok(Options {
         params,
         image,
@@ -135,38 +140,8 @@ fn command<'a>(alloc: Global) -> Result<Command<'a>, AllocError> {
         .arg(INODES.arg(alloc))?
         .arg(FRAMES.arg(alloc))?
         .arg(JOURNAL.arg(alloc))?
-        .arg(journal_out(alloc))?
-        .arg(image(alloc))?
+        .arg(JOURNAL_OUT.arg(alloc))?
+        .arg(IMAGE.arg(alloc))?
         .arg(SERIALS.arg(alloc))?
-        .arg(recorded(alloc))
-}
-
-/// The option for an image.
-fn image<'a>(alloc: Global) -> Arg<'a> {
-    Arg::new(alloc, IMAGE)
-        .long(IMAGE)
-        .value_name("FILE")
-        .action(ArgAction::Set)
-        .help(
-            "Loads the volume from FILE where there is one, with its segments and numbers, and saves it there at the end",
-        )
-}
-
-/// The option for the file of the journal.
-fn journal_out<'a>(alloc: Global) -> Arg<'a> {
-    Arg::new(alloc, JOURNAL_OUT)
-        .long(JOURNAL_OUT)
-        .value_name("FILE")
-        .action(ArgAction::Set)
-        .help("Writes each entry of the journal to FILE, which may not exist, before its reply")
-}
-
-/// The option for a recording.
-fn recorded<'a>(alloc: Global) -> Arg<'a> {
-    Arg::new(alloc, RECORDED)
-        .long(RECORDED)
-        .action(ArgAction::SetTrue)
-        .help(
-            "The messages are a recording: a caller has the group of his message alone, each message a second",
-        )
+        .arg(RECORDED.arg(alloc))
 }

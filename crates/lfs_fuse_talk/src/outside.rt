@@ -10,6 +10,7 @@ use crate::statuses::Statuses;
 use lfs_fuse_wire::attributes::Time;
 use lfs_fuse_wire::header::Header;
 use std::alloc::{AllocError, Global};
+use std::os::unix::fs::FileExt;
 use std::rt::Files;
 use std::time::{Clock, SystemTime, UNIX_EPOCH};
 
@@ -40,7 +41,10 @@ pub struct System<'a, S: Files + Clock> {
     statuses: Statuses<S::File>,
 }
 
-impl<'a, S: Files + Clock> System<'a, S> {
+impl<'a, S: Files + Clock> System<'a, S>
+where
+    S::File: FileExt,
+{
     /// This system, whose clock has not been read.
     pub fn of(alloc: Global, system: &'a S) -> System<'a, S>
         ensures system { result.system.now ≡ system.now }
@@ -67,7 +71,10 @@ fn time_of<S: Clock>(clock: &S) -> Option<Time> {
     })
 }
 
-impl<S: Files + Clock> Outside for System<'_, S> {
+impl<S: Files + Clock> Outside for System<'_, S>
+where
+    S::File: FileExt,
+{
     ghost use Rattle.lfs_fuse_talk.specs.Worlds.{any_groups, any_time};
 
     ghost time = { any_time };

@@ -23,6 +23,7 @@ use lfs_logstore::LogStore;
 use std::alloc::Global;
 use std::env::Env;
 use std::io::{Read, Write};
+use std::os::unix::fs::FileExt;
 use std::rt::Files;
 use std::time::Clock;
 
@@ -34,6 +35,7 @@ pub fn lfs_fuse<E, S, R, W, D>(env: &E, system: &S, streams: &mut Streams<R, W, 
 where
     E: Env + AllocGlobal,
     S: Files + Clock,
+    S::File: FileExt,
     R: Read,
     W: Write,
     D: Write,
@@ -58,6 +60,7 @@ fn serve_asked<S, R, W, D>(
 ) -> u8
 where
     S: Files + Clock,
+    S::File: FileExt,
     R: Read,
     W: Write,
     D: Write,
@@ -85,6 +88,7 @@ fn run<S, R, W, D>(
 ) -> u8
 where
     S: Files + Clock,
+    S::File: FileExt,
     R: Read,
     W: Write,
     D: Write,

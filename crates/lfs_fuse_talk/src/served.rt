@@ -4,7 +4,7 @@ ghost use Rattle.std.specs.Prelude.{◌≡◌, IfOk, OnOk};
 ghost use Rattle.std.specs.Option.{option_map};
 ghost use Rattle.lfs_mount.specs.Runs.{GoesOn};
 ghost use Rattle.lfs_fuse_talk.specs.Filing.{is_open};
-ghost use Rattle.lfs_fuse_talk.specs.Serving.{Advances, AreGroups, HasRested, IsServed, IsServedTo, are_wanted, held, server_of};
+ghost use Rattle.lfs_fuse_talk.specs.Serving.{Advances, AreGroups, DoCount, HasRested, IsServed, IsServedTo, held, server_of};
 
 use crate::filing::{Ledger, told_or_lost};
 use crate::groups::are_wanted;
@@ -59,16 +59,32 @@ impl<F: FileStore + Drop, P: Drop, W: Write + Drop> Served<F, P, W> {
     }
 }
 
+/// Whether the groups of the caller of a message count.
+fn do_count<F: FileStore + Drop>(
+    mount: &Mount<F>,
+    alloc: Global,
+    header: &Header,
+    message: &[u8],
+) -> bool
+    ensures { DoCount F.state mount.now.tree.volume mount.now.tree.nodes header.now message.now
+        result }
+{
+    are_wanted(header) && !mount.needs_no_groups(alloc, header, message)
+}
+
 /// The other groups of the process of a message: none where they don't count.
-fn groups_of<P: Outside>(
+fn groups_of<F: FileStore + Drop, P: Outside>(
+    mount: &Mount<F>,
     outside: &mut P,
     alloc: Global,
     header: &Header,
+    message: &[u8],
 ) -> Result<Option<Vec<u32>>, AllocError>
-    ensures { IfOk result (λ found. AreGroups P.groups (are_wanted header.now)
-        outside.old header.now (option_map (λ others. others.items) found) outside.new) }
+    ensures { IfOk result (λ found. AreGroups F.state P.groups mount.now.tree.volume
+        mount.now.tree.nodes header.now message.now
+        outside.old (option_map (λ others. others.items) found) outside.new) }
 {
-    if are_wanted(header) {
+    if do_count(mount, alloc, header, message) {
         outside.others(alloc, header)
     } else {
         Ok(Some(Vec::new(alloc)))
@@ -93,7 +109,7 @@ impl<F: CleanedStore + Drop, P: Outside + Drop, W: Write + Drop> Served<F, P, W>
     {
         let mut out = Vec::new(alloc);
         let now = self.outside.now();
-        match groups_of(&mut self.outside, alloc, header)? {
+        match groups_of(&self.mount, &mut self.outside, alloc, header, message)? {
             Some(others) => {
                 self.mount
                     .answer(alloc, now, message, others.as_slice(), &mut out)?;

@@ -4,7 +4,7 @@ ghost use Rattle.std.specs.Prelude.{◌≤◌, length, IfOk, IfSome};
 
 use std::alloc::{AllocError, Global};
 use std::fs::File;
-use std::io::{Read, Seek, SeekFrom};
+use std::os::unix::fs::FileExt;
 use std::rt::Files;
 
 /// As many files are kept open at most.
@@ -26,7 +26,7 @@ pub(crate) struct Statuses<F: Drop> {
     slots: Vec<Option<StatusFile<F>>>,
 }
 
-impl<F: Read + Seek + Drop> Statuses<F> {
+impl<F: FileExt + Drop> Statuses<F> {
     /// No file is open.
     pub(crate) fn new(alloc: Global) -> Statuses<F> {
         Statuses {
@@ -56,19 +56,18 @@ impl<F: Read + Seek + Drop> Statuses<F> {
 
 /// Reads the status of a process in the file that a slot has, where it is that of the process and the process is still
 /// there.
-fn read_kept<F: Read + Seek + Drop>(
-    slot: &mut Option<StatusFile<F>>,
+fn read_kept<F: FileExt + Drop>(
+    slot: &Option<StatusFile<F>>,
     pid: u32,
     buffer: &mut [u8],
 ) -> Option<usize>
     ensures { IfSome result (λ count. count ≤ length buffer.new) }
 {
-    let kept = slot.as_mut()?;
+    let kept = slot.as_ref()?;
     if kept.pid != pid {
         return None;
     }
-    kept.file.seek(SeekFrom::Start(0)).ok()?;
-    match kept.file.read(buffer) {
+    match kept.file.read_at(buffer, 0) {
         Ok(0) | Err(_) => None,
         Ok(count) => Some(count),
     }
@@ -82,13 +81,15 @@ fn read_opened<S: Files>(
     pid: u32,
     buffer: &mut [u8],
 ) -> Result<Option<usize>, AllocError>
+where
+    S::File: FileExt,
     ensures { IfOk result (λ read. IfSome read (λ count. count ≤ length buffer.new)) }
 {
     let path = format!(in alloc; "/proc/{pid}/status")?;
-    let Ok(mut file) = File::open(files, path.as_str()) else {
+    let Ok(file) = File::open(files, path.as_str()) else {
         return Ok(None);
     };
-    let Ok(count) = file.read(buffer) else {
+    let Ok(count) = file.read_at(buffer, 0) else {
         return Ok(None);
     };
     *slot = Some(StatusFile { pid, file });

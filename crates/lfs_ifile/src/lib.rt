@@ -10,8 +10,6 @@ mod reading;
 mod segment;
 pub mod sizes;
 mod tables;
-#[cfg(test)]
-mod tests;
 mod writing;
 
 pub use fault::IfileFault;

@@ -6,8 +6,6 @@ mod fault;
 mod head;
 mod loading;
 mod saving;
-#[cfg(test)]
-mod tests;
 
 pub use fault::ImageFault;
 pub use loading::{load, read_blocks};

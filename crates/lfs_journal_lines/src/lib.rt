@@ -10,5 +10,3 @@ pub mod numbering;
 mod outcomes;
 pub mod reading;
 pub mod telling;
-#[cfg(test)]
-mod tests;

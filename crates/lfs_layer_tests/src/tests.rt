@@ -1,20 +1,30 @@
-//! Worked cases of the rules, bytes that are written out by hand, ranges, a log that is written, opened and read again,
-//! stores after some use, trees, and texts.
+//! Worked cases of the rules, bytes that are written out by hand, ranges, a log that is written, opened and read
+//! again, what is wrong with one, what is found in blocks alone, stores after some use, images, trees, the nodes of a
+//! mount, and texts.
 
 mod directories;
+mod fsck;
 mod ifile;
+mod image;
 mod inodes;
 mod log;
+mod nodes;
+mod reach;
+mod recovery;
 mod rules;
 mod segments;
 mod stores;
 mod texts;
 mod trees;
 
-ghost use Rattle.std.specs.Prelude.{◌<◌};
+ghost use Rattle.std.specs.Prelude.{◌≡◌, ◌<◌};
+ghost use Rattle.lfs_logstore.specs.States.{opening_state};
 
+use lfs_logstore::LogStore;
 use lfs_types::block::{BLOCK_SIZE, Block};
 use lfs_types::mode::Mode;
+use lfs_types::store::{FileStore, Params};
+use std::alloc::Global;
 use std::fmt::Debug;
 use std::process::Abort;
 
@@ -44,4 +54,20 @@ fn mode(bits: u16) -> Mode
         unreachable!()
     };
     mode
+}
+
+/// The store of a fresh volume of six segments and 16 inode numbers.
+fn fresh_log(rt: &impl Abort, alloc: Global) -> LogStore
+    ensures { ⟦<LogStore as FileStore>⟧.state result ≡ opening_state 6 16 }
+{
+    let small = Params {
+        segments: 6,
+        inodes: 16,
+        frames: 32,
+        journal: 1,
+    };
+    match LogStore::format(alloc, small) {
+        Ok(store) => store,
+        Err(_) => panic!(rt; "no store"),
+    }
 }

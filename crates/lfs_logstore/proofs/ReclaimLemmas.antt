@@ -18,6 +18,7 @@ use Rattle.lfs_parts.specs.Keys.{log_state}
 use Rattle.lfs_parts.specs.Store.{AreFiles, IsFile, IsStore}
 use Rattle.lfs_parts.specs.View.{record_of}
 use Rattle.lfs_segments.specs.Memory.{room_of}
+use Rattle.lfs_segwrite.proofs.OrderedLemmas.{same_ordered}
 use Rattle.lfs_segwrite.specs.Applying.{HasRoom, waiting_blocks}
 use Rattle.lfs_segwrite.specs.Collecting.{entries_of}
 use Rattle.lfs_logstore.specs.Cleaning.{HasLive, IsReclaimed}
@@ -124,6 +125,7 @@ module _ (p : Parts) (s : ℕ) (store : IsStore p) (room : HasRoom p) (has : Has
     tables = refl;
     clean = refl;
     memory = refl;
+    ordered = same_ordered p.log q.log refl refl;
     cache = refl;
     waiting = refl;
     content = content_same;

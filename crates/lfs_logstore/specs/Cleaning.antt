@@ -16,6 +16,7 @@ use Rattle.lfs_parts.specs.declared.parts.Parts.{Parts}
 use Rattle.lfs_parts.specs.Files.{content_of}
 use Rattle.lfs_parts.specs.Keys.{log_state}
 use Rattle.lfs_segwrite.specs.Marking.{code_named}
+use Rattle.lfs_segwrite.specs.Ordered.{IsOrdered}
 
 -- the present address of a key: a number, a version and the code of a block
 abbrev pub address_of : Parts → ℕ → ℕ → ℕ → ℕ
@@ -94,6 +95,7 @@ pub record IsReclaimed (old : Parts) (segment : ℕ) (new : Parts) : Type 0 wher
   pub tables : new.log.tables ≡ with_state old.log.tables segment used.Clean
   pub clean : new.log.clean ≡ old.log.clean + 1
   pub memory : new.log.memory ≡ old.log.memory
+  pub ordered : IsOrdered old.log → IsOrdered new.log
   pub cache : new.cache ≡ old.cache
   pub waiting : new.waiting ≡ old.waiting
   pub content : content_of new ≡ content_of old

@@ -10,6 +10,7 @@ ghost use Rattle.lfs_found.specs.Written.{IsRecoverable};
 ghost use Rattle.lfs_parts.specs.Filling.{IsCached, SameButClean};
 ghost use Rattle.lfs_parts.specs.View.{version_of};
 ghost use Rattle.lfs_segwrite.specs.Applying.{HasRoomFor, MakesChanges, WritesWaiting};
+ghost use Rattle.lfs_segwrite.specs.Ordered.{IsOrdered};
 ghost use Rattle.lfs_parts.specs.Store.{IsFlushed};
 ghost use Rattle.lfs_logstore.specs.Answering.{ComesTo};
 ghost use Rattle.lfs_logstore.specs.Frames.{KeepsCached};
@@ -71,6 +72,8 @@ impl FileStore for LogStore {
         ensures lacking { OnErr result (HasRoomFor by changes.now self.old → ⊥) }
         // What recovery found it finds, and what was written too.
         ensures whole { IsRecoverable self.old.log.memory → IsRecoverable self.new.log.memory }
+        ensures ordered { IsRecoverable self.old.log.memory → IsOrdered self.old.log
+            → IsOrdered self.new.log }
     {
         apply(&mut self.parts, changes, by).map_err(|_| StoreRefusal::NoSpace)
     }
@@ -83,6 +86,8 @@ impl FileStore for LogStore {
         ensures written { WritesWaiting self.old self.new }
         ensures held { KeepsCached self.old self.new }
         ensures whole { IsRecoverable self.old.log.memory → IsRecoverable self.new.log.memory }
+        ensures ordered { IsRecoverable self.old.log.memory → IsOrdered self.old.log
+            → IsOrdered self.new.log }
         ensures never { OnErr result ⊥ }
     {
         write_waiting(&mut self.parts);

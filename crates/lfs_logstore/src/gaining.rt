@@ -4,6 +4,7 @@ ghost use Rattle.std.specs.Prelude.{◌≡◌, IfOk, OnErr, OnOk};
 ghost use Rattle.lfs_found.specs.Written.{IsRecoverable};
 ghost use Rattle.lfs_segwrite.specs.Applying.{WritesWaiting};
 ghost use Rattle.lfs_segwrite.specs.Gaining.{NoneIsGainful};
+ghost use Rattle.lfs_segwrite.specs.Ordered.{IsOrdered};
 ghost use Rattle.lfs_parts.specs.Files.{content_of};
 ghost use Rattle.lfs_parts.specs.Store.{IsFlushed};
 ghost use Rattle.lfs_logstore.specs.Gaining.{GainsSpace};
@@ -29,6 +30,8 @@ impl LogStore {
         ensures content { content_of self.new ≡ content_of self.old }
         ensures shape { (state_of self.new).shape ≡ (state_of self.old).shape }
         ensures whole { IsRecoverable self.old.log.memory → IsRecoverable self.new.log.memory }
+        ensures ordered { IsRecoverable self.old.log.memory → IsOrdered self.old.log
+            → IsOrdered self.new.log }
     {
         write_waiting(&mut self.parts);
         match gainful(&self.parts) {

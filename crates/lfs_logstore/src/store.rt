@@ -6,6 +6,7 @@ ghost use Rattle.lfs_segments.specs.Rising.{IsRising};
 ghost use Rattle.lfs_found.specs.Written.{IsRecoverable};
 ghost use Rattle.lfs_parts.specs.Opening.{IsOpening, IsOpeningWith, IsTooFew, IsTooMany};
 ghost use Rattle.lfs_parts.specs.Store.{IsFlushed, IsStore};
+ghost use Rattle.lfs_segwrite.specs.Ordered.{IsOrdered};
 ghost use Rattle.lfs_logstore.specs.States.{opening_state};
 
 use lfs_parts::parts::Parts;
@@ -47,6 +48,7 @@ impl LogStore {
         ensures laid_out { IfOk result (IsOpening params.segments params.inodes params.frames) }
         ensures rising { IfOk result (λ store. IsRising store.log.memory) }
         ensures whole { IfOk result (λ store. IsRecoverable store.log.memory) }
+        ensures ordered { IfOk result (λ store. IsOrdered store.log) }
     {
         LogStore::format_as(alloc, params, None)
     }
@@ -65,6 +67,8 @@ impl LogStore {
         ensures rising { IfOk result (λ store. IsRising store.log.memory) }
         // Partial segments are whole, and stay so: `whole` of each call.
         ensures whole { IfOk result (λ store. IsRecoverable store.log.memory) }
+        // Each number's latest record stands where the inode map has it, and stays so: `ordered` of each call.
+        ensures ordered { IfOk result (λ store. IsOrdered store.log) }
     {
         LogStore::format_as(alloc, params, Some(1))
     }

@@ -2,6 +2,7 @@ pub mod Answered
 pub mod Entries
 pub mod Flags
 pub mod Forgetting
+pub mod Groups
 pub mod Handled
 pub mod Keeping
 pub mod Leaving

@@ -6,6 +6,7 @@ mod answering;
 mod calling;
 mod changing;
 mod flagging;
+mod grouping;
 mod handling;
 mod keeping;
 pub mod laws;

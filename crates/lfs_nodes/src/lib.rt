@@ -11,8 +11,6 @@ mod nodes;
 mod parts;
 mod place;
 mod table;
-#[cfg(test)]
-mod tests;
 mod way;
 
 pub use fault::{LookUpFault, PathFault};

@@ -83,6 +83,18 @@ impl<S: OverLog, F: Files> Watch<S> for Filming<'_, F> {
     }
 }
 
+/// One who watches a talk as is asked for: with a film that was shown nothing, and with the image's file.
+fn filming_of<'a, F: Files>(means: &Means<'a, F, ShellOptions<'a>>) -> Filming<'a, F>
+    ensures film { is_some result.film ≡ is_some means.now.options.film }
+    ensures image { result.image ≡ means.now.options.image }
+{
+    Filming {
+        film: means.options.film.map(|_| Film::new(means.alloc)),
+        files: means.files,
+        image: means.options.image,
+    }
+}
+
 /// What a talk begins with.
 #[derive(Drop)]
 pub(crate) struct Outset<S: OverLog + Drop, F: Drop> {
@@ -146,16 +158,9 @@ pub(crate) fn hear<S: OverLog + Drop, F: Files, R: Read, W: Write, D: Write>(
         (R.remaining reader.old) (W.contents writer.old) (W.contents writer.new)) }
     ensures fault { IfErr result IsTalkFault }
 {
-    let Means {
-        files,
-        alloc,
-        options,
-    } = *means;
-    let watch = Filming {
-        film: options.film.map(|_| Film::new(alloc)),
-        files,
-        image: options.image,
-    };
+    let alloc = means.alloc;
+    let cleans = means.options.cleans;
+    let watch = filming_of(means);
     let Outset { volume, journal } = outset;
     let Some(file) = journal else {
         let witnesses = Witnesses {
@@ -164,7 +169,7 @@ pub(crate) fn hear<S: OverLog + Drop, F: Files, R: Read, W: Write, D: Write>(
             program: Teller::Shell,
             watch,
         };
-        let mut tended = Tended::new(alloc, volume, options.cleans, witnesses);
+        let mut tended = Tended::new(alloc, volume, cleans, witnesses);
         let ending = hear_over(means, &mut tended, reader, writer, teller)?;
         let after = tended.into_witnesses();
         return Ok(Heard {
@@ -178,7 +183,7 @@ pub(crate) fn hear<S: OverLog + Drop, F: Files, R: Read, W: Write, D: Write>(
         program: Teller::Shell,
         watch,
     };
-    let mut tended = Tended::new(alloc, volume, options.cleans, witnesses);
+    let mut tended = Tended::new(alloc, volume, cleans, witnesses);
     let ending = hear_over(means, &mut tended, reader, writer, teller)?;
     let after = tended.into_witnesses();
     Ok(Heard {

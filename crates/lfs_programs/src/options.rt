@@ -6,10 +6,12 @@ ghost use Rattle.lfs_command.specs.Ends.{IsRefusal};
 ghost use Rattle.lfs_command.specs.Ranges.{IsBetween};
 ghost use Rattle.lfs_programs.specs.Ranges.{IsInRange};
 
-use clap::{Arg, ArgAction, ArgMatches, Command, Error};
-use lfs_command::flags::SERIALS;
+use clap::{ArgMatches, Command, Error};
+use lfs_command::flags::{FlagOption, SERIALS};
 use lfs_command::numbers::NumberOption;
+use lfs_command::operands::Operand;
 use lfs_command::refusing::wrong_value;
+use lfs_command::texts::{IMAGE, TextOption};
 use lfs_command::words::{WordsFault, matches_of};
 use lfs_live::framing::Framing;
 use lfs_types::store::Params;
@@ -62,32 +64,66 @@ const SHELL_JOURNAL: NumberOption = NumberOption {
     refusal: "--journal takes a number of decimal digits alone, from 1 to 1000000",
 };
 
-/// The option of `lfs_shell` for passes of the cleaner that nobody asks for.
-const CLEAN: &str = "clean";
+/// The option of `lfsd` for sessions on threads.
+const THREADS: FlagOption = FlagOption {
+    name: "threads",
+    help: "Runs session 0 first, and then each session on a thread of its own, with the cleaner beside them",
+};
 
-/// The word of the file of a script.
-const SCRIPT: &str = "script";
+/// The option for the file of the journal.
+const JOURNAL_OUT: TextOption = TextOption {
+    name: "journal-out",
+    value: "FILE",
+    help: "Writes each entry of the journal to FILE, which may not exist; --journal is then at least 128, room for those of a line",
+};
+
+/// That of `lfs_shell`.
+const SHELL_JOURNAL_OUT: TextOption = TextOption {
+    name: "journal-out",
+    value: "FILE",
+    help: "Writes each entry of the journal to FILE, which may not exist; --journal is then how many are kept in memory",
+};
+
+/// The option of `lfs_shell` for a store that refuses what would pass its share of the volume.
+const SHARE: FlagOption = FlagOption {
+    name: "share",
+    help: "Refuses what would take more than a share of the volume, so that cleaning always makes room for all else",
+};
+
+/// The option of `lfs_shell` for passes of the cleaner that nobody asks for.
+const CLEAN: FlagOption = FlagOption {
+    name: "clean",
+    help: "Has the cleaner make a pass, as session 255, behind each line that leaves at most three segments clean",
+};
+
+/// The option of `lfs_shell` for the file of a film.
+const FILM: TextOption = TextOption {
+    name: "film",
+    value: "FILE",
+    help: "Writes a film of the log to FILE at the end: a page of HTML with a frame for each line that changed it",
+};
 
 /// The option of `lfs_shell` that has a line's fault end it with status 1.
-const STRICT: &str = "strict";
+const STRICT: FlagOption = FlagOption {
+    name: "strict",
+    help: "Ends with status 1 where a line has a fault",
+};
 
 /// The option of `lfs_shell` that puts the count of its lines before each answer.
-const FRAMED: &str = "framed";
+const FRAMED: FlagOption = FlagOption {
+    name: "framed",
+    help: "Writes before each line's answer a line with the count of its lines, and so before the report",
+};
+
+/// The word for the file of a script.
+const SCRIPT: Operand = Operand {
+    name: "script",
+    value: "SCRIPT",
+    help: "The file of the lines; without it, they are read from standard input",
+};
 
 /// The version of the programs, as `CHANGELOG.md` has it.
 const VERSION: &str = "1.0";
-
-/// The option of `lfs_shell` that takes the file of an image.
-const IMAGE: &str = "image";
-
-/// The option of `lfs_shell` for a store that refuses what would pass its share of the volume.
-const SHARE: &str = "share";
-
-/// The option of `lfs_shell` that takes the file of a film.
-const FILM: &str = "film";
-
-/// The option that takes the file of the journal.
-const JOURNAL_OUT: &str = "journal-out";
 
 /// The least window of a journal that goes to a file: it has room for what a line may ask for.
 pub(crate) const LEAST_WINDOW: u32 = 128;
@@ -150,12 +186,12 @@ pub fn options_of<'a, S: AsStr>(
     let matches = matches_of(&mut command, words)?;
     match params_in(&matches, &JOURNAL) {
         Ok(params) => {
-            let journal_out = matches.get_str(JOURNAL_OUT);
+            let journal_out = JOURNAL_OUT.text(&matches);
             if journal_out.is_some() && params.journal < LEAST_WINDOW {
                 return Err(wrong_value(&mut command, SMALL_WINDOW));
             }
-            let threads = matches.get_flag("threads");
-            let script = matches.get_str(SCRIPT);
+            let threads = matches.get_flag(THREADS.name);
+            let script = SCRIPT.text(&matches);
             Ok(Options {
                 params,
                 threads,
@@ -210,21 +246,21 @@ pub fn shell_options_of<'a, S: AsStr>(
     let matches = matches_of(&mut command, words)?;
     match params_in(&matches, &SHELL_JOURNAL) {
         Ok(params) => {
-            let film = matches.get_str(FILM);
-            let journal_out = matches.get_str(JOURNAL_OUT);
+            let film = FILM.text(&matches);
+            let journal_out = SHELL_JOURNAL_OUT.text(&matches);
             if journal_out.is_some() && params.journal < LEAST_WINDOW {
                 return Err(wrong_value(&mut command, SMALL_WINDOW));
             }
             Ok(ShellOptions {
                 params,
-                cleans: matches.get_flag(CLEAN),
+                cleans: matches.get_flag(CLEAN.name),
                 film,
                 journal_out,
-                script: matches.get_str(SCRIPT),
-                image: matches.get_str(IMAGE),
+                script: SCRIPT.text(&matches),
+                image: IMAGE.text(&matches),
                 serials: matches.get_flag(SERIALS.name),
-                shares: matches.get_flag(SHARE),
-                strict: matches.get_flag(STRICT),
+                shares: matches.get_flag(SHARE.name),
+                strict: matches.get_flag(STRICT.name),
                 framing: framing_in(&matches),
             })
         }
@@ -260,13 +296,13 @@ fn command<'a>(alloc: Global) -> Result<Command<'a>, AllocError> {
         .about("Runs a script of calls on a volume in memory and prints the answers and a report")
         .version(VERSION)
         .after_help(MORE)
-        .arg(threads(alloc))?
+        .arg(THREADS.arg(alloc))?
         .arg(SEGMENTS.arg(alloc))?
         .arg(INODES.arg(alloc))?
         .arg(FRAMES.arg(alloc))?
         .arg(JOURNAL.arg(alloc))?
-        .arg(server_journal_out(alloc))?
-        .arg(script(alloc))
+        .arg(JOURNAL_OUT.arg(alloc))?
+        .arg(SCRIPT.arg(alloc))
 }
 
 /// The options of `lfs_shell`.
@@ -279,122 +315,22 @@ fn shell_command<'a>(alloc: Global) -> Result<Command<'a>, AllocError> {
         .arg(INODES.arg(alloc))?
         .arg(FRAMES.arg(alloc))?
         .arg(SHELL_JOURNAL.arg(alloc))?
-        .arg(journal_out(alloc))?
-        .arg(image(alloc))?
+        .arg(SHELL_JOURNAL_OUT.arg(alloc))?
+        .arg(IMAGE.arg(alloc))?
         .arg(SERIALS.arg(alloc))?
-        .arg(share(alloc))?
-        .arg(clean(alloc))?
-        .arg(film(alloc))?
-        .arg(strict(alloc))?
-        .arg(framed(alloc))?
-        .arg(script(alloc))
-}
-
-/// The option for the journal's file.
-fn journal_out<'a>(alloc: Global) -> Arg<'a> {
-    Arg::new(alloc, JOURNAL_OUT)
-        .long(JOURNAL_OUT)
-        .value_name("FILE")
-        .action(ArgAction::Set)
-        .help(
-            "Writes each entry of the journal to FILE, which may not exist; --journal is then how many are kept in memory",
-        )
-}
-
-/// The same of `lfsd`.
-fn server_journal_out<'a>(alloc: Global) -> Arg<'a> {
-    Arg::new(alloc, JOURNAL_OUT)
-        .long(JOURNAL_OUT)
-        .value_name("FILE")
-        .action(ArgAction::Set)
-        .help(
-            "Writes each entry of the journal to FILE, which may not exist; --journal is then at least 128, room for those of a line",
-        )
-}
-
-/// The option for an image.
-fn image<'a>(alloc: Global) -> Arg<'a> {
-    Arg::new(alloc, IMAGE)
-        .long(IMAGE)
-        .value_name("FILE")
-        .action(ArgAction::Set)
-        .help(
-            "Loads the volume from FILE where there is one, with its segments and numbers, and saves it there at the end",
-        )
-}
-
-/// The option for a share.
-fn share<'a>(alloc: Global) -> Arg<'a> {
-    Arg::new(alloc, SHARE)
-        .long(SHARE)
-        .action(ArgAction::SetTrue)
-        .help(
-            "Refuses what would take more than a share of the volume, so that cleaning always makes room for all else",
-        )
-}
-
-/// The option for passes of the cleaner.
-fn clean<'a>(alloc: Global) -> Arg<'a> {
-    Arg::new(alloc, CLEAN)
-        .long(CLEAN)
-        .action(ArgAction::SetTrue)
-        .help(
-            "Has the cleaner make a pass, as session 255, behind each line that leaves at most three segments clean",
-        )
-}
-
-/// The option for a film.
-fn film<'a>(alloc: Global) -> Arg<'a> {
-    Arg::new(alloc, FILM)
-        .long(FILM)
-        .value_name("FILE")
-        .action(ArgAction::Set)
-        .help(
-            "Writes a film of the log to FILE at the end: a page of HTML with a frame for each line that changed it",
-        )
-}
-
-/// The option for a status that tells of faults.
-fn strict<'a>(alloc: Global) -> Arg<'a> {
-    Arg::new(alloc, STRICT)
-        .long(STRICT)
-        .action(ArgAction::SetTrue)
-        .help("Ends with status 1 where a line has a fault")
-}
-
-/// The option for answers in frames.
-fn framed<'a>(alloc: Global) -> Arg<'a> {
-    Arg::new(alloc, FRAMED)
-        .long(FRAMED)
-        .action(ArgAction::SetTrue)
-        .help(
-            "Writes before each line's answer a line with the count of its lines, and so before the report",
-        )
+        .arg(SHARE.arg(alloc))?
+        .arg(CLEAN.arg(alloc))?
+        .arg(FILM.arg(alloc))?
+        .arg(STRICT.arg(alloc))?
+        .arg(FRAMED.arg(alloc))?
+        .arg(SCRIPT.arg(alloc))
 }
 
 /// How answers are framed, by the option for it.
 fn framing_in(matches: &ArgMatches<'_>) -> Framing {
-    if matches.get_flag(FRAMED) {
+    if matches.get_flag(FRAMED.name) {
         Framing::Counted
     } else {
         Framing::Plain
     }
-}
-
-/// The word for the file of a script.
-fn script<'a>(alloc: Global) -> Arg<'a> {
-    Arg::new(alloc, SCRIPT)
-        .value_name("SCRIPT")
-        .action(ArgAction::Set)
-        .help("The file of the lines; without it, they are read from standard input")
-}
-
-/// The option for threads.
-fn threads<'a>(alloc: Global) -> Arg<'a> {
-    Arg::new(alloc, "threads")
-        .long("threads")
-        .action(ArgAction::SetTrue)
-        .help(
-            "Runs session 0 first, and then each session on a thread of its own, with the cleaner beside them",
-        )
 }

@@ -4,8 +4,6 @@
 
 mod blocks;
 mod reaching;
-#[cfg(test)]
-mod tests;
 
 pub use blocks::{bytes_at, record_of};
 pub use reaching::reached;

@@ -6,8 +6,6 @@ mod newest;
 mod partials;
 mod places;
 mod reader;
-#[cfg(test)]
-mod tests;
 mod whole;
 
 pub use newest::newest_records;

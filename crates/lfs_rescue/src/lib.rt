@@ -10,8 +10,6 @@ mod options;
 pub mod program;
 mod recovering;
 mod telling;
-#[cfg(test)]
-mod tests;
 
 pub use blocks::recover_blocks;
 pub use fault::{RecoverFault, RescueFault};

@@ -4,20 +4,34 @@ ghost use Rattle.std.specs.Prelude.{◌≡◌, IfErr, IfOk, IsErrAnd, IsSome, tr
 ghost use Rattle.clap.specs.Values.{kind_of};
 ghost use Rattle.lfs_command.specs.Ends.{IsRefusal};
 
-use clap::{Arg, ArgAction, Command, Error};
+use clap::{Command, Error};
+use lfs_command::flags::FlagOption;
+use lfs_command::operands::Operand;
 use lfs_command::refusing::wrong_value;
+use lfs_command::texts::TextOption;
 use lfs_command::words::{WordsFault, matches_of};
 use std::alloc::{AllocError, Global};
 use std::convert::AsStr;
 
-/// The word that names the file of the image or of the blocks.
-const IMAGE: &str = "image";
-
 /// The option for blocks in place of an image.
-const RECOVER: &str = "recover";
+const RECOVER: FlagOption = FlagOption {
+    name: "recover",
+    help: "IMAGE has the blocks of a volume alone, whose summaries have serials: finds the volume in them",
+};
 
-/// The option that takes the file of the image that is made.
-const SAVE: &str = "save";
+/// The option for the file of the image that is made.
+const SAVE: TextOption = TextOption {
+    name: "save",
+    value: "FILE",
+    help: "With --recover, writes the image of the volume that is found to FILE, at the highest securelevel",
+};
+
+/// The word for the file of the image or of the blocks.
+const IMAGE: Operand = Operand {
+    name: "image",
+    value: "IMAGE",
+    help: "The file of the image; without it, the image is read from standard input",
+};
 
 /// What `--help` tells behind the options.
 const MORE: &str =
@@ -50,13 +64,13 @@ pub fn options_of<'a, S: AsStr>(
 {
     let mut command = command(alloc)?;
     let matches = matches_of(&mut command, words)?;
-    let recovers = matches.get_flag(RECOVER);
-    let save = matches.get_str(SAVE);
+    let recovers = matches.get_flag(RECOVER.name);
+    let save = SAVE.text(&matches);
     if save.is_some() && !recovers {
         return Err(wrong_value(&mut command, "--save takes --recover"));
     }
     Ok(Options {
-        image: matches.get_str(IMAGE),
+        image: IMAGE.text(&matches),
         recovers,
         save,
     })
@@ -69,36 +83,7 @@ fn command<'a>(alloc: Global) -> Result<Command<'a>, AllocError> {
             "Reads the image of a volume, and says whether it is one, and how full it is, or what is wrong with it",
         )
         .after_help(MORE)
-        .arg(recover(alloc))?
-        .arg(save(alloc))?
-        .arg(image(alloc))
-}
-
-/// The option for blocks.
-fn recover<'a>(alloc: Global) -> Arg<'a> {
-    Arg::new(alloc, RECOVER)
-        .long(RECOVER)
-        .action(ArgAction::SetTrue)
-        .help(
-            "IMAGE has the blocks of a volume alone, whose summaries have serials: finds the volume in them",
-        )
-}
-
-/// The option for the file of the image that is made.
-fn save<'a>(alloc: Global) -> Arg<'a> {
-    Arg::new(alloc, SAVE)
-        .long(SAVE)
-        .value_name("FILE")
-        .action(ArgAction::Set)
-        .help(
-            "With --recover, writes the image of the volume that is found to FILE, at the highest securelevel",
-        )
-}
-
-/// The word for the file of the image.
-fn image<'a>(alloc: Global) -> Arg<'a> {
-    Arg::new(alloc, IMAGE)
-        .value_name("IMAGE")
-        .action(ArgAction::Set)
-        .help("The file of the image; without it, the image is read from standard input")
+        .arg(RECOVER.arg(alloc))?
+        .arg(SAVE.arg(alloc))?
+        .arg(IMAGE.arg(alloc))
 }

@@ -117,7 +117,7 @@ fn keep<F: Files>(
 }
 
 /// The line of a fault.
-pub(crate) fn fault_line(alloc: Global, fault: RecoverFault) -> Result<Vec<u8>, AllocError>
+fn fault_line(alloc: Global, fault: RecoverFault) -> Result<Vec<u8>, AllocError>
     ensures { IfOk result (λ text. IsFaultLine fault text.items) }
 {
     let text = format!(in alloc; "fault: {fault}\n")?;

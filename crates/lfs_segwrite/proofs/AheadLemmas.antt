@@ -46,6 +46,7 @@ use Rattle.lfs_parts.specs.View.{key_of, version_of, waiting_in}
 use Rattle.lfs_segwrite.proofs.BoundLemmas.{blocks_more, blocks_sum}
 use Rattle.lfs_segwrite.proofs.OrderLemmas.{entries_of-same}
 use Rattle.lfs_segwrite.proofs.CollectingLemmas.{entries_of-length}
+use Rattle.lfs_segwrite.proofs.OrderedLemmas.{stays_ordered}
 use Rattle.lfs_segwrite.proofs.AdvanceLemmas.{cases_Waits}
 
 -- an address outside a segment lies before it or behind it
@@ -147,6 +148,8 @@ module _ (old a b new : Parts) (kept : KeepsFiles old a) (fewer : a.log.clean �
     serials = flushes.serials ∙ ap has_serials stays.memory ∙ kept.serials;
     rising = λ r. flushes.rising (subst IsRising (sym stays.memory) (kept.rising r));
     whole = λ r. flushes.whole (subst IsRecoverable (sym stays.memory) (kept.whole r));
+    ordered = λ r order. flushes.ordered (subst IsRecoverable (sym stays.memory) (kept.whole r))
+        (stays_ordered a b stays (kept.ordered r order));
     numbers = flushes.numbers ∙ stays.numbers ∙ ap (λ (rs : List InodeRow). length rs) kept.rows;
     clean = clean_less;
     moves = moves_ahead;
@@ -223,6 +226,7 @@ stays_ahead a b stays = record {
   serials = ap has_serials stays.memory;
   rising = subst IsRising (sym stays.memory);
   whole = subst IsRecoverable (sym stays.memory);
+  ordered = λ r order. stays_ordered a b stays order;
   numbers = stays.numbers;
   clean = let same = stays.clean in omega arith;
   moves = record {
@@ -245,6 +249,7 @@ ahead_stays old a b ahead stays =
       serials = after.serials ∙ ahead.serials;
       rising = λ r. after.rising (ahead.rising r);
       whole = λ r. after.whole (ahead.whole r);
+      ordered = λ r order. stays_ordered a b stays (ahead.ordered r order);
       numbers = after.numbers ∙ ahead.numbers;
       clean = let first = ahead.clean in let second = after.clean in omega arith;
       moves = moves-trans (DirtyIn (log_state old)) (log_state old) (log_state a) (log_state b) ahead.moves (record {

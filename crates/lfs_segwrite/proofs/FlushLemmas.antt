@@ -3,7 +3,7 @@
 -- others wait, and the log expects the entries from k on (`LandsKeys`); then come the records by four (`Remains`). The
 -- hard part is that no block waits whose address the next one holds (`IsNext`): such a block has a lower rank, and so
 -- came before; by another order an indirect block would be written without an address.
-use Rattle.std.proofs.Common.{◌≡◌, ◌≢◌, ◌⊎◌, ℕ, zero, suc, ◌+◌, ◌-◌, ◌*◌, ◌<◌, ◌≤◌, List, [], ◌∷◌, ◌++◌, length, map}
+use Rattle.std.proofs.Common.{◌≡◌, ◌≢◌, ℕ, zero, suc, ◌+◌, ◌-◌, ◌*◌, ◌<◌, ◌≤◌, List, [], ◌∷◌, ◌++◌, length, map}
 use Rattle.std.proofs.Common.{replicate, take, drop, get_or, IsSome, is_some, true, false, refl, sym, ap, ◌∙◌, subst, inl, inr}
 use Rattle.std.proofs.Common.{⊎_elim, length-append, arith}
 use Rattle.std.specs.Prelude.{◌==◌, Bool, if◌then◌else◌}
@@ -32,13 +32,15 @@ use Rattle.lfs_parts.specs.declared.parts.Parts.{Parts}
 use Rattle.lfs_segwrite.specs.Collecting.{blocks_of_entries, entries_of, entry_of, in_order, inode_blocks}
 use Rattle.lfs_segwrite.specs.Flushing.{Flushes, Waits}
 use Rattle.lfs_parts.specs.Opening.{inodes_entry}
-use Rattle.lfs_segwrite.specs.Recording.{Advances, entry_at_version}
+use Rattle.lfs_segwrite.specs.Ordered.{IsOrdered}
+use Rattle.lfs_segwrite.specs.Recording.{Advances, AreNoted, entry_at_version}
 use Rattle.lfs_staging.specs.Staging.{IsStaged}
 use Rattle.lfs_parts.specs.Store.{AreFiles, IsBlockCode, IsFlushed}
 use Rattle.lfs_parts.specs.View.{key_of, version_of, waiting_in}
 use Rattle.lfs_bmap.proofs.BlockLemmas.{file_block_of-logical, logical_of-file_block}
 use Rattle.lfs_segwrite.proofs.CollectingLemmas.{coded_entry, entries_of-length, in_order-length}
 use Rattle.lfs_segwrite.proofs.OrderLemmas.{entries_of-block, in_order-after, in_order-locked}
+use Rattle.lfs_segwrite.proofs.PlacedLemmas.{noted_more}
 use Rattle.lfs_segwrite.proofs.AdvanceLemmas.{Advances-refl, Advances-trans}
 use Rattle.lfs_parts.proofs.HeldLemmas.{locked_apart}
 use Rattle.lfs_staging.proofs.KeptLemmas.{staged_store}
@@ -55,6 +57,7 @@ pub record Remains (old p : Parts) : Type 0 where
   pub next : next_address p.log.memory + inode_blocks (length p.waiting) ≡ next_address old.log.memory
       + inode_blocks (length old.waiting)
   pub last : length p.waiting < length old.waiting → has_record p.log.memory (next_address p.log.memory - 1) ≡ true
+  pub noted : AreNoted p (next_address old.log.memory)
 
 pub one_block : (n : ℕ) → 0 < n → replicate (inode_blocks n) inodes_entry ≡ inodes_entry
     ∷ replicate (inode_blocks (n - 4)) inodes_entry
@@ -66,9 +69,9 @@ pub remains_fewer : (old p q : Parts) → Remains old p → 0 < length p.waiting
     → length q.waiting ≡ length p.waiting - 4 → q.cache ≡ p.cache
     → ((rest : List SummaryEntry) → Expects p.log.memory (inodes_entry ∷ rest) → Expects q.log.memory rest)
     → next_address q.log.memory ≡ next_address p.log.memory + 1
-    → has_record q.log.memory (next_address p.log.memory) ≡ true
+    → has_record q.log.memory (next_address p.log.memory) ≡ true → AreNoted q (next_address p.log.memory)
     → Remains old q
-remains_fewer old p q h some staged advances count cache expects next first = record {
+remains_fewer old p q h some staged advances count cache expects next first noted = record {
   staged = staged;
   no_frame = ap (λ (c : Contents). c.locked) cache ∙ h.no_frame;
   expected = subst (λ n. Expects q.log.memory (replicate (inode_blocks n) inodes_entry)) (sym count)
@@ -80,6 +83,7 @@ remains_fewer old p q h some staged advances count cache expects next first = re
   last = λ less.
       let at : next_address q.log.memory - 1 ≡ next_address p.log.memory = omega arith in
       ap (has_record q.log.memory) at ∙ first;
+  noted = noted_more p q (next_address old.log.memory) h.noted (advances (next_address p.log.memory) (omega arith)) noted;
 }
 
 -- a list that is not empty
@@ -292,7 +296,7 @@ keys_left old p k h end =
     (subst (Expects p.log.memory) (entries_left old k end) h.expected)
 
 -- ---- the whole
-none_waits : (q : Parts) → IsFlushed q → (n c : ℕ) → Waits q n c → ⊥
+pub none_waits : (q : Parts) → IsFlushed q → (n c : ℕ) → Waits q n c → ⊥
 none_waits q flushed n zero waits = false≢true (sym (ap (λ vs. is_some (waiting_in vs n)) flushed.no_record) ∙ waits)
 none_waits q flushed n (suc c) waits = false≢true
     (sym (ap (λ es. is_some (block_in (key_of n (version_of q n) (suc c)) es)) flushed.no_frame) ∙ waits)
@@ -370,8 +374,9 @@ pub flush_moves : (p q : Parts) → IsStaged q 0 → Expects q.log.memory [] →
     → Advances (next_address p.log.memory) p q
     → next_address q.log.memory ≡ next_address p.log.memory + blocks_of_entries (entries_of p)
     → (0 < length p.waiting → WritesEntries p.log.memory q.log.memory (entries_of p))
-    → (IsRecoverable p.log.memory → IsRecoverable q.log.memory) → Flushes p q
-flush_moves p q staged ready flushed h grown written whole = record {
+    → (IsRecoverable p.log.memory → IsRecoverable q.log.memory)
+    → (IsRecoverable p.log.memory → IsOrdered p.log → IsOrdered q.log) → Flushes p q
+flush_moves p q staged ready flushed h grown written whole order = record {
   store = staged_store q staged ready;
   flushed = flushed;
   content = h.content;
@@ -391,4 +396,5 @@ flush_moves p q staged ready flushed h grown written whole = record {
   grown = grown;
   written = written;
   whole = whole;
+  ordered = order;
 }

@@ -18,8 +18,10 @@ pub mod AlikeLemmas
 pub mod AdvanceLemmas
 pub mod NotedLemmas
 pub mod AppendedLemmas
+pub mod PlacedLemmas
 pub mod RecordsLemmas
 pub mod LandedKeyLemmas
 pub mod FlushLemmas
+pub mod OrderedLemmas
 pub mod InfoLemmas
 pub mod GainLemmas

@@ -45,6 +45,7 @@ use Rattle.lfs_parts.proofs.KeyLemmas.{place-block, place-record, placed_at, unu
 use Rattle.lfs_parts.proofs.ViewLemmas.{nowhere, record_of-logged, record_of-unused, record_of-waiting}
 use Rattle.lfs_bmap.specs.Blocks.{way_to}
 use Rattle.lfs_parts.proofs.SameLogLemmas.{block_known, used_low}
+use Rattle.lfs_segwrite.proofs.OrderedLemmas.{opened_ordered}
 
 -- ---- parts whose files read the same
 below_same : (old new : ℕ → Option File) → ((n : ℕ) → new n ≡ old n) → (n : ℕ) → content_below new n
@@ -243,6 +244,7 @@ module _ (p : Parts) (s : ℕ) (store : IsStore p) (inside : s < p.log.memory.se
           serials = refl;
           rising = rising-opened p.log.memory s store.whole.parts.laid_out opens.inside;
           whole = opens_recoverable p.log.memory s opens.inside parts.laid_out;
+          ordered = opened_ordered p s store opens.inside was_clean;
           rows = refl;
           cache = refl;
           waiting = refl;

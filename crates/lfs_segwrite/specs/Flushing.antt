@@ -11,6 +11,7 @@ use Rattle.lfs_log.specs.Parts.{state_of}
 use Rattle.lfs_bmap.specs.declared.blocks.TheConstants.{BLOCK_CODES}
 use Rattle.lfs_bmap.specs.Moves.{DirtyIn, Moves, StaysDirty}
 use Rattle.lfs_parts.specs.declared.parts.Parts.{Parts}
+use Rattle.lfs_segwrite.specs.Ordered.{IsOrdered}
 use Rattle.lfs_segwrite.specs.Collecting.{blocks_of_entries, entries_of}
 use Rattle.lfs_staging.specs.Frames.{KeepsFrames}
 use Rattle.lfs_parts.specs.Files.{content_of}
@@ -20,12 +21,13 @@ use Rattle.lfs_parts.specs.View.{key_of, version_of, waiting_in}
 
 -- Blocks were written at the log's end, perhaps in a clean segment that was opened for them. No key came to lie in a
 -- segment that was dirty, each of these is dirty still, and no block that was written is another. Where recovery found all
--- that was begun, it finds all that is.
+-- that was begun, it finds all that is, and where the inode map had each number's latest record, it has it.
 pub record WritesAhead (old new : Parts) : Type 0 where
   pub segments : new.log.memory.segments ≡ old.log.memory.segments
   pub serials : has_serials new.log.memory ≡ has_serials old.log.memory
   pub rising : IsRising old.log.memory → IsRising new.log.memory
   pub whole : IsRecoverable old.log.memory → IsRecoverable new.log.memory
+  pub ordered : IsRecoverable old.log.memory → IsOrdered old.log → IsOrdered new.log
   pub numbers : length new.log.tables.rows ≡ length old.log.tables.rows
   pub clean : new.log.clean ≤ old.log.clean
   pub moves : Moves (DirtyIn (log_state old)) (log_state old) (log_state new)
@@ -42,7 +44,8 @@ Waits p number (suc code) = IsLocked (key_of number (version_of p number) (suc c
 -- All that waited was written as one partial segment, behind what the active segment held: one summary and the blocks
 -- that it names, and nothing where nothing waited. The content is the same. Each key that waited has a place there,
 -- every other one the place that it had, and no other block changed. The cache holds each block that it held, clean now.
--- Where summaries have serials, recovery finds the partial segment whole, and what it found before (`written`, `whole`).
+-- Where summaries have serials, recovery finds the partial segment whole, and what it found before (`written`, `whole`);
+-- and where the inode map had each number's latest record, it has it (`ordered`).
 pub record Flushes (old new : Parts) : Type 0 where
   pub store : IsStore new
   pub flushed : IsFlushed new
@@ -72,3 +75,4 @@ pub record Flushes (old new : Parts) : Type 0 where
   pub written : 0 < length old.waiting
       → WritesEntries old.log.memory new.log.memory (entries_of old)
   pub whole : IsRecoverable old.log.memory → IsRecoverable new.log.memory
+  pub ordered : IsRecoverable old.log.memory → IsOrdered old.log → IsOrdered new.log

@@ -22,6 +22,7 @@ use Rattle.lfs_parts.specs.Keys.{log_state}
 use Rattle.lfs_parts.specs.Store.{IsFlushed, IsStore}
 use Rattle.lfs_parts.specs.View.{version_of}
 use Rattle.lfs_segwrite.specs.Marking.{AreNamed, IsNamed, IsOnWay, blocks_to_mark, code_named}
+use Rattle.lfs_segwrite.specs.Ordered.{IsOrdered}
 use Rattle.lfs_segwrite.specs.declared.room.TheConstants.{WHOLE}
 
 -- an info names a block with its present address, which isn't 0
@@ -115,6 +116,7 @@ pub record MovesBlocks (old new : Parts) : Type 0 where
   pub serials : has_serials new.log.memory ≡ has_serials old.log.memory
   pub rising : IsRising old.log.memory → IsRising new.log.memory
   pub whole : IsRecoverable old.log.memory → IsRecoverable new.log.memory
+  pub ordered : IsRecoverable old.log.memory → IsOrdered old.log → IsOrdered new.log
   pub numbers : length new.log.tables.rows ≡ length old.log.tables.rows
   pub used : (number : ℕ) → (row_of new.log.tables number).used
       ≡ (row_of old.log.tables number).used

@@ -5,6 +5,7 @@ pub mod Marking
 pub mod Room
 pub mod Flushing
 pub mod Recording
+pub mod Ordered
 pub mod Applying
 pub mod Gaining
 pub mod Finishing

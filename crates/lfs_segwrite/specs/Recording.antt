@@ -3,7 +3,8 @@ use Rattle.std.specs.Prelude.{◌≡◌, ◌⊎◌, ℕ, ◌+◌, ◌*◌, ◌/�
 use Rattle.lfs_types.specs.declared.limits.TheConstants.{SEGMENT_BLOCKS}
 use Rattle.lfs_ifile.specs.Tables.{row_of}
 use Rattle.lfs_inodes.specs.declared.inode.Inode.{Inode}
-use Rattle.lfs_inodes.specs.Reading.{fields_of}
+use Rattle.lfs_inodes.specs.Reading.{Fields, fields_in, fields_of}
+use Rattle.lfs_inodes.specs.Slots.{slot_of}
 use Rattle.lfs_log.specs.Names.{named_at, record_owner}
 use Rattle.lfs_segments.specs.declared.entry.SummaryEntry.{SummaryEntry}
 use Rattle.lfs_segments.specs.Log.{first_of}
@@ -55,6 +56,17 @@ pub record StandsAt (p : Parts) (v : Inode) (address slot : ℕ) : Type 0 where
   pub named : named_at p.log.memory (4 * address + slot) ≡ Some (record_owner v)
   pub reads : fields_at p.log.memory (record { addr = address; slot = slot; version = v.version })
       ≡ Some (fields_of v)
+
+-- A record waits no more, and stands at its place.
+pub record IsNoted (p : Parts) (number place : ℕ) : Type 0 where
+  pub low : number < length p.log.tables.rows
+  pub waits : Waits p number 0 → ⊥
+  pub here : (log_state p).at number 0 ≡ place
+
+-- so does each record of the blocks from an address on, to the log's end
+pub record AreNoted (p : Parts) (from : ℕ) : Type 0 where
+  pub each : (a slot : ℕ) (f : Fields) → from ≤ a → a < next_address p.log.memory → slot < 4
+      → fields_in (slot_of (block_at p.log.memory a) slot) ≡ Some f → IsNoted p f.attributes.number (4 * a + slot)
 
 -- what a summary says of a block of a number
 abbrev pub entry_at_version : Parts → ℕ → FileBlock → SummaryEntry

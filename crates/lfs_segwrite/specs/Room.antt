@@ -14,6 +14,7 @@ use Rattle.lfs_parts.specs.Files.{content_of}
 use Rattle.lfs_parts.specs.Keys.{log_state}
 use Rattle.lfs_parts.specs.Store.{IsStore}
 use Rattle.lfs_parts.specs.View.{record_of, tree_of}
+use Rattle.lfs_segwrite.specs.Ordered.{IsOrdered}
 
 -- The files are what they were: each number has its record, each block its address, its bytes and its place, and what
 -- waits is the same. No block changed in a segment that was in use, and the segments that were dirty are dirty. The log
@@ -22,6 +23,7 @@ pub record KeepsFiles (old new : Parts) : Type 0 where
   pub serials : has_serials new.log.memory ≡ has_serials old.log.memory
   pub rising : IsRising old.log.memory → IsRising new.log.memory
   pub whole : IsRecoverable old.log.memory → IsRecoverable new.log.memory
+  pub ordered : IsRecoverable old.log.memory → IsOrdered old.log → IsOrdered new.log
   pub rows : new.log.tables.rows ≡ old.log.tables.rows
   pub cache : new.cache ≡ old.cache
   pub waiting : new.waiting ≡ old.waiting

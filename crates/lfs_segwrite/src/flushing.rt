@@ -17,7 +17,7 @@ ghost use Rattle.lfs_segwrite.specs.Collecting.{blocks_of_entries, entries_of, i
 ghost use Rattle.lfs_segwrite.specs.Flushing.{Flushes};
 ghost use Rattle.lfs_segwrite.specs.Landing.{ExpectsBlock};
 ghost use Rattle.lfs_parts.specs.Opening.{inodes_entry};
-ghost use Rattle.lfs_segwrite.specs.Recording.{Advances, entry_at_version};
+ghost use Rattle.lfs_segwrite.specs.Recording.{Advances, AreNoted, entry_at_version};
 ghost use Rattle.lfs_staging.specs.Staging.{IsStaged};
 ghost use Rattle.lfs_parts.specs.Store.{IsFlushed};
 ghost use Rattle.lfs_parts.specs.View.{key_of, version_of};
@@ -140,6 +140,7 @@ fn land_all_records(parts: &mut Parts)
         ≡ next_address parts.old.log.memory + inode_blocks (length parts.old.waiting) }
     ensures last { 0 < length parts.old.waiting
         → has_record parts.new.log.memory (next_address parts.new.log.memory - 1) ≡ true }
+    ensures noted { AreNoted parts.new (next_address parts.old.log.memory) }
 {
     while !parts.waiting.is_empty() {
         land_records(parts);

@@ -10,6 +10,7 @@ pub mod flushing;
 pub mod gaining;
 mod giving;
 pub mod landing;
+pub mod laws;
 pub mod marking;
 pub mod records;
 pub mod room;

@@ -6,6 +6,7 @@ ghost use Rattle.lfs_log.specs.Parts.{state_of};
 ghost use Rattle.lfs_segments.specs.Memory.{room_of};
 ghost use Rattle.lfs_found.specs.Written.{IsRecoverable};
 ghost use Rattle.lfs_segwrite.specs.Gaining.{ExceedsRoom};
+ghost use Rattle.lfs_segwrite.specs.Ordered.{IsOrdered};
 ghost use Rattle.lfs_segwrite.specs.Room.{KeepsFiles};
 ghost use Rattle.lfs_types.specs.declared.cleaner.TheConstants.{MARK_LIMIT};
 ghost use Rattle.lfs_types.specs.declared.limits.TheConstants.{SEGMENT_BLOCKS};
@@ -70,6 +71,8 @@ pub fn mark(parts: &mut Parts, marks: &[BlockInfo]) -> Result<u32, RoomFault>
     ensures reserved { OnErr result (parts.old.log.clean ≤ 1) }
     // What recovery found it finds, and what was written too.
     ensures whole { IsRecoverable parts.old.log.memory → IsRecoverable parts.new.log.memory }
+    ensures ordered { IsRecoverable parts.old.log.memory → IsOrdered parts.old.log
+        → IsOrdered parts.new.log }
 {
     let careful = has_few_clean(parts);
     write_waiting(parts);

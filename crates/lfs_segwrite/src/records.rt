@@ -8,7 +8,7 @@ ghost use Rattle.lfs_segments.specs.Memory.{next_address};
 ghost use Rattle.lfs_recovery.specs.Whole.{has_record};
 ghost use Rattle.lfs_segwrite.specs.Landing.{ExpectsBlock};
 ghost use Rattle.lfs_parts.specs.Opening.{inodes_entry};
-ghost use Rattle.lfs_segwrite.specs.Recording.{Advances, StandsAt};
+ghost use Rattle.lfs_segwrite.specs.Recording.{Advances, AreNoted, StandsAt};
 ghost use Rattle.lfs_staging.specs.Staging.{IsStaged};
 
 use crate::landing::append_block;
@@ -50,6 +50,7 @@ pub(crate) fn land_records(parts: &mut Parts)
     ensures expects { (rest : List SummaryEntry)
         → Expects parts.old.log.memory (inodes_entry ∷ rest) → Expects parts.new.log.memory rest }
     ensures first { has_record parts.new.log.memory (next_address parts.old.log.memory) ≡ true }
+    ensures noted { AreNoted parts.new (next_address parts.old.log.memory) }
 {
     let first = parts.waiting.len().saturating_sub(SLOT_COUNT);
     let oldest = parts.waiting.oldest();

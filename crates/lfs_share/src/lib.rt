@@ -10,8 +10,6 @@ mod showing;
 mod store;
 mod taking;
 mod telling;
-#[cfg(test)]
-mod tests;
 
 pub use restoring::{ENOUGH, ShareFault, restore};
 pub use store::SharedStore;

@@ -7,6 +7,4 @@ pub mod cleaning;
 mod copying;
 pub mod errors;
 pub mod fault;
-#[cfg(test)]
-mod tests;
 pub mod trace;

@@ -1,6 +1,6 @@
 //! A volume: a file store under the rules, and the journal of what was answered.
 
-ghost use Rattle.std.specs.Prelude.{◌≡◌, ◌↔◌, ◌-◌, ◌^◌, ◌<◌, ◌≤◌, [], ◌∷◌, ◌++◌, length, vec_len, false, ⊤, IfOk, IfErr, MatchOption, None};
+ghost use Rattle.std.specs.Prelude.{◌≡◌, ◌↔◌, ◌-◌, ◌^◌, ◌<◌, ◌≤◌, [], ◌∷◌, ◌++◌, length, vec_len, false, ⊤, IfOk, IfErr, MatchOption, None, true};
 ghost use Rattle.std.specs.Vec.{vec_capacity};
 ghost use Rattle.lfs_types.specs.StoreStates.{Follows};
 ghost use Rattle.lfs_types.specs.Tree.{opening_world};
@@ -14,6 +14,7 @@ ghost use Rattle.lfs_calls.specs.Calls.{LooksOn, OnUnasked};
 ghost use Rattle.lfs_calls.specs.Content.{Shows};
 ghost use Rattle.lfs_calls.specs.Entries.{LeavesEntries, OnServed};
 ghost use Rattle.lfs_calls.specs.Outcomes.{IsOutcome};
+ghost use Rattle.lfs_calls.specs.Reaches.{EndsAlike};
 ghost use Rattle.lfs_calls.specs.Volumes.{HasWorld, IsVolume};
 ghost use Rattle.lfs_explain.specs.Asked.{asked};
 ghost use Rattle.lfs_explain.specs.Trails.{IsTrail, first_names, second_names};
@@ -28,6 +29,7 @@ use lfs_calls::cached_store::CachedStore;
 use lfs_calls::call_fault::answered;
 use lfs_calls::reading::read;
 use lfs_calls::serving::serve;
+use lfs_calls::walking::ends_alike;
 use lfs_explain::explain::{Explanation, explain};
 use lfs_model::asking::CleanerAct;
 use lfs_model::counts::Counts;
@@ -271,6 +273,15 @@ impl<F: FileStore + Drop> Volume<F> {
         ensures others { self.new ≡ record self.old { store = self.new.store } }
     {
         answered(read(&mut self.store, cred, path, off, len))
+    }
+
+    /// Whether the walk along a path is sure to end alike for every caller of a user, whatever his groups are, on the tree
+    /// that the journal leads to.
+    pub fn ends_alike(&self, uid: u32, path: &Path) -> bool
+        ensures { result ≡ true
+            → AtPresent F.state self.now (λ w. EndsAlike w.rows uid path.now) }
+    {
+        ends_alike(&self.store, uid, path.names())
     }
 
     /// Hands out the entries, and goes on from the present tree with an empty journal, whose room is handed in. The

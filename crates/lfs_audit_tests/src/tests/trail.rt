@@ -1,5 +1,6 @@
 //! `lfs_audit_trail` over a journal that begins at the tree of an image, worked out by hand, and what it tells as JSON.
 
+use super::command::{Ended, Words, expect_ended};
 use super::image::Image;
 use super::{expect_eq, fresh, plan_of};
 use lfs_auditing::program::lfs_audit_trail;
@@ -9,43 +10,7 @@ use lfs_script::plan::{Act, Step};
 use lfs_types::answer::{Answer, Served};
 use serde_json::Value;
 use std::alloc::Global;
-use std::env::{Env, FillError};
 use std::process::Abort;
-
-/// The words of a command line, as bytes.
-#[derive(Clone, Copy)]
-struct Words<'a> {
-    words: &'a [&'a [u8]],
-}
-
-impl Env for Words<'_> {
-    fn arg(&self, i: usize, buf: &mut [u8]) -> Result<usize, FillError> {
-        let Some(word) = self.words.get(i) else {
-            return Err(FillError::NotPresent);
-        };
-        let Some(room) = buf.get_mut(..word.len()) else {
-            return Err(FillError::TooLong);
-        };
-        room.copy_from_slice(word);
-        Ok(word.len())
-    }
-
-    fn var(&self, _name: &str, _buf: &mut [u8]) -> Result<usize, FillError> {
-        Err(FillError::NotPresent)
-    }
-
-    fn var_at(&self, _i: usize, _buf: &mut [u8]) -> Result<usize, FillError> {
-        Err(FillError::NotPresent)
-    }
-}
-
-/// What the program wrote, and its status.
-#[derive(Drop)]
-struct Ended {
-    status: u8,
-    out: Vec<u8>,
-    err: Vec<u8>,
-}
 
 /// The calls before the image: user 7 has a diary, which the superuser locks at a raised securelevel.
 const BEFORE: &str = "\
@@ -141,13 +106,6 @@ fn audited(alloc: Global, image: &[u8], words: &[&[u8]], journal: &str) -> Ended
     }
 }
 
-/// Asserts with which status the program ends, and what it writes.
-fn expect_audited(rt: &impl Abort, ended: &Ended, wanted: (u8, &str, &str)) {
-    expect_eq(rt, ended.status, wanted.0);
-    expect_eq(rt, ended.out.as_slice(), wanted.1.as_bytes());
-    expect_eq(rt, ended.err.as_slice(), wanted.2.as_bytes());
-}
-
 /// Asserts that a text begins so.
 fn expect_begins(rt: &impl Abort, text: &[u8], wanted: &str) {
     assert!(rt; text.starts_with(wanted.as_bytes()));
@@ -175,7 +133,7 @@ fn journal_from_an_image_is_legal_there_alone(rt: HostRuntime) {
     let alloc = rt.alloc();
     let image = image(&rt, alloc);
     let ended = audited(alloc, &image, &[b"lfs_audit_trail", FROM], JOURNAL);
-    expect_audited(&rt, &ended, (0, TOLD, ""));
+    expect_ended(&rt, &ended, (0, TOLD, ""));
     let ended = audited(alloc, &image, &[b"lfs_audit_trail"], JOURNAL);
     expect_eq(&rt, ended.status, 1);
     let line = "illegal entry 1: 0 as 0 0 | chflags /home/diary 00000000 | denied L2 EPERM 0 2\n\
@@ -197,7 +155,7 @@ fn audit_as_json(rt: HostRuntime) {
     let alloc = rt.alloc();
     let image = image(&rt, alloc);
     let words: &[&[u8]] = &[b"lfs_audit_trail", FROM, b"--json"];
-    expect_audited(&rt, &audited(alloc, &image, words, JOURNAL), (0, JSON, ""));
+    expect_ended(&rt, &audited(alloc, &image, words, JOURNAL), (0, JSON, ""));
     let words: &[&[u8]] = &[b"lfs_audit_trail", FROM, b"--json", b"--who=/home/diary"];
     let ended = audited(alloc, &image, words, JOURNAL);
     expect_eq(&rt, ended.status, 0);
@@ -230,7 +188,7 @@ fn faults_of_a_journal_as_json(rt: HostRuntime) {
     let gap = "{\"changed\":[],\"entries\":0,\"legal\":false,\"read\":[],\
         \"stopped\":{\"entry\":1,\"fault\":\"line: Gap\"},\"users\":[],\"who\":null}\n";
     let ended = audited(alloc, &[], words, "#2 0 as 0 0 | sync | ok\n");
-    expect_audited(&rt, &ended, (1, gap, ""));
+    expect_ended(&rt, &ended, (1, gap, ""));
     let ended = audited(alloc, &[], words, "0 as 0 0 | unlink /a | ok\n");
     expect_eq(&rt, ended.status, 1);
     let stopped = "\"stopped\":{\"entry\":1,\"line\":\"0 as 0 0 | unlink /a | ok\",\
@@ -257,7 +215,7 @@ fn faults_of_an_image(rt: HostRuntime) {
     let alloc = rt.alloc();
     for (word, status, told) in FAULTS {
         let ended = audited(alloc, &[], &[b"lfs_audit_trail", word], JOURNAL);
-        expect_audited(&rt, &ended, (status, "", told));
+        expect_ended(&rt, &ended, (status, "", told));
     }
     let words: &[&[u8]] = &[b"lfs_audit_trail", FROM, b"--inodes", b"64"];
     let ended = audited(alloc, &[], words, JOURNAL);

@@ -5,6 +5,7 @@ use std::cell::{Cell, RefCell};
 use std::fs::{Metadata, OpenFile, OpenOptions};
 use std::io;
 use std::io::{ErrorKind, Read, Seek, SeekFrom, Write};
+use std::os::unix::fs::FileExt;
 use std::rt::Files;
 use std::time::{Clock, Duration};
 
@@ -112,6 +113,16 @@ impl Write for Shelf<'_> {
 impl Seek for Shelf<'_> {
     fn seek(&mut self, _to: SeekFrom) -> io::Result<u64> {
         unsupported()
+    }
+}
+
+impl FileExt for Shelf<'_> {
+    fn read_at(&self, _buf: &mut [u8], _offset: u64) -> io::Result<usize> {
+        Err(io::Error::from(ErrorKind::Unsupported))
+    }
+
+    fn write_at(&self, _buf: &[u8], _offset: u64) -> io::Result<usize> {
+        Err(io::Error::from(ErrorKind::Unsupported))
     }
 }
 

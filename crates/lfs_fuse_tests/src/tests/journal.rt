@@ -70,14 +70,14 @@ const ENTERED: &[u8] = b"#1 0 as 1000 100 | stat /a | denied N2 ENOENT 0 1\n\
     #2 0 as 1000 100 | stat /bc | denied N2 ENOENT 0 1\n\
     \x10\0\0\0\xfe\xff\xff\xff\x07\0\0\0\0\0\0\0";
 
-/// The status with which a talk ends whose replies go to the disk too, and what is told of it.
-fn end_on(disk: &Disk, alloc: Global, talk: &[u8]) -> (u8, Vec<u8>) {
+/// The status with which a talk ends whose replies go to the disk too, by these words, and what is told of it.
+fn end_on(disk: &Disk, alloc: Global, words: &[&[u8]], talk: &[u8]) -> (u8, Vec<u8>) {
     let mut streams = Streams {
         stdin: talk,
         stdout: disk.files(),
         stderr: Vec::new(alloc),
     };
-    let env = (Words { words: FILED }, alloc);
+    let env = (Words { words }, alloc);
     let status = lfs_fuse(&env, &disk.files(), &mut streams);
     (status, streams.stderr)
 }
@@ -87,11 +87,29 @@ fn each_line_stands_before_its_reply(rt: HostRuntime) {
     let alloc = rt.alloc();
     let disk = Disk::new(alloc, false);
     let bytes = talk(&rt, alloc);
-    let (status, told) = end_on(&disk, alloc, &bytes);
+    let (status, told) = end_on(&disk, alloc, FILED, &bytes);
     expect_eq(&rt, status, 0);
     expect_eq(&rt, told.len(), 0);
     expect_eq(&rt, disk.is_saved(), true);
     expect_bytes(&rt, &disk.into_written(), ENTERED);
+}
+
+/// The line and the reply of a look-up, as above, and the reply to a removal, of which there is no entry: EACCES (13).
+const UNKNOWN: &[u8] = b"#1 0 as 1000 100 | stat /a | denied N2 ENOENT 0 1\n\
+    \x10\0\0\0\xfe\xff\xff\xff\x07\0\0\0\0\0\0\0\
+    \x10\0\0\0\xf3\xff\xff\xff\x07\0\0\0\0\0\0\0";
+
+#[test]
+fn groups_that_are_unknown_count_where_they_grant(rt: HostRuntime) {
+    let alloc = rt.alloc();
+    let disk = Disk::new(alloc, false);
+    let mut bytes = message_of(alloc, 42, 1, b"a\0").expect(&rt, "room");
+    let removal = message_of(alloc, 42, 10, b"a\0").expect(&rt, "room");
+    bytes.extend_from_slice(&removal).expect(&rt, "room");
+    // Not recorded: the groups of a process are looked for, but its file isn't on this disk.
+    let (status, _told) = end_on(&disk, alloc, &FILED[..7], &bytes);
+    expect_eq(&rt, status, 0);
+    expect_bytes(&rt, &disk.into_written(), UNKNOWN);
 }
 
 /// The replies where the file takes no byte: EDQUOT (122).

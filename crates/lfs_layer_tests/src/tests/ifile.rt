@@ -1,5 +1,5 @@
 use super::expect_eq;
-use lfs_ifile::{Ifile, InodePlace, SegState, SegUse, raised_version, usage_in};
+use lfs_ifile::{Ifile, IfileFault, InodePlace, SegState, SegUse, raised_version, usage_in};
 use lfs_types::fault::FormatFault;
 use std::alloc::Global;
 use std::process::Abort;
@@ -314,4 +314,60 @@ fn usage_in_bytes_of_others(rt: HostRuntime) {
     expect_usage_in(&rt, &GOOD[..19], 0, None);
     expect_usage_in(&rt, &GOOD[..11], 0, None);
     expect_usage_in(&rt, b"", 0, None);
+}
+
+/// The bytes of an ifile of six segments and sixteen inode numbers: segment 2 is dirty with 128 live bytes, and the
+/// record of number 4 stands in slot 3 of block 130.
+fn some_bytes(rt: &impl Abort, alloc: Global) -> Vec<u8> {
+    let mut file = small(rt, alloc);
+    give_out(rt, &mut file, 4, 1);
+    place(rt, &mut file, 4, 130, 3);
+    fill(rt, &mut file, 2, SegState::Dirty, 128);
+    file.bytes().expect(rt, "bytes")
+}
+
+#[test]
+fn bytes_are_read_back(rt: HostRuntime) {
+    let bytes = some_bytes(&rt, rt.alloc());
+    let file = Ifile::read(rt.alloc(), &bytes).ok().expect(&rt, "an ifile");
+    let dirty = SegUse {
+        live: 128,
+        state: SegState::Dirty,
+    };
+    expect_eq(&rt, usage(&rt, &file, 2), dirty);
+    let placed = InodePlace {
+        addr: 130,
+        slot: 3,
+        version: 1,
+    };
+    expect_place(&rt, &file, 4, Some(placed));
+    expect_least(&rt, &file, Some(5));
+    expect_eq(&rt, file.first_clean(), Some(0));
+}
+
+/// Asserts what is wrong with the bytes once one of them is another.
+fn expect_fault(rt: &impl Abort, bytes: &mut Vec<u8>, place: usize, byte: u8, fault: IfileFault) {
+    assert!(rt; place < bytes.len());
+    let was = bytes[place];
+    bytes[place] = byte;
+    let found = Ifile::read(*bytes.allocator(), bytes).err();
+    bytes[place] = was;
+    expect_eq(rt, found, Some(fault));
+}
+
+#[test]
+fn one_byte_that_is_wrong_is_told(rt: HostRuntime) {
+    let mut bytes = some_bytes(&rt, rt.alloc());
+    expect_fault(&rt, &mut bytes, 3, 0, IfileFault::Head);
+    expect_fault(&rt, &mut bytes, 7, 5, IfileFault::Head);
+    expect_fault(&rt, &mut bytes, 11, 17, IfileFault::Head);
+    // The live bytes of segment 1, and its state.
+    expect_fault(&rt, &mut bytes, 21, 1, IfileFault::Segment { segment: 1 });
+    expect_fault(&rt, &mut bytes, 27, 3, IfileFault::Segment { segment: 1 });
+    // The row of number 4 stands at 60 + 12 * 4: its address, slot, use and version.
+    expect_fault(&rt, &mut bytes, 110, 2, IfileFault::Row { number: 4 });
+    expect_fault(&rt, &mut bytes, 113, 4, IfileFault::Row { number: 4 });
+    expect_fault(&rt, &mut bytes, 115, 2, IfileFault::Row { number: 4 });
+    expect_fault(&rt, &mut bytes, 115, 0, IfileFault::Row { number: 4 });
+    expect_fault(&rt, &mut bytes, 119, 0, IfileFault::Row { number: 4 });
 }

@@ -4,3 +4,4 @@ mod cache;
 mod flatfiles;
 mod logstore;
 mod recency;
+mod share;

@@ -1,16 +1,14 @@
 //! Stores that show a tree, and stores that show none: what is wrong with each is worked out by hand.
 
 ghost use Rattle.std.specs.Prelude.{◌≡◌};
-ghost use Rattle.lfs_logstore.specs.States.{opening_state};
 
-use super::{block_of, expect_eq, mode};
+use super::{block_of, expect_eq, fresh_log, mode};
 use lfs_flatfiles::flat_files::FlatFiles;
-use lfs_logstore::LogStore;
 use lfs_trees::checking::check_tree;
 use lfs_trees::fault::TreeFault;
 use lfs_types::attrs::{Attrs, Kind};
 use lfs_types::file_flags::FileFlags;
-use lfs_types::store::{Change, FileStore, Params, Reserve};
+use lfs_types::store::{Change, FileStore, Reserve};
 use std::alloc::Global;
 use std::process::Abort;
 
@@ -92,22 +90,6 @@ fn fresh_stores_show_a_tree(rt: HostRuntime) {
     expect_check(&rt, alloc, &mut fresh(&rt, alloc), Ok(()));
     let mut store = fresh_log(&rt, alloc);
     expect_eq(&rt, check_tree(alloc, &mut store, 16), Ok(()));
-}
-
-/// The store of a fresh volume of six segments and 16 inode numbers.
-fn fresh_log(rt: &impl Abort, alloc: Global) -> LogStore
-    ensures { ⟦<LogStore as FileStore>⟧.state result ≡ opening_state 6 16 }
-{
-    let small = Params {
-        segments: 6,
-        inodes: 16,
-        frames: 32,
-        journal: 1,
-    };
-    match LogStore::format(alloc, small) {
-        Ok(store) => store,
-        Err(_) => panic!(rt; "no store"),
-    }
 }
 
 #[test]

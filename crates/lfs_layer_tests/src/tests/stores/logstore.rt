@@ -3,7 +3,7 @@
 ghost use Rattle.std.specs.Prelude.{◌≡◌};
 ghost use Rattle.lfs_logstore.specs.States.{opening_state};
 
-use crate::tests::expect_eq;
+use crate::tests::{expect_eq, fresh_log};
 use lfs_ifile::{SegState, SegUse, usage_in};
 use lfs_logstore::{GainFault, LogStore};
 use lfs_types::attrs::{Attrs, Kind};
@@ -29,22 +29,6 @@ fn params(segments: u32, inodes: u32, frames: u32) -> Params {
 /// Why a volume is not laid out, if it is not.
 fn fault_of(alloc: Global, segments: u32, inodes: u32, frames: u32) -> Option<FormatFault> {
     LogStore::format(alloc, params(segments, inodes, frames)).err()
-}
-
-/// The store of a fresh volume of six segments.
-fn fresh(rt: &impl Abort, alloc: Global) -> LogStore
-    ensures { ⟦<LogStore as FileStore>⟧.state result ≡ opening_state 6 16 }
-{
-    let small = Params {
-        segments: 6,
-        inodes: 16,
-        frames: 32,
-        journal: 1,
-    };
-    match LogStore::format(alloc, small) {
-        Ok(store) => store,
-        Err(_) => panic!(rt; "no store"),
-    }
 }
 
 /// What is asked of a block or a record, with its address.
@@ -101,7 +85,7 @@ fn attrs_of(rt: &impl Abort, kind: Kind, mode: u16) -> Attrs
 
 #[test]
 fn a_fresh_store_has_the_root_alone(rt: HostRuntime) {
-    let mut store = fresh(&rt, rt.alloc());
+    let mut store = fresh_log(&rt, rt.alloc());
     let root = attrs_of(&rt, Kind::Directory, 0o755);
     expect_eq(&rt, store.attrs(2), Some(root));
     for ino in [0, 1, 3, 4, 15, 16, u32::MAX] {
@@ -114,7 +98,7 @@ fn a_fresh_store_has_the_root_alone(rt: HostRuntime) {
 
 #[test]
 fn a_fresh_root_has_no_bytes(rt: HostRuntime) {
-    let mut store = fresh(&rt, rt.alloc());
+    let mut store = fresh_log(&rt, rt.alloc());
     assert!(rt; store.attrs(2).is_some());
     let mut buffer = [7; 4];
     expect_eq(&rt, store.read(2, 0, &mut buffer), 0);
@@ -133,7 +117,7 @@ fn expect_usage(rt: &impl Abort, bytes: &[u8], segment: u32, live: u32, state: S
 
 #[test]
 fn the_ifile_has_an_entry_for_each_segment_and_number(rt: HostRuntime) {
-    let small = ifile_of(&rt, &fresh(&rt, rt.alloc()));
+    let small = ifile_of(&rt, &fresh_log(&rt, rt.alloc()));
     expect_eq(&rt, small.len(), 252);
     expect_usage(&rt, &small, 0, 128, SegState::Active);
     expect_usage(&rt, &small, 5, 0, SegState::Clean);
@@ -180,7 +164,7 @@ fn segments_that_are_not_dirty_are_refused(rt: HostRuntime) {
 
 #[test]
 fn infos_get_their_present_address(rt: HostRuntime) {
-    let store = fresh(&rt, rt.alloc());
+    let store = fresh_log(&rt, rt.alloc());
     let mut infos = [
         root_info(77),
         info(2, 2, INODE_BLOCK, 2),
@@ -247,7 +231,7 @@ fn make_file(rt: &impl Abort, store: &mut LogStore)
 /// A store of six segments. The first two are dirty: the first has the record of file 4 at block 4, the second has nothing
 /// that is live. The third is the active one, with the root's record.
 fn written_twice(rt: &impl Abort, alloc: Global) -> LogStore {
-    let mut store = fresh(rt, alloc);
+    let mut store = fresh_log(rt, alloc);
     make_file(rt, &mut store);
     move_root(rt, &mut store, &FIRST[..1]);
     move_root(rt, &mut store, &FIRST[2..]);
@@ -287,7 +271,7 @@ fn a_dirty_segment_without_live_bytes_becomes_clean(rt: HostRuntime) {
 
 #[test]
 fn a_marked_record_moves(rt: HostRuntime) {
-    let mut store = fresh(&rt, rt.alloc());
+    let mut store = fresh_log(&rt, rt.alloc());
     let root = root_info(2);
     let named = [root, info(2, 2, INODE_BLOCK, 2), root, info(2, 1, 0, 2)];
     mark(&rt, &mut store, &named, 1);
@@ -313,7 +297,7 @@ fn expect_record_at(rt: &impl Abort, store: &LogStore, addr: u32) {
 
 #[test]
 fn a_new_file_has_no_address_before_a_sync(rt: HostRuntime) {
-    let mut store = fresh(&rt, rt.alloc());
+    let mut store = fresh_log(&rt, rt.alloc());
     make_file(&rt, &mut store);
     expect_row(&rt, &store, [0, 0, 0, 0, 0, 0, 0, 1, 0, 0, 0, 1]);
     expect_record_at(&rt, &store, 0);

@@ -6,12 +6,14 @@ use Rattle.lfs_segments.specs.Log.{Expects}
 use Rattle.lfs_segments.specs.Memory.{block_at, next_address}
 use Rattle.lfs_segments.specs.Serial.{IsSummaryWith}
 use Rattle.lfs_recovery.specs.Whole.{has_record}
-use Rattle.lfs_found.specs.Written.{WritesEntries}
+use Rattle.lfs_found.specs.Written.{IsRecoverable, WritesEntries}
 use Rattle.lfs_found.proofs.RecoverableLemmas.{partial_entries, recoverable_rises, writes_recoverable}
 use Rattle.lfs_segwrite.specs.Collecting.{blocks_of_entries, entries_of}
+use Rattle.lfs_segwrite.specs.Recording.{Advances}
 use Rattle.lfs_segwrite.proofs.AdvanceLemmas.{Advances-refl, Advances-trans}
 use Rattle.lfs_segwrite.proofs.CollectingLemmas.{entries_of-length}
-use Rattle.lfs_segwrite.proofs.FlushLemmas.{advanced_extends, blocks_some, entries_more, flush_moves, records_last, records_some}
+use Rattle.lfs_segwrite.proofs.FlushLemmas.{advanced_extends, blocks_some, entries_more, flush_moves, none_waits, records_last, records_some}
+use Rattle.lfs_segwrite.proofs.OrderedLemmas.{flush_ordered}
 use Rattle.lfs_segwrite.proofs.OrderLemmas.{entries_of-same}
 use Rattle.lfs_segwrite.proofs.flushing.flush.Goals as goal
 
@@ -84,6 +86,27 @@ written_whole c some =
     all c.begin_partial.ensures.summary) grown (records_last p some)
     (ap (has_record q.log.memory) last ∙ c.land_all_records.ensures.last (omega arith))
 
+recoverable_after : (c : goal.After-land_all_records)
+    → Advances (next_address c.args.parts.now.log.memory) c.args.parts.now c.land_all_records.new.parts
+    → 0 < length c.args.parts.now.waiting → IsRecoverable c.args.parts.now.log.memory
+    → IsRecoverable c.land_all_records.new.parts.log.memory
+recoverable_after c all waits was =
+    let p = c.args.parts.now in
+    let q = c.land_all_records.new.parts in
+    writes_recoverable p.log.memory q.log.memory (entries_of p) c.requires.staged.whole.parts.laid_out.begun
+    c.land_all_records.ensures.staged.whole.parts.laid_out all.serials (all.rising (recoverable_rises p.log.memory was))
+    (written_whole c waits) was
+
+-- the blocks of files end there
+ends_blocks : (c : goal.After-land_all_records) → next_address c.land_blocks.new.parts.log.memory
+    ≡ next_address c.args.parts.now.log.memory + 1 + length c.args.parts.now.cache.locked
+ends_blocks c =
+    let first = c.begin_partial.ensures.next in
+    let second = c.land_blocks.ensures.next in
+    let frames : length c.begin_partial.new.parts.cache.locked
+    ≡ length c.args.parts.now.cache.locked = ap (λ (s : Contents). length s.locked) c.begin_partial.ensures.cache in
+    omega arith
+
 pub returns : goal.returns
 returns c =
     let p = c.args.parts.now in
@@ -97,10 +120,10 @@ returns c =
     let all = Advances-trans from p c.land_blocks.new.parts q both recorded in
     let waits : 0 < length p.waiting = records_some p c.requires.staged (entries_some c) in
     flush_moves p q c.land_all_records.ensures.staged c.land_all_records.ensures.ready c.land_all_records.ensures.flushed all
-    (grown_is c) (written_whole c)
-    (λ was. writes_recoverable p.log.memory q.log.memory (entries_of p) c.requires.staged.whole.parts.laid_out.begun
-    c.land_all_records.ensures.staged.whole.parts.laid_out all.serials (all.rising (recoverable_rises p.log.memory was))
-    (written_whole c waits) was)
+    (grown_is c) (written_whole c) (recoverable_after c all waits)
+    (λ was. flush_ordered p q (next_address c.land_blocks.new.parts.log.memory) c.requires.staged
+    c.land_all_records.ensures.staged all (ends_blocks c) c.land_all_records.ensures.noted (ends_at c) (written_whole c waits)
+    (λ n. none_waits q c.land_all_records.ensures.flushed n 0) was (recoverable_after c all waits was))
 
 -- nothing waits
 pub returns-then-blocks_to_write-eq0 : goal.returns-then-blocks_to_write-eq0
@@ -111,7 +134,7 @@ returns-then-blocks_to_write-eq0 c =
     let blocks = c.blocks_to_write.ensures.blocks in
     let zero_blocks = c.if-blocks_to_write-eq0.true in
     flush_moves p p c.requires.staged c.requires.ready flushed (Advances-refl (next_address p.log.memory) p) (omega arith)
-    (λ some. absurd (omega arith)) (λ was. was)
+    (λ some. absurd (omega arith)) (λ was. was) (λ was order. order)
 
 pub begin_partial-requires-clause-some : goal.begin_partial-requires-clause-some
 begin_partial-requires-clause-some c = search rules

@@ -24,7 +24,7 @@ loop-parts-preserved c =
     remains_fewer c.args.parts.now c.loop-parts.parts c.land_records.new.parts c.loop-parts.invariant some
     c.land_records.ensures.staged c.land_records.ensures.advances
     c.land_records.ensures.waiting c.land_records.ensures.cache c.land_records.ensures.expects
-    c.land_records.ensures.next c.land_records.ensures.first
+    c.land_records.ensures.next c.land_records.ensures.first c.land_records.ensures.noted
 
 pub loop-parts-init : goal.loop-parts-init
 loop-parts-init c = record {
@@ -34,6 +34,7 @@ loop-parts-init c = record {
   advances = λ from low. Advances-refl from c.args.parts.now;
   next = refl;
   last = λ less. absurd (omega arith);
+  noted = record { each = λ a slot f low high in_block is. absurd (omega arith) };
 }
 
 pub returns-clause-last : goal.returns-clause-last

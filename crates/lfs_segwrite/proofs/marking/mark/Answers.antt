@@ -5,6 +5,7 @@ use Rattle.lfs_parts.specs.declared.parts.Parts.{Parts}
 use Rattle.lfs_segwrite.specs.Applying.{WritesWaiting}
 use Rattle.lfs_segwrite.specs.Finishing.{LacksRoomFor}
 use Rattle.lfs_segwrite.specs.Marking.{MarksFlushed}
+use Rattle.lfs_segwrite.specs.Ordered.{IsOrdered}
 use Rattle.lfs_segwrite.proofs.MarkedLemmas.{marks_after}
 use Rattle.lfs_segwrite.proofs.marking.mark.Goals as goal
 
@@ -54,3 +55,17 @@ pub returns-clause-whole : goal.returns-clause-whole
 returns-clause-whole c =
     whole_after c.mark_flushed.result c.args.marks.now c.args.parts.now c.write_waiting.new.parts c.mark_flushed.new.parts
     c.write_waiting.ensures c.mark_flushed.ensures.marked c.mark_flushed.ensures.refused
+
+-- and each number's latest record stands where the inode map has it
+ordered_after : {E : Type 0} (r : Result ℕ E) (marks : List BlockInfo) (old between new : Parts) → WritesWaiting old between
+    → IfOk r (λ count. MarksFlushed marks count between new) → OnErr r (new ≡ between) → IsRecoverable old.log.memory
+    → IsOrdered old.log → IsOrdered new.log
+ordered_after (Ok count) marks old between new written again same was order =
+    again.log.ordered (written.log.whole was) (written.log.ordered was order)
+ordered_after (Err e) marks old between new written again same was order =
+    subst (λ (p : Parts). IsOrdered p.log) (sym same) (written.log.ordered was order)
+
+pub returns-clause-ordered : goal.returns-clause-ordered
+returns-clause-ordered c =
+    ordered_after c.mark_flushed.result c.args.marks.now c.args.parts.now c.write_waiting.new.parts
+    c.mark_flushed.new.parts c.write_waiting.ensures c.mark_flushed.ensures.marked c.mark_flushed.ensures.refused

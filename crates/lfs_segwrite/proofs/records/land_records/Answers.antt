@@ -1,11 +1,15 @@
-use Rattle.std.proofs.Common.{◌≡◌, ℕ, ◌-◌, ◌<◌, List, [], ◌∷◌, Some, true, option_map, length, drop, refl, sym, ap, subst, ◌∙◌, arith}
+use Rattle.std.proofs.Common.{◌≡◌, ℕ, ◌-◌, ◌<◌, List, [], ◌∷◌, Some, true, option_map, length, drop, take, refl, sym, ap, subst, ◌∙◌, arith}
+use Rattle.lfs_segments.specs.Log.{entry_at}
 use Rattle.lfs_segments.specs.Memory.{SegmentMemory, block_at, next_address}
 use Rattle.lfs_recovery.specs.Whole.{has_record}
 use Rattle.lfs_found.proofs.RecoverableLemmas.{has_record-some}
+use Rattle.lfs_segwrite.specs.Recording.{AreNoted}
+use Rattle.lfs_staging.specs.Staging.{IsStaged}
+use Rattle.lfs_segwrite.proofs.PlacedLemmas.{records_noted}
 use Rattle.lfs_segwrite.proofs.RecordsLemmas.{recording_begins, recording_more, record_stands}
 use Rattle.lfs_segwrite.proofs.records.land_records.Goals as goal
 use Rattle.std.specs.List.{slice_get}
-use Rattle.std.proofs.lemmas.List.{length-drop}
+use Rattle.std.proofs.lemmas.List.{length-drop, length-take}
 use Rattle.lfs_inodes.specs.declared.inode.Inode.{Inode}
 use Rattle.lfs_inodes.specs.Reading.{fields_in, fields_of}
 use Rattle.lfs_inodes.specs.Slots.{slot_of}
@@ -70,3 +74,28 @@ returns-clause-first c =
     let there : has_record mid.log.memory (next_address p.log.memory) ≡ true =
     subst (λ (a : ℕ). has_record mid.log.memory a ≡ true) put.end stands in
     subst (λ (m : SegmentMemory). has_record m (next_address p.log.memory) ≡ true) (sym c.loop-parts.invariant.memory) there
+
+pub returns-clause-noted : goal.returns-clause-noted
+returns-clause-noted c =
+    let p = c.args.parts.now in
+    let q = c.loop-parts.parts in
+    let put = c.append_block-address.ensures.put in
+    let address = c.append_block-address.result in
+    let h = c.loop-parts.invariant in
+    let first = c.saturating_sub-first.result in
+    let least = h.least in
+    let taken = ap (λ (vs : List Inode). length vs) h.items ∙ length-take (length q.waiting) p.waiting in
+    let test = c.loop-parts-test.false in
+    let count : length q.waiting ≡ first = omega (arith, c.len-in-loop-parts.ensures) in
+    let begins : length p.waiting - 4 ≡ first = omega arith in
+    let same : c.as_slice.result.now ≡ drop first p.waiting = c.as_slice.ensures.value ∙ c.oldest-oldest.ensures
+    ∙ ap (λ n. drop n p.waiting) begins in
+    let end : address ≡ next_address p.log.memory = put.end in
+    subst (AreNoted q) end
+    (records_noted p q address first _ _ c.requires.staged
+    (subst (IsStaged q) (omega arith) h.staged) (h.advances address (omega arith)) put.somewhere
+    (ap (λ (m : SegmentMemory). next_address m) h.memory ∙ c.append_block-address.ensures.next ∙ omega arith)
+    (ap (λ (m : SegmentMemory). block_at m address) h.memory ∙ put.written)
+    (ap (λ (m : SegmentMemory). entry_at m address) h.memory
+    ∙ c.append_block-address.ensures.named _ _ c.requires.expected.expects)
+    same (h.items ∙ ap (λ n. take n p.waiting) count) c.packed-block.ensures.records c.packed-block.ensures.reading)

@@ -4,7 +4,8 @@ use Rattle.std.proofs.lemmas.Bool.{false≢true}
 use Rattle.lfs_segwrite.specs.Applying.{HasRoomFor, MakesChanges}
 use Rattle.lfs_parts.specs.declared.parts.Parts.{Parts}
 use Rattle.lfs_found.specs.Written.{IsRecoverable}
-use Rattle.lfs_logstore.proofs.RecoverableLemmas.{made_recoverable}
+use Rattle.lfs_segwrite.specs.Ordered.{IsOrdered}
+use Rattle.lfs_logstore.proofs.RecoverableLemmas.{made_ordered, made_recoverable}
 use Rattle.lfs_logstore.proofs.files.LogStoreFileStore.apply.Goals as goal
 
 pub returns-clause-applies : goal.returns-clause-applies
@@ -46,4 +47,10 @@ pub returns-clause-whole : goal.returns-clause-whole
 returns-clause-whole c =
     subst (λ (p : Parts). IsRecoverable p.log.memory → IsRecoverable c.apply.new.parts.log.memory) c.self.view_is
     (made_recoverable c.apply.result c.args.by c.args.changes.now c.self.inside.parts c.apply.new.parts c.apply.ensures.made
+    c.apply.ensures.refused)
+
+pub returns-clause-ordered : goal.returns-clause-ordered
+returns-clause-ordered c =
+    subst (λ (p : Parts). IsRecoverable p.log.memory → IsOrdered p.log → IsOrdered c.apply.new.parts.log) c.self.view_is
+    (made_ordered c.apply.result c.args.by c.args.changes.now c.self.inside.parts c.apply.new.parts c.apply.ensures.made
     c.apply.ensures.refused)

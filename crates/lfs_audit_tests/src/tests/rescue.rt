@@ -1,0 +1,297 @@
+//! Volumes of 6 segments and 16 inode numbers, block by block, worked out by hand.
+
+ghost use Rattle.std.specs.Prelude.{◌≤◌, length};
+ghost use Rattle.lfs_types.specs.declared.block.TheConstants.{BLOCK_SIZE};
+
+use super::command::{Ended, Words, expect_ended};
+use super::expect_eq;
+use super::image::Image;
+use lfs_command::streams::Streams;
+use lfs_ifile::InodePlace;
+use lfs_logstore::LogStore;
+use lfs_rescue::program::lfs_check;
+use lfs_rescue::{RecoverFault, recover, recover_blocks};
+use lfs_segments::segments::Segments;
+use lfs_types::block::{Block, ZERO_BLOCK};
+use lfs_types::level::Level;
+use lfs_types::limits::{LEAST_FRAMES, SEGMENT_BLOCKS};
+use lfs_types::store::Params;
+use std::alloc::Global;
+use std::process::Abort;
+
+/// A summary of two entries in segment 0: block 0 of file 2 in version 1, an inode block. Offset and serial are to be
+/// filled in.
+const SUMMARY: [u8; 40] = [
+    0x4c, 0x46, 0x53, 0x53, 0, 0, 0, 0, 0, 0, 0, 2, 0, 0, 0, 0, 0, 0, 0, 2, 0, 0, 0, 1, 0, 0, 0, 0,
+    0, 0, 0, 0, 0, 0, 0, 0, 0xff, 0xff, 0xff, 0xff,
+];
+
+/// The record of the root, mode 0755, of one block. The block's address is to be filled in.
+const ROOT: [u8; 36] = [
+    0, 2, 0, 2, 0, 0, 0, 2, 0, 0, 0, 1, 0, 0, 0, 0, 0, 0, 0, 0, 1, 0xed, 0, 0, 0, 0, 0, 0, 0, 0, 0,
+    0, 0, 0, 2, 0,
+];
+
+/// The record of file 4 in version 3, mode 0644, empty.
+const FILE: [u8; 22] = [
+    0, 2, 0, 1, 0, 0, 0, 4, 0, 0, 0, 3, 0, 0, 0, 0, 0, 0, 0, 0, 1, 0xa4,
+];
+
+/// The directory block with the name `f` of file 4.
+const LISTED: [u8; 6] = [0, 0, 0, 4, 1, b'f'];
+
+/// The block that begins with these bytes and goes on with zeros.
+fn block_of(bytes: &[u8]) -> Block
+    requires { length bytes.now ≤ BLOCK_SIZE }
+{
+    let mut block = ZERO_BLOCK;
+    block[..bytes.len()].copy_from_slice(bytes);
+    block
+}
+
+/// The summary with this offset and serial.
+fn summary(offset: u8, serial: u8) -> Block {
+    let mut block = block_of(&SUMMARY);
+    block[9] = offset;
+    block[15] = serial;
+    block
+}
+
+/// The inode block with the root's record, whose block stands at an address.
+fn root(address: u8) -> Block {
+    let mut block = block_of(&ROOT);
+    block[39] = address;
+    block
+}
+
+/// The inode block with the record of file 4 besides.
+fn root_and_file(address: u8) -> Block {
+    let mut block = root(address);
+    block[128..150].copy_from_slice(&FILE);
+    block
+}
+
+/// The blocks of a partial segment: a summary at address 1, the root's only block, and an inode block.
+fn partial(serial: u8, listed: &[u8], records: Block) -> [Block; 3]
+    requires { length listed.now ≤ BLOCK_SIZE }
+{
+    [summary(1, serial), block_of(listed), records]
+}
+
+/// A memory with these blocks from address 1 on.
+fn memory_of(rt: &impl Abort, alloc: Global, blocks: &[Block]) -> Segments {
+    let mut memory = Segments::format(alloc, 6, 16).expect(rt, "a volume");
+    assert!(rt; blocks.len() <= memory.room() as usize);
+    memory.append(blocks);
+    memory
+}
+
+/// Asserts where a log ends, and where the records of the root and of file 4 stand.
+fn expect_found(
+    rt: &impl Abort,
+    store: &LogStore,
+    end: u32,
+    root: (u32, u16),
+    file: Option<(u32, u16, u32)>,
+) {
+    let log = &store.parts().log;
+    assert!(rt; log.inodes() > 4);
+    expect_eq(rt, log.next_address(), end);
+    let place = log
+        .place(2)
+        .map(|place: InodePlace| (place.addr, place.slot));
+    expect_eq(rt, place, Some(root));
+    let place = log.place(4).map(|place: InodePlace| (place.addr, place.slot, place.version));
+    expect_eq(rt, place, file);
+}
+
+/// Asserts that no volume is found in a memory with these blocks, and in which line `lfs_check` tells why.
+fn expect_lost(rt: &impl Abort, alloc: Global, blocks: &[Block], line: &str) {
+    let memory = memory_of(rt, alloc, blocks);
+    let bytes = bytes_in(rt, alloc, &memory);
+    match recover(alloc, &memory, Level::HighlySecure, LEAST_FRAMES) {
+        Ok(_) => panic!(rt; "a volume"),
+        Err(fault) => {
+            let told = format!(in alloc; "fault: {fault}\n").expect(rt, "memory");
+            expect_eq(rt, told.as_str(), line);
+        }
+    }
+    expect_ended(rt, &searched(alloc, &bytes), (1, line, ""));
+}
+
+/// The bytes of a memory's blocks.
+fn bytes_in(rt: &impl Abort, alloc: Global, memory: &Segments) -> Vec<u8> {
+    let mut bytes = Vec::new(alloc);
+    for address in 0..memory.segments() * SEGMENT_BLOCKS {
+        bytes
+            .extend_from_slice(memory.block(address))
+            .expect(rt, "memory");
+    }
+    bytes
+}
+
+/// How `lfs_check` ends that looks for a volume in these bytes.
+fn searched(alloc: Global, blocks: &[u8]) -> Ended {
+    let words: &[&[u8]] = &[b"lfs_check", b"--recover"];
+    let env = (Words { words }, alloc);
+    let files = Image { bytes: &[] };
+    let mut streams = Streams {
+        stdin: blocks,
+        stdout: Vec::new(alloc),
+        stderr: Vec::new(alloc),
+    };
+    let status = lfs_check(&env, &files, &mut streams);
+    Ended {
+        status,
+        out: streams.stdout,
+        err: streams.stderr,
+    }
+}
+
+/// The bytes of a store's blocks.
+fn bytes_of(rt: &impl Abort, alloc: Global, store: &LogStore) -> Vec<u8> {
+    let log = &store.parts().log;
+    let mut bytes = Vec::new(alloc);
+    for address in 0..log.segments() * SEGMENT_BLOCKS {
+        bytes
+            .extend_from_slice(log.block(address))
+            .expect(rt, "memory");
+    }
+    bytes
+}
+
+#[test]
+fn file_that_is_named_is_found(rt: HostRuntime) {
+    let blocks = [summary(1, 1), block_of(&LISTED), root_and_file(2)];
+    let memory = memory_of(&rt, rt.alloc(), &blocks);
+    let store = recover(rt.alloc(), &memory, Level::Insecure, LEAST_FRAMES).expect(&rt, "a volume");
+    expect_found(&rt, &store, 4, (3, 0), Some((3, 1, 3)));
+}
+
+#[test]
+fn file_that_was_removed_is_not(rt: HostRuntime) {
+    let blocks = [
+        summary(1, 1),
+        block_of(&LISTED),
+        root_and_file(2),
+        summary(4, 2),
+        ZERO_BLOCK,
+        root(5),
+    ];
+    let memory = memory_of(&rt, rt.alloc(), &blocks);
+    let store = recover(rt.alloc(), &memory, Level::Insecure, LEAST_FRAMES).expect(&rt, "a volume");
+    expect_found(&rt, &store, 7, (6, 0), None);
+}
+
+#[test]
+fn torn_partial_segment_leaves_what_was_before(rt: HostRuntime) {
+    let blocks = [
+        summary(1, 1),
+        block_of(&LISTED),
+        root_and_file(2),
+        summary(4, 2),
+        block_of(&LISTED),
+    ];
+    let memory = memory_of(&rt, rt.alloc(), &blocks);
+    let store = recover(rt.alloc(), &memory, Level::Insecure, LEAST_FRAMES).expect(&rt, "a volume");
+    expect_found(&rt, &store, 4, (3, 0), Some((3, 1, 3)));
+}
+
+#[test]
+fn nothing_is_found_where_nothing_was_written(rt: HostRuntime) {
+    let memory = memory_of(&rt, rt.alloc(), &[]);
+    let found = recover(rt.alloc(), &memory, Level::Insecure, LEAST_FRAMES);
+    expect_eq(&rt, found.err(), Some(RecoverFault::Empty));
+}
+
+#[test]
+fn last_serial_tells_no_order(rt: HostRuntime) {
+    let mut blocks = partial(0xff, &LISTED, root_and_file(2));
+    blocks[0][12..15].copy_from_slice(&[0xff, 0xff, 0xff]);
+    let line = "fault: the last serial is given out, and does not tell which is the newest\n";
+    expect_lost(&rt, rt.alloc(), &blocks, line);
+    blocks[0][15] = 0xfe;
+    let memory = memory_of(&rt, rt.alloc(), &blocks);
+    let store = recover(rt.alloc(), &memory, Level::Insecure, LEAST_FRAMES).expect(&rt, "a volume");
+    expect_eq(&rt, store.parts().log.serial(), Some(0xffff_ffff));
+}
+
+#[test]
+fn record_of_another_block_is_told(rt: HostRuntime) {
+    let alloc = rt.alloc();
+    let mut far = root_and_file(2);
+    far[38..40].copy_from_slice(&[1, 0x80]);
+    let line = "fault: block 131 of number 2 has an address past the volume's blocks\n";
+    expect_lost(&rt, alloc, &partial(1, &LISTED, far), line);
+    let mut newer = root_and_file(2);
+    newer[11] = 2;
+    let line =
+        "fault: the log names another block, or none, at the address of block 131 of number 2\n";
+    expect_lost(&rt, alloc, &partial(1, &LISTED, newer), line);
+}
+
+#[test]
+fn names_of_no_tree_are_told(rt: HostRuntime) {
+    let alloc = rt.alloc();
+    let unused = [0, 0, 0, 5, 1, b'f'];
+    let line = "fault: directory 2 lists number 5, which is not in use\n";
+    expect_lost(&rt, alloc, &partial(1, &unused, root(2)), line);
+    let twice = [0, 0, 0, 4, 1, b'f', 0, 0, 0, 4, 1, b'g'];
+    let line = "fault: number 4 is listed twice\n";
+    expect_lost(&rt, alloc, &partial(1, &twice, root_and_file(2)), line);
+    let same = [0, 0, 0, 4, 1, b'f', 0, 0, 0, 4, 1, b'f'];
+    let line = "fault: block 0 of directory 2 is no directory block\n";
+    expect_lost(&rt, alloc, &partial(1, &same, root_and_file(2)), line);
+    let itself = [0, 0, 0, 2, 1, b'f'];
+    let line = "fault: directory 2 lists the root\n";
+    expect_lost(&rt, alloc, &partial(1, &itself, root(2)), line);
+    let line = "fault: the root is no directory\n";
+    expect_lost(&rt, alloc, &partial(1, &LISTED, block_of(&FILE)), line);
+}
+
+#[test]
+fn volume_is_found_twice(rt: HostRuntime) {
+    let blocks = [
+        summary(1, 1),
+        block_of(&LISTED),
+        root_and_file(2),
+        summary(4, 7),
+        block_of(&LISTED),
+    ];
+    let alloc = rt.alloc();
+    let memory = memory_of(&rt, alloc, &blocks);
+    let store = recover(alloc, &memory, Level::Insecure, LEAST_FRAMES).expect(&rt, "a volume");
+    expect_eq(&rt, store.parts().log.serial(), Some(2));
+    let bytes = bytes_of(&rt, alloc, &store);
+    let again = recover_blocks(alloc, &bytes, Level::Insecure, LEAST_FRAMES).expect(
+        &rt, "a volume",
+    );
+    expect_found(&rt, &again, 4, (3, 0), Some((3, 1, 3)));
+    expect_eq(&rt, again.parts().log.serial(), Some(2));
+}
+
+#[test]
+fn store_with_serials_is_found(rt: HostRuntime) {
+    let params = Params {
+        segments: 6,
+        inodes: 16,
+        frames: 32,
+        journal: 1,
+    };
+    let alloc = rt.alloc();
+    let Ok(store) = LogStore::format_with_serials(alloc, params) else {
+        panic!(&rt; "no store");
+    };
+    let bytes = bytes_of(&rt, alloc, &store);
+    let found = recover_blocks(alloc, &bytes, Level::Insecure, LEAST_FRAMES).expect(
+        &rt, "a volume",
+    );
+    expect_found(&rt, &found, 3, (2, 0), None);
+    expect_eq(&rt, found.parts().log.serial(), Some(2));
+}
+
+#[test]
+fn bytes_of_other_lengths_are_no_blocks(rt: HostRuntime) {
+    let found = recover_blocks(rt.alloc(), &[0; 512], Level::Insecure, LEAST_FRAMES);
+    expect_eq(&rt, found.err(), Some(RecoverFault::Length));
+}

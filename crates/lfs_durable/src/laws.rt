@@ -1,0 +1,26 @@
+//! Laws of recovery. Each function does nothing, and its contract is a law.
+
+ghost use Rattle.lfs_durable.specs.Alike.{FindsBlocks};
+ghost use Rattle.lfs_durable.specs.Contents.{FindsContent};
+ghost use Rattle.lfs_durable.specs.Names.{FindsNames, FindsRecordOfEach};
+
+/// Of a store of which nothing waits recovery reads each block of a file as the store does, by the file's record and the
+/// blocks of the log alone.
+pub fn finds_blocks()
+    ensures { FindsBlocks }
+{}
+
+/// Of each number in use recovery finds the record that the store has, where all of the store lies in its log.
+pub fn finds_record_of_each()
+    ensures { FindsRecordOfEach }
+{}
+
+/// And names lead to a number, by the newest records and the blocks alone, exactly where it is in use.
+pub fn finds_names()
+    ensures { FindsNames }
+{}
+
+/// So what stands on what recovery finds of the store contains what the store contained.
+pub fn finds_content()
+    ensures { FindsContent }
+{}

@@ -1,0 +1,6 @@
+use Rattle.std.proofs.lemmas.Result.{IfErr-weaker}
+use Rattle.lfs_rescue.proofs.options.options_of.Goals as goal
+
+pub returns-then-not-recovers-clause-unread : goal.returns-then-not-recovers-clause-unread
+returns-then-not-recovers-clause-unread g c =
+    IfErr-weaker c.args.words _ _ (λ _ _. c.wrong_value.ensures) c.matches_of.ensures
