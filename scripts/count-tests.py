@@ -37,6 +37,7 @@ def main():
         print(f"  {layer}: {sum(edits[crate] for crate in own)}")
     rest = sum(number for crate, number in edits.items() if crate not in named)
     print(f"  others: {rest}") if rest else None
+    print(f"wrong bodies beside the gate: {sum(len(files(crate, 'must-fail-too/*.edit')) for crate in crates)}")
     for crate in crates:
         tests = count([crate], "src/**/*.rt", r"^ *#\[test\]")
         if tests:
