@@ -1,10 +1,14 @@
 -- The entries of a block without that of one name: the bytes before it and those behind it, and zeros (`closed_up`, for
 -- `removed`). The bytes behind are those of the entries behind, as a block spells one list. For `behind`: what is known
 -- of the bytes that were passed, one entry after the other. And what `replaced` needs of entries written again.
-use Rattle.std.proofs.Common.{◌≡◌, ℕ, ◌+◌, ◌≤◌, false, List, [], ◌∷◌, ◌++◌, length, take, replicate, None}
+use Rattle.std.proofs.Common.{◌≡◌, ℕ, ◌+◌, ◌-◌, ◌≤◌, false, List, [], ◌∷◌, ◌++◌, length, take, drop, replicate, None}
 use Rattle.std.proofs.Common.{refl, sym, ap, ◌∙◌, subst, arith, append_assoc, length-append}
 use Rattle.std.proofs.lemmas.Grind.{flat_map-append}
-use Rattle.std.proofs.lemmas.List.{append_cancel_left, length-replicate, replicate-append-replicate, take_at}
+use Rattle.std.proofs.lemmas.List.{append-nil, append_cancel_left, drop_all, drop_at, length-drop, length-replicate}
+use Rattle.std.proofs.lemmas.List.{length-take-le, replicate-append-replicate, take_all, take_at}
+use Rattle.std.proofs.lemmas.List.Edits.{paste_all}
+use Rattle.std.specs.List.{copy_within}
+use borrow.Rule.Slice.PartMut.{mid_of, post_of, put_mid}
 use Rattle.lfs_dirs.specs.Directory.{Entry, entry_bytes, used_of, has_name, number_in, without, IsEntry, AreEntries}
 use Rattle.lfs_dirs.specs.Directory.{IsDirectoryBlock, Spells}
 use Rattle.lfs_dirs.specs.Reading.{StandsBehind, StandsFirst, entries_of}
@@ -58,6 +62,37 @@ module _ (bytes name rest others : List ℕ) (e : Entry) (front : IsFront bytes 
 
 -- ---- the block without the name
 
+-- bytes moved towards the front, and zeros behind them
+pub moved_up : (block : List ℕ) (at left : ℕ) (moved zeros : List ℕ) → length block ≡ 512 → at + left ≤ 512
+    → moved ≡ copy_within block (512 - left) 512 at
+    → zeros ≡ replicate (length (mid_of (at + left) (512 - (at + left)) moved)) 0
+    → put_mid (at + left) (512 - (at + left)) moved zeros
+    ≡ take at block ++ (drop (512 - left) block ++ replicate (512 - at - left) 0)
+moved_up block at left moved zeros size room is_moved is_zeros =
+    let end = at + left in
+    let last = drop (512 - left) block in
+    let count : length last ≡ left = omega (arith, size, length-drop (512 - left) block) in
+    let front = take at block ++ last in
+    let behind = drop end block in
+    let short : length (take at block) ≡ at = length-take-le at block (omega (arith, size)) in
+    let at_end : length front ≡ end = length-append (take at block) last ∙ omega (arith, short, count) in
+    let parts : moved ≡ front ++ behind =
+    is_moved ∙ paste_all block at last (512 - (512 - left)) (omega (arith, count))
+    ∙ ap (λ n. take at block ++ (last ++ drop n block)) (omega arith)
+    ∙ sym (append_assoc (take at block) last behind) in
+    let tail : drop end moved ≡ behind = ap (drop end) parts ∙ drop_at front behind end at_end in
+    let whole : length behind ≡ 512 - end = length-drop end block ∙ omega (arith, size) in
+    let mid : length (mid_of end (512 - end) moved) ≡ 512 - at - left =
+    ap (λ bs. length (take (512 - end) bs)) tail ∙ ap length (take_all (512 - end) behind (omega (arith, whole)))
+    ∙ omega (arith, whole) in
+    let none : post_of end (512 - end) moved ≡ [] =
+    ap (drop (512 - end)) tail ∙ drop_all (512 - end) behind (omega (arith, whole)) in
+    ap (λ bs. take end bs ++ (zeros ++ post_of end (512 - end) moved)) parts
+    ∙ ap (λ bs. bs ++ (zeros ++ post_of end (512 - end) moved)) (take_at front behind end at_end)
+    ∙ ap (λ bs. front ++ (zeros ++ bs)) none
+    ∙ ap (λ bs. front ++ bs) (append-nil zeros ∙ is_zeros ∙ ap (λ n. replicate n 0) mid)
+    ∙ append_assoc (take at block) last (replicate (512 - at - left) 0)
+
 -- what is behind entries are entries
 AreEntries-behind : (es fs : List Entry) → AreEntries (es ++ fs) → AreEntries fs
 AreEntries-behind [] fs a = a
@@ -87,6 +122,16 @@ module _ (block name rest : List ℕ) (h : IsDirectoryBlock block (entries_of bl
     length-entry_bytes b.entry,
     ap length b.named,
   )
+
+  -- they are the last of the block
+  pub last_is : drop (512 - length rest) block ≡ rest
+  last_is =
+      let front = bytes_of b.before ++ entry_bytes b.entry in
+      let long : length front ≡ 512 - length rest = length-append (bytes_of b.before) (entry_bytes b.entry)
+      ∙ omega (arith, place, length-entry_bytes b.entry, ap length b.named) in
+      ap (drop (512 - length rest))
+      (b.spelled ∙ sym (append_assoc (bytes_of b.before) (entry_bytes b.entry) rest))
+      ∙ drop_at front rest (512 - length rest) long
 
   -- the block lists the name
   pub listed_there : IsSome (number_in name (entries_of block))

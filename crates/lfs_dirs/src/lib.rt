@@ -9,4 +9,4 @@ mod reading;
 mod writing;
 
 pub use reading::{BlockEntries, entries, find, is_directory_block};
-pub use writing::{added, removed, replaced};
+pub use writing::{add, added, remove, removed, replaced};

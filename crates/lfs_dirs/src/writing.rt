@@ -1,6 +1,6 @@
 //! Blocks with an entry more or less, or with another number.
 
-ghost use Rattle.std.specs.Prelude.{◌≡◌, ◌+◌, ◌-◌, ◌<◌, ◌≤◌, ◌++◌, ◌∷◌, ◌↔◌, [], None, drop, length, replicate, IfSome, IsSome, MatchOption};
+ghost use Rattle.std.specs.Prelude.{◌≡◌, ◌+◌, ◌-◌, ◌<◌, ◌≤◌, ◌++◌, ◌∷◌, ◌↔◌, [], None, false, drop, take, length, replicate, IfSome, IsSome, IsTrue, MatchOption, is_some};
 ghost use Rattle.lfs_dirs.specs.Directory.{IsDirectoryBlock, IsEntry, entry_bytes, number_in, renumbered, used_of, with_number, without};
 ghost use Rattle.lfs_dirs.specs.Reading.{entries_of};
 
@@ -21,19 +21,40 @@ pub fn added(block: &Block, name: &Name, number: u32) -> Option<Block>
     ensures listed { IfSome result (λ b. entries_of b
         ≡ entries_of block.now ++ (number, name.now) ∷ []) }
 {
+    let mut longer = *block;
+    if add(&mut longer, name, number) {
+        Some(longer)
+    } else {
+        None
+    }
+}
+
+/// Puts an entry at the end of a block's list, and says whether five bytes and the name fit behind the entries. Where
+/// they don't, the block stays.
+pub fn add(block: &mut Block, name: &Name, number: u32) -> bool
+    requires directory { IsDirectoryBlock block.old (entries_of block.old) }
+    requires above { 0 < number }
+    requires new_name { number_in name.now (entries_of block.old) ≡ None }
+    ensures fits { IsTrue result
+        ↔ (used_of (entries_of block.old) + 5 + length name.now ≤ 512) }
+    ensures block { IsTrue result → IsDirectoryBlock block.new
+        (entries_of block.old ++ (number, name.now) ∷ []) }
+    ensures listed { IsTrue result → entries_of block.new
+        ≡ entries_of block.old ++ (number, name.now) ∷ [] }
+    ensures stays { result ≡ false → block.new ≡ block.old }
+{
     let name = name.as_bytes();
     let size = HEAD_SIZE + name.len();
     // A block that is nearly full is known by the bytes at its end, with no walk along its entries.
     if !are_zeros(&block[BLOCK_SIZE - size..]) {
-        return None;
+        return false;
     }
     let end = used(block);
     if BLOCK_SIZE - end < size {
-        return None;
+        return false;
     }
-    let mut longer = *block;
-    push_entry(&mut longer, end, number, name);
-    Some(longer)
+    push_entry(block, end, number, name);
+    true
 }
 
 /// The block without the entry of this name, closed up; None where it has none.
@@ -45,23 +66,39 @@ pub fn removed(block: &Block, name: &Name) -> Option<Block>
         (without name.now (entries_of block.now))) }
     ensures listed { IfSome result (λ b. entries_of b ≡ without name.now (entries_of block.now)) }
 {
-    let unwanted = name.as_bytes();
-    let rest = behind(block, unwanted)?;
-    let at = BLOCK_SIZE - rest.len() - HEAD_SIZE - unwanted.len();
-    Some(joined(&block[..at], rest))
+    let mut closed = *block;
+    if remove(&mut closed, name) {
+        Some(closed)
+    } else {
+        None
+    }
 }
 
-/// The block of these bytes, one after the other, and zeros.
-fn joined(front: &[u8], rest: &[u8]) -> Block
-    requires { length front.now + length rest.now ≤ 512 }
-    ensures { result ≡ front.now ++ (rest.now
-        ++ replicate (512 - length front.now - length rest.now) 0) }
+/// Takes the entry of this name out of a block, which is closed up, and says whether there was one.
+pub fn remove(block: &mut Block, name: &Name) -> bool
+    requires { IsDirectoryBlock block.old (entries_of block.old) }
+    ensures found { result ≡ is_some (number_in name.now (entries_of block.old)) }
+    ensures block { IsDirectoryBlock block.new (without name.now (entries_of block.old)) }
+    ensures listed { entries_of block.new ≡ without name.now (entries_of block.old) }
 {
-    let end = front.len();
-    let mut block = [0; BLOCK_SIZE];
-    block[..end].copy_from_slice(front);
-    block[end..end + rest.len()].copy_from_slice(rest);
-    block
+    let unwanted = name.as_bytes();
+    let Some(rest) = behind(block, unwanted) else {
+        return false;
+    };
+    let left = rest.len();
+    let at = BLOCK_SIZE - left - HEAD_SIZE - unwanted.len();
+    close_up(block, at, left);
+    true
+}
+
+/// Moves the last `left` bytes of a block to place `at`, with zeros behind them.
+fn close_up(block: &mut Block, at: usize, left: usize)
+    requires { at + left ≤ 512 }
+    ensures { block.new ≡ take at block.old ++ (drop (512 - left) block.old
+        ++ replicate (512 - at - left) 0) }
+{
+    block.copy_within(BLOCK_SIZE - left.., at);
+    block[at + left..].fill(0);
 }
 
 /// The block with another number in the entry of this name.

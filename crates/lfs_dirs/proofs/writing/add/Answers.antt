@@ -3,7 +3,7 @@ use Rattle.std.proofs.lemmas.Grind.{common_steps}
 use Rattle.std.proofs.lemmas.List.Elements.{All-take}
 use Rattle.lfs_dirs.specs.Reading.{entries_of}
 use Rattle.lfs_dirs.proofs.Adding.{zeros_at_tail}
-use Rattle.lfs_dirs.proofs.writing.added.Goals as goal
+use Rattle.lfs_dirs.proofs.writing.add.Goals as goal
 
 -- Bytes at the end that are not all zeros leave no room.
 pub returns-then-not-are_zeros-clause-fits : goal.returns-then-not-are_zeros-clause-fits
