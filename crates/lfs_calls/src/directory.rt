@@ -1,6 +1,6 @@
 //! Directories in a store, block by block: a name is looked up, names are listed, room is found, a name is taken out.
 
-ghost use Rattle.std.specs.Prelude.{◌≡◌, ◌+◌, ◌≤◌, IsSome, IsSomeAnd, length, take, drop, ℕ, [], ◌∷◌, ◌%◌, ◌<◌, IfSome, Some, None, is_none, MatchOption, ◌↔◌, ◌/◌, IsTrue, ◌++◌, IfOk, map};
+ghost use Rattle.std.specs.Prelude.{◌≡◌, ◌+◌, ◌≤◌, IsSome, IsSomeAnd, length, take, drop, ℕ, [], ◌∷◌, ◌%◌, ◌<◌, IfSome, Some, None, is_none, MatchOption, ◌↔◌, ◌/◌, IsTrue, ◌++◌, IfOk, map, replicate};
 ghost use Rattle.std.specs.FinMap.{get};
 ghost use Rattle.lfs_types.specs.declared.block.TheConstants.{BLOCK_SIZE};
 ghost use Rattle.lfs_types.specs.Stored.{bytes_of};
@@ -15,7 +15,7 @@ ghost use Rattle.lfs_calls.specs.Makes.{CanEnter, IsRoom, IsRoomIn, StandsIn, wi
 ghost use Rattle.lfs_calls.specs.Removes.{IsTaking, ListsName};
 
 use crate::cached_store::CachedStore;
-use lfs_dirs::{added, entries, removed};
+use lfs_dirs::{add, added, entries, remove, removed};
 use lfs_known::Hint;
 use lfs_types::block::{BLOCK_SIZE, Block};
 use lfs_types::limits::FILE_BYTES;
@@ -36,6 +36,16 @@ pub(crate) struct DirBlock {
 }
 
 impl DirBlock {
+    /// A block to be read into.
+    fn empty() -> DirBlock
+        ensures { result ≡ record { off = 0; block = replicate BLOCK_SIZE 0 } }
+    {
+        DirBlock {
+            off: 0,
+            block: [0; BLOCK_SIZE],
+        }
+    }
+
     /// Which of the directory's blocks it is, counted from 0.
     fn index(&self) -> u64
         ensures { result ≡ self.now.off / BLOCK_SIZE }
@@ -115,8 +125,19 @@ pub(crate) fn read_block<F: FileStore>(store: &mut CachedStore<F>, ino: u32, off
     ensures state { F.state store.new ≡ F.state store.old }
 {
     let mut block = [0; BLOCK_SIZE];
-    store.read(ino, off, &mut block);
+    read_into(store, ino, off, &mut block);
     block
+}
+
+/// Reads the block of a file that begins at byte `off`.
+fn read_into<F: FileStore>(store: &mut CachedStore<F>, ino: u32, off: u64, block: &mut Block)
+    requires used { IsSome (get (F.state store.old).content ino) }
+    requires whole { off + BLOCK_SIZE ≤ length (bytes_of (F.state store.old).content ino) }
+    ensures block { block.new
+        ≡ take BLOCK_SIZE (drop off (bytes_of (F.state store.old).content ino)) }
+    ensures state { F.state store.new ≡ F.state store.old }
+{
+    store.read(ino, off, block);
 }
 
 /// The number that a directory of this size lists under a name: what is known of it, else what its blocks have.
@@ -266,12 +287,13 @@ pub(crate) fn find_room<F: FileStore>(
     if let Some(room) = taken_room(taken, first, name, number) {
         return Some(room);
     }
+    let mut room = DirBlock::empty();
     for k in first..size / block_size {
-        let off = block_size * k;
-        let block = seen_block(store, dir, off, taken);
-        if let Some(block) = added(&block, name, number) {
+        room.off = block_size * k;
+        see_block(store, dir, room.off, taken, &mut room.block);
+        if add(&mut room.block, name, number) {
             keep_hint(store, dir, taken, k, name);
-            return Some(DirBlock { off, block });
+            return Some(room);
         }
     }
     if size == FILE_BYTES {
@@ -371,9 +393,31 @@ pub(crate) fn seen_block<F: FileStore>(
         (drop off (with_block (bytes_of (F.state store.old).content dir) taken.entry)) }
     ensures state { F.state store.new ≡ F.state store.old }
 {
+    let mut block = [0; BLOCK_SIZE];
+    see_block(store, dir, off, taken, &mut block);
+    block
+}
+
+/// Reads the block of a directory that begins at byte `off`: that in `taken` if it begins there, else the stored one.
+fn see_block<F: FileStore>(
+    store: &mut CachedStore<F>,
+    dir: u32,
+    off: u64,
+    taken: Option<&DirBlock>,
+    block: &mut Block,
+)
+    requires used { IsSome (get (F.state store.old).content dir) }
+    requires aligned { off % BLOCK_SIZE ≡ 0 }
+    requires within { off + BLOCK_SIZE ≤ length (bytes_of (F.state store.old).content dir) }
+    requires taken { IfSome taken
+        (λ room. StandsIn (bytes_of (F.state store.old).content dir) room.now) }
+    ensures block { block.new ≡ take BLOCK_SIZE
+        (drop off (with_block (bytes_of (F.state store.old).content dir) taken.entry)) }
+    ensures state { F.state store.new ≡ F.state store.old }
+{
     match taken {
-        Some(room) if room.off == off => room.block,
-        _ => read_block(store, dir, off),
+        Some(room) if room.off == off => *block = room.block,
+        _ => read_into(store, dir, off, block),
     }
 }
 
@@ -403,9 +447,26 @@ pub(crate) fn take_name<F: FileStore>(
     ensures room { (k : ℕ) × IsTaking (bytes_of (F.state store.old).content dir) name.now result k }
     ensures state { F.state store.new ≡ F.state store.old }
 {
-    if let Some(room) = take_hinted(store, dir, size, name) {
+    let mut room = DirBlock::empty();
+    if take_hinted(store, dir, size, name, &mut room) {
         return room;
     }
+    take_listed(store, dir, size, name)
+}
+
+/// The block of a directory that lists a name, without the name, and where it goes, by its blocks. It stands apart, so
+/// that the way of a name that stands where the hint says is short.
+#[inline(never)]
+fn take_listed<F: FileStore>(
+    store: &mut CachedStore<F>,
+    dir: u32,
+    size: u64,
+    name: &Name,
+) -> DirBlock
+    requires { ListsName (F.state store.old).content dir size name.now }
+    ensures room { (k : ℕ) × IsTaking (bytes_of (F.state store.old).content dir) name.now result k }
+    ensures state { F.state store.new ≡ F.state store.old }
+{
     let mut blocks = DirBlocks::new(dir, size);
     while let Some(stored) = blocks.next_of(store, name) {
         if let Some(block) = removed(&stored.block, name) {
@@ -417,46 +478,45 @@ pub(crate) fn take_name<F: FileStore>(
     unreachable!()
 }
 
-/// The block of a directory's hint without a name, and where it goes, if it lists the name, as where the name was made
-/// last. It isn't read where the table says that the name doesn't stand there.
+/// Reads the block of a directory's hint and takes a name out of it, if the block lists the name, as where the name was
+/// made last, and says whether it does. It isn't read where the table says that the name doesn't stand there.
 fn take_hinted<F: FileStore>(
     store: &mut CachedStore<F>,
     dir: u32,
     size: u64,
     name: &Name,
-) -> Option<DirBlock>
+    room: &mut DirBlock,
+) -> bool
     requires { ListsName (F.state store.old).content dir size name.now }
-    ensures room { IfSome result (λ room. (k : ℕ)
-        × IsTaking (bytes_of (F.state store.old).content dir) name.now room k) }
+    ensures room { IsTrue result → (k : ℕ)
+        × IsTaking (bytes_of (F.state store.old).content dir) name.now room.new k }
     ensures state { F.state store.new ≡ F.state store.old }
 {
-    let Hint { block, .. } = store.hint(dir)?;
-    if block < size / BLOCK_SIZE as u64 && store.next_block(dir, name, block) == block {
-        take_from(store, dir, block, name)
-    } else {
-        None
+    match store.hint(dir) {
+        Some(Hint { block, .. })
+            if block < size / BLOCK_SIZE as u64 && store.next_block(dir, name, block) == block =>
+            take_from(store, dir, block, name, room),
+        _ => false,
     }
 }
 
-/// The block of this index of a directory without a name, and where it goes, if it lists the name.
+/// Reads the block of this index of a directory and takes a name out of it, and says whether the block lists it.
 fn take_from<F: FileStore>(
     store: &mut CachedStore<F>,
     dir: u32,
     k: u64,
     name: &Name,
-) -> Option<DirBlock>
+    room: &mut DirBlock,
+) -> bool
     requires used { IsSome (get (F.state store.old).content dir) }
     requires bounded { length (bytes_of (F.state store.old).content dir) ≤ FILE_BYTES }
     requires blocks { AreBlocks (bytes_of (F.state store.old).content dir) }
     requires within { k < length (bytes_of (F.state store.old).content dir) / BLOCK_SIZE }
-    ensures room { MatchOption result
-        (number_in name.now (entries_of (block_at (bytes_of (F.state store.old).content dir) k))
-        ≡ None)
-        (λ room. IsTaking (bytes_of (F.state store.old).content dir) name.now room k) }
+    ensures room { IsTrue result
+        → IsTaking (bytes_of (F.state store.old).content dir) name.now room.new k }
     ensures state { F.state store.new ≡ F.state store.old }
 {
-    let off = BLOCK_SIZE as u64 * k;
-    let stored = read_block(store, dir, off);
-    let block = removed(&stored, name)?;
-    Some(DirBlock { off, block })
+    room.off = BLOCK_SIZE as u64 * k;
+    read_into(store, dir, room.off, &mut room.block);
+    remove(&mut room.block, name)
 }

@@ -280,7 +280,7 @@ fn put_blocks<F: FileStore>(
         places.now.taken moving.now.new_dir places.now.room places.now.gone)
         result store.new }
 {
-    let Places { taken, room, gone } = *places;
+    let (taken, room, gone) = (&places.taken, &places.room, places.gone);
     let (old_dir, dir) = (moving.old_dir, moving.new_dir);
     let put = Change::Put {
         ino: dir,

@@ -1,6 +1,6 @@
 //! Blocks with an entry more or less, or with another number.
 
-ghost use Rattle.std.specs.Prelude.{◌≡◌, ◌+◌, ◌-◌, ◌<◌, ◌≤◌, ◌++◌, ◌∷◌, ◌↔◌, [], None, false, drop, take, length, replicate, IfSome, IsSome, IsTrue, MatchOption, is_some};
+ghost use Rattle.std.specs.Prelude.{◌≡◌, ℕ, ◌+◌, ◌-◌, ◌<◌, ◌≤◌, ◌++◌, ◌∷◌, ◌↔◌, [], None, false, drop, take, length, replicate, IfSome, IsSome, IsTrue, MatchOption, is_some, slice_index_or};
 ghost use Rattle.lfs_dirs.specs.Directory.{IsDirectoryBlock, IsEntry, entry_bytes, number_in, renumbered, used_of, with_number, without};
 ghost use Rattle.lfs_dirs.specs.Reading.{entries_of};
 
@@ -8,6 +8,9 @@ use crate::reading::{HEAD_SIZE, are_zeros, behind, entries};
 use byteorder::{BigEndian, ByteOrder};
 use lfs_types::block::{BLOCK_SIZE, Block};
 use lfs_types::name::Name;
+
+/// A group of zeros, which are looked for at once.
+const ZEROS: [u8; 32] = [0; 32];
 
 /// The block with an entry more at the end of its list, or None exactly where five bytes and the name
 /// don't fit behind the entries.
@@ -126,17 +129,39 @@ fn number_for(name: &[u8], wanted: &[u8], old: u32, number: u32) -> u32
     if name == wanted { number } else { old }
 }
 
-/// How many bytes the entries of a directory block take.
+/// How many bytes the entries of a directory block take: those before the zeros at its end, as no name ends in a zero.
 fn used(block: &Block) -> usize
     requires { IsDirectoryBlock block.now (entries_of block.now) }
     ensures value { result ≡ used_of (entries_of block.now) }
     ensures small { result ≤ 512 }
 {
-    let mut end = 0;
-    for (_, name) in entries(block) {
-        end += HEAD_SIZE + name.len();
+    without_zeros(without_groups(block)).len()
+}
+
+/// The bytes before as many whole groups of zeros as stand at the end.
+fn without_groups(bytes: &[u8]) -> &[u8]
+    ensures { (n : ℕ) × (bytes.now ≡ result.now ++ replicate n 0) }
+{
+    let mut front = bytes;
+    while let Some(rest) = front.strip_suffix(&ZEROS) {
+        front = rest;
     }
-    end
+    front
+}
+
+/// The bytes before the zeros at the end.
+fn without_zeros(bytes: &[u8]) -> &[u8]
+    ensures zeros { (n : ℕ) × (bytes.now ≡ result.now ++ replicate n 0) }
+    ensures last { 0 < slice_index_or result.now (length result.now - 1) 1 }
+{
+    let mut front = bytes;
+    while let Some((last, rest)) = front.split_last() {
+        if *last != 0 {
+            return front;
+        }
+        front = rest;
+    }
+    front
 }
 
 /// Writes an entry behind the entries of a directory block, which end at `end`. Returns where they end

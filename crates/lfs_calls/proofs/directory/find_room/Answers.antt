@@ -44,7 +44,7 @@ keep_hint-requires g c =
     let within = c.loop-k-test.true in
     subst (λ x. IsFullBefore (with_block (bytes_of x c.args.dir) c.args.taken)
     (record { block = c.loop-k.k; length = length c.args.listed.name.now }))
-    (sym (same_content (c.seen_block-block.ensures.state ∙ c.loop-k.invariant.state)))
+    (sym (same_content (c.see_block.ensures.state ∙ c.loop-k.invariant.state)))
     (full_before (with_block stored c.args.taken) c.loop-k.k c.args.size (length c.args.listed.name.now) size
     (omega arith) c.loop-k.invariant.full)
 
@@ -60,13 +60,13 @@ keep_hint-requires-2 g c =
     (full_before (with_block stored c.args.taken) (c.args.size / 512) c.args.size (length c.args.listed.name.now) size
     (omega arith) (λ j before. c.loop-k.invariant.full j (omega (arith, before, c.loop-k-test.false))))
 
-pub added-requires-clause-new_name : goal.added-requires-clause-new_name
-added-requires-clause-new_name g c =
+pub add-requires-clause-new_name : goal.add-requires-clause-new_name
+add-requires-clause-new_name g c =
     let stored = bytes_of (g.F.FileStore.state c.args.store.now).content c.args.dir in
     let bytes = with_block stored c.args.taken in
     let size : length bytes ≡ c.args.size = length-with_block stored c.args.taken c.args.size c.requires.stands
     c.requires.stored.sized c.requires.stored.whole in
-    let block : c.seen_block-block.result ≡ block_at bytes c.loop-k.k = c.seen_block-block.ensures.block
+    let block : c.see_block.new.block ≡ block_at bytes c.loop-k.k = c.see_block.ensures.block
     ∙ ap (λ x. block_at (with_block (bytes_of x c.args.dir) c.args.taken) c.loop-k.k)
     (same_content c.loop-k.invariant.state) in
     let within : c.loop-k.k < length bytes / 512 = subst (λ n. c.loop-k.k < n / 512) (sym size) c.loop-k-test.true in
@@ -107,8 +107,8 @@ returns-then-size-eq-FILE_BYTES-clause-room g c =
           c.loop-k.invariant.full j (omega (arith, before, whole, c.loop-k-test.false));
     }
 
-pub added-requires-clause-directory : goal.added-requires-clause-directory
-added-requires-clause-directory g c = grind (arith, common_steps)
+pub add-requires-clause-directory : goal.add-requires-clause-directory
+add-requires-clause-directory g c = grind (arith, common_steps)
 
-pub returns-in-Some-added-clause-room : goal.returns-in-Some-added-clause-room
-returns-in-Some-added-clause-room g c = grind (arith, common_steps)
+pub returns-then-add-clause-room : goal.returns-then-add-clause-room
+returns-then-add-clause-room g c = grind (arith, common_steps)

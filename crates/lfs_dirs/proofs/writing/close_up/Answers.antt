@@ -1,4 +1,4 @@
-use Rattle.std.proofs.Common.{◌≡◌, ◌-◌, drop, length, replicate, sym, ap, ◌∙◌, refl, arith}
+use Rattle.std.proofs.Common.{◌-◌, ap, ◌∙◌}
 use Rattle.std.specs.List.{copy_within}
 use Rattle.lfs_dirs.proofs.Removing.{moved_up}
 use Rattle.lfs_dirs.proofs.writing.close_up.Goals as goal

@@ -2,7 +2,7 @@ use Rattle.std.proofs.Common.{◌-◌, ◌/◌}
 use Rattle.lfs_types.specs.Stored.{bytes_of}
 use Rattle.lfs_calls.proofs.DirBlockLemmas.{AreStill}
 use Rattle.lfs_calls.proofs.SearchLemmas.{IsAbsentBefore}
-use Rattle.lfs_calls.proofs.directory.take_name.Given as goal
+use Rattle.lfs_calls.proofs.directory.take_listed.Given as goal
 
 -- the name is in none of the blocks so far
 abbrev pub invariant-loop-stored : goal.invariant-loop-stored
