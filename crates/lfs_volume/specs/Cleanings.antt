@@ -1,12 +1,11 @@
 -- What a cleaner's call is answered over a store, and how it leaves the store.
-use Rattle.std.specs.Prelude.{◌≡◌, ◌≢◌, ◌⊎◌, ℕ, ◌+◌, ◌^◌, ◌<◌, ◌≤◌, false, List, Option, None, Some, Result, Ok, Err, IfSome}
+use Rattle.std.specs.Prelude.{◌≡◌, ◌≢◌, ◌⊎◌, ◌+◌, ◌^◌, ◌<◌, ◌≤◌, false, List, Option, None, Some, Result, Ok, Err, IfSome}
 use Rattle.std.specs.Prelude.{length}
 use Rattle.lfs_types.specs.Caller.{Caller}
 use Rattle.lfs_types.specs.Cleaned.{CleanerCalls, with_clean_segment}
 use Rattle.lfs_types.specs.StoreStates.{Follows, StoreState}
 use Rattle.lfs_types.specs.declared.answer.Resource.TheVariants.{JournalFull, NoMemory}
 use Rattle.lfs_types.specs.declared.cleaner.BlockInfo.{BlockInfo}
-use Rattle.lfs_types.specs.declared.cleaner.CleanFault.{CleanFault}
 use Rattle.lfs_types.specs.declared.cleaner.CleanerCall.{CleanerCall}
 use Rattle.lfs_types.specs.declared.cleaner.CleanerCall.TheVariants as call
 use Rattle.lfs_types.specs.declared.rule.Denial.{Denial}

@@ -2,6 +2,7 @@
 
 ghost use Rattle.std.specs.Prelude.{◌≡◌, ◌↔◌, ◌-◌, ◌^◌, ◌<◌, ◌≤◌, [], ◌∷◌, ◌++◌, length, vec_len, false, ⊤, IfOk, IfErr, MatchOption, None, true};
 ghost use Rattle.std.specs.Vec.{vec_capacity};
+ghost use Rattle.lfs_types.specs.Stored.{shown_attrs};
 ghost use Rattle.lfs_types.specs.StoreStates.{Follows};
 ghost use Rattle.lfs_types.specs.Tree.{opening_world};
 ghost use Rattle.lfs_types.specs.declared.level.Level.TheVariants.{Insecure};
@@ -36,6 +37,7 @@ use lfs_model::counts::Counts;
 use lfs_model::journal::{Call, CleanerAnswer, CleanerOutcome, Entry, Event};
 use lfs_model::steps::{Act, Step, StepAnswer};
 use lfs_types::answer::{Answer, Resource, Served};
+use lfs_types::attrs::Attrs;
 use lfs_types::cleaned::CleanedStore;
 use lfs_types::cleaner::CleanerCall;
 use lfs_types::cred::Cred;
@@ -282,6 +284,16 @@ impl<F: FileStore + Drop> Volume<F> {
             → AtPresent F.state self.now (λ w. EndsAlike w.rows uid path.now) }
     {
         ends_alike(&self.store, uid, path.names())
+    }
+
+    /// The attributes that the store shows of a number, if it is in use; they are looked up among those that are known
+    /// first.
+    pub fn attrs(&self, number: u32) -> Option<Attrs>
+        ensures attrs { result ≡ shown_attrs (F.state self.now.store).content number }
+        ensures legal { Since (F.state self.now.since) self.now.since_level (λ from. IsJournal from
+            (F.state self.now.store) self.now.level self.now.journal self.now.limit) }
+    {
+        self.store.attrs(number)
     }
 
     /// Hands out the entries, and goes on from the present tree with an empty journal, whose room is handed in. The

@@ -1,4 +1,4 @@
-use Rattle.std.proofs.Common.{◌≡◌, sym, subst}
+use Rattle.std.proofs.Common.{sym, subst}
 use Rattle.lfs_types.specs.declared.request.Request.TheVariants.{Read}
 use Rattle.lfs_model.specs.Steps.{world_after}
 use Rattle.lfs_calls.specs.Outcomes.{IsOutcome}
