@@ -1,3 +1,4 @@
+pub mod AlikeLemmas
 pub mod EntryLemmas
 pub mod ForgettingLemmas
 pub mod GoingLemmas
