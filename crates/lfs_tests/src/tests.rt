@@ -1,13 +1,16 @@
-//! What no clause says of volumes, sessions, passes and whole runs: that they are made, and answered as they must be.
+//! What no clause says of volumes, sessions and passes: that they are made, and answered as they must be.
 
-mod film;
-mod programs;
-mod scripts;
+mod counts;
+mod full;
+mod idle;
+mod locked;
+mod plain;
 mod sessions;
 mod space;
 mod steps;
 mod unswept;
 
+use itoa::Buffer;
 use lfs_logstore::LogStore;
 use lfs_print::print::append_answer;
 use lfs_script::plan::{Act, Plan, Step};
@@ -25,6 +28,14 @@ const SMALL: Params = Params {
     segments: 6,
     inodes: 64,
     frames: 32,
+    journal: 4096,
+};
+
+/// The numbers of a volume where a script has no arguments.
+const DEFAULTS: Params = Params {
+    segments: 64,
+    inodes: 256,
+    frames: 64,
     journal: 4096,
 };
 
@@ -51,14 +62,16 @@ fn calls(rt: &impl Abort, alloc: Global, script: &str) -> Vec<Call> {
     let mut calls = Vec::new(alloc);
     for line in plan_of(rt, alloc, script).into_steps() {
         let Step { session, cred, act } = line;
-        if let Act::User(request) = act {
-            let call = Call {
-                session,
-                cred,
-                request,
-            };
-            calls.push(call).expect(rt, "memory");
-        }
+        let request = match act {
+            Act::User(request) => request,
+            Act::Cleaner(_) | Act::Pass => continue,
+        };
+        let call = Call {
+            session,
+            cred,
+            request,
+        };
+        calls.push(call).expect(rt, "memory");
     }
     calls
 }
@@ -73,6 +86,24 @@ fn push_all(rt: &impl Abort, text: &mut String, pieces: &[&str]) {
     for piece in pieces {
         push(rt, text, piece);
     }
+}
+
+/// The hexadecimal digits.
+const DIGITS: &[u8; 16] = b"0123456789abcdef";
+
+/// Appends the hexadecimal digits of a byte so many times.
+fn push_byte(rt: &impl Abort, to: &mut String, byte: usize, times: usize) {
+    let high = char::from(DIGITS[byte / 16 % 16]);
+    let low = char::from(DIGITS[byte % 16]);
+    for _ in 0..times {
+        to.push(high).expect(rt, "memory");
+        to.push(low).expect(rt, "memory");
+    }
+}
+
+/// Appends a number between two texts.
+fn push_number(rt: &impl Abort, to: &mut String, before: &str, number: usize, after: &str) {
+    push_all(rt, to, &[before, Buffer::new().format(number), after]);
 }
 
 /// A text so many times.

@@ -8,25 +8,16 @@ mod run_steps_rows;
 mod threads;
 mod waiting;
 
-use crate::tests::{expect_lines, fresh, plan_of};
+use crate::tests::{DEFAULTS, expect_lines, fresh, plan_of};
 use lfs_logstore::LogStore;
 use lfs_print::print::{append_answer, append_cleaner};
 use lfs_script::plan;
-use lfs_types::store::Params;
 use lfs_volume::journal::{CleanerAnswer, CleanerKind};
 use lfs_volume::steps::{Act, Step, StepAnswer};
 use lfs_volume::volume::Volume;
 use std::alloc::Global;
 use std::io::Write;
 use std::process::Abort;
-
-/// The numbers of a volume where a script has no arguments.
-const DEFAULTS: Params = Params {
-    segments: 64,
-    inodes: 256,
-    frames: 64,
-    journal: 4096,
-};
 
 /// The steps that a script asks for, without its passes.
 fn steps(rt: &impl Abort, alloc: Global, script: &str) -> Vec<Step> {

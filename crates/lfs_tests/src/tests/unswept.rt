@@ -1,13 +1,15 @@
 //! A plain store with a cleaner that finds nothing to do.
 
-ghost use Rattle.std.specs.Prelude.{◌≡◌};
+ghost use Rattle.std.specs.Prelude.{◌≡◌, []};
 
 use lfs_types::attrs::Attrs;
 use lfs_types::cleaned::CleanedStore;
 use lfs_types::cleaner::{BlockInfo, CleanFault, InfoList, MarkList};
 use lfs_types::store::{Change, FileStore, Reserve, StoreRefusal};
 use lfs_volume::flat_files::FlatFiles;
-use std::alloc::AllocError;
+use lfs_volume::volume::Volume;
+use std::alloc::{AllocError, Global};
+use std::process::Abort;
 
 /// Files of a plain store. Its ifile never finds memory, no segment is dirty, and no block is written again.
 #[derive(Drop)]
@@ -22,6 +24,14 @@ impl Unswept {
     {
         Unswept { files }
     }
+}
+
+/// A volume over such a store of so many numbers, with this limit of its journal.
+pub fn unswept_volume(rt: &impl Abort, alloc: Global, inodes: u32, journal: u32) -> Volume<Unswept>
+    ensures { result.journal ≡ [] }
+{
+    let files = FlatFiles::new(alloc, inodes).expect(rt, "a store");
+    Volume::new(alloc, Unswept::new(files), journal).expect(rt, "a volume")
 }
 
 impl FileStore for Unswept {

@@ -1,7 +1,7 @@
 //! Two sessions that write more than the log has room for, with the cleaner at work.
 
 use super::gates::assert_unfailed;
-use super::soak::{Holding, assert_cleaned_in_turn, is_cleaned_between};
+use super::soak::{Holding, assert_cleaned_in_turn, is_cleaned_between, last_round};
 use super::watch::Watch;
 use super::{expect_run_settled, serve_log};
 use crate::tests::{SMALL, calls, expect_answers, push, push_all, repeated};
@@ -11,9 +11,14 @@ use lfs_types::answer::{Answer, Resource, Served};
 use lfs_types::store::Params;
 use std::alloc::Global;
 use std::process::Abort;
+use std::sync::Wait;
+use std::thread::Threads;
 
 /// How many rounds each session has: a Write and a Sync in each.
 const ROUNDS: usize = 200;
+
+/// How many calls a session makes in a round: a Write and a Sync.
+const CALLS: usize = 2;
 
 /// The superuser makes a file for each session.
 const SETUP: &str = "create /a 0666\ncreate /b 0666\n";
@@ -75,17 +80,6 @@ fn expect_done_or_full(rt: &impl Abort, transcript: &[Answer]) {
     }
 }
 
-/// The round of the last Write that was served.
-fn last_round(transcript: &[Answer]) -> Option<usize> {
-    let mut last = None;
-    for (round, answers) in transcript.chunks(2).enumerate() {
-        if let [Answer::Served(_), ..] = answers {
-            last = Some(round);
-        }
-    }
-    last
-}
-
 /// Appends the answer to a Read of the file of a session.
 fn push_read(
     rt: &impl Abort,
@@ -108,7 +102,7 @@ fn last_answers(rt: &impl Abort, alloc: Global, transcripts: &[Vec<Answer>]) -> 
     let mut answers = String::new(alloc);
     for (index, transcript) in transcripts.iter().enumerate() {
         let session = index.saturating_add(1);
-        let last = last_round(transcript.as_slice());
+        let last = last_round(transcript.as_slice(), CALLS);
         push_read(rt, alloc, &mut answers, session, last);
     }
     answers
@@ -133,6 +127,19 @@ fn expect_run(rt: &impl Abort, alloc: Global, script: &str, closed: &mut Closed<
     expect_kept(rt, alloc, closed);
 }
 
+/// Runs the sessions at this gate, and asserts of the run what it must be.
+fn fill<R: Abort + Threads + Wait + Sync>(
+    rt: &R,
+    alloc: Global,
+    script: &str,
+    gate: &Holding<'_, R>,
+) {
+    let mut closed = serve_log(rt, alloc, SIZES, script, gate);
+    assert_unfailed(rt, &gate.watch);
+    assert_cleaned_in_turn(rt, &gate.watch, closed.volume.journal());
+    expect_run(rt, alloc, script, &mut closed);
+}
+
 #[test]
 fn sessions_that_fill_the_log_are_done_or_told_so(rt: HostRuntime) {
     let script = script(&rt, rt.alloc());
@@ -141,8 +148,5 @@ fn sessions_that_fill_the_log_are_done_or_told_so(rt: HostRuntime) {
         held: HELD,
         cleaned: CLEANED,
     };
-    let mut closed = serve_log(&rt, rt.alloc(), SIZES, script.as_str(), &gate);
-    assert_unfailed(&rt, &gate.watch);
-    assert_cleaned_in_turn(&rt, &gate.watch, closed.volume.journal());
-    expect_run(&rt, rt.alloc(), script.as_str(), &mut closed);
+    fill(&rt, rt.alloc(), script.as_str(), &gate);
 }

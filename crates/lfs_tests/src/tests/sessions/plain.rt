@@ -3,33 +3,26 @@
 use super::gates::assert_in_turn;
 use super::watch::Watch;
 use super::{BOTH_USERS, CLEANER, assert_answers, expect_run_settled, split};
-use crate::tests::unswept::Unswept;
+use crate::tests::unswept::{Unswept, unswept_volume};
 use crate::tests::{expect_eq, push, repeated};
 use lfs_server::gate::Gate;
 use lfs_server::serving::{Closed, serve_over};
-use lfs_volume::flat_files::FlatFiles;
-use lfs_volume::volume::Volume;
 use std::alloc::Global;
 use std::process::Abort;
 use std::sync::Wait;
 use std::thread::Threads;
 
-/// A volume over a plain store whose cleaner finds nothing to do, with this limit of its journal.
-fn plain_volume(rt: &impl Abort, alloc: Global, journal: u32) -> Volume<Unswept> {
-    let files = FlatFiles::new(alloc, 16).expect(rt, "a store");
-    Volume::new(alloc, Unswept::new(files), journal).expect(rt, "a volume")
-}
-
-/// Runs a script on such a volume.
+/// Runs a script on a volume over a plain store whose cleaner finds nothing to do. What it leaves lies in memory of its own.
 fn serve_plain<R: Abort + Threads + Wait + Sync, G: Gate>(
     rt: &R,
     alloc: Global,
     script: &str,
     gate: &G,
-) -> Closed<Unswept> {
+) -> Box<Closed<Unswept>> {
     let (setup, sessions) = split(rt, alloc, script);
-    let volume = plain_volume(rt, alloc, 64);
-    serve_over(rt, alloc, volume, setup, sessions, gate).expect(rt, "a run")
+    let volume = unswept_volume(rt, alloc, 16, 6_000);
+    let closed = serve_over(rt, alloc, volume, setup, sessions, gate);
+    Box::new(alloc, closed.expect(rt, "a run")).expect(rt, "memory")
 }
 
 /// How many answers the setup had, how many sessions there were, and how many entries the journal has.
@@ -47,25 +40,25 @@ fn sessions_run_on_threads(rt: HostRuntime) {
     expect_eq(&rt, sizes(&closed), [2, 2, 6]);
 }
 
+/// A script of session 1, which syncs so often.
+fn syncs(rt: &impl Abort, alloc: Global, times: usize) -> String {
+    let mut script = String::new(alloc);
+    push(rt, &mut script, "session 1\n");
+    push(
+        rt,
+        &mut script,
+        repeated(rt, alloc, "sync\n", times).as_str(),
+    );
+    script
+}
+
 #[test]
 fn session_of_five_thousand_calls(rt: HostRuntime) {
-    let mut script = String::new(rt.alloc());
-    push(&rt, &mut script, "session 1\n");
-    push(
-        &rt,
-        &mut script,
-        repeated(&rt, rt.alloc(), "sync\n", 5_000).as_str(),
-    );
-    let (setup, sessions) = split(&rt, rt.alloc(), script.as_str());
-    let volume = plain_volume(&rt, rt.alloc(), 6_000);
-    let closed = serve_over(&rt, rt.alloc(), volume, setup, sessions, &()).expect(&rt, "a run");
+    let script = syncs(&rt, rt.alloc(), 5_000);
+    let closed = serve_plain(&rt, rt.alloc(), script.as_str(), &());
     let wanted = repeated(&rt, rt.alloc(), "1 ok\n", 5_000);
-    assert_answers(
-        &rt,
-        rt.alloc(),
-        closed.transcripts.as_slice(),
-        wanted.as_str(),
-    );
+    let transcripts = closed.transcripts.as_slice();
+    assert_answers(&rt, rt.alloc(), transcripts, wanted.as_str());
 }
 
 /// Notes each call that is begun, and each that is made.
@@ -125,18 +118,23 @@ impl<'a, R: Wait + Sync> Gate for Open<'a, R> {
     }
 }
 
-/// Whether a gate was told that each of these calls of session 1 was begun.
-fn are_begun<R: Wait>(gate: &Open<'_, R>, indices: [u32; 6]) -> [bool; 6] {
-    let [a, b, c, d, e, f] = indices;
-    let begun = &gate.begun;
-    [
-        begun.has(1, a),
-        begun.has(1, b),
-        begun.has(1, c),
-        begun.has(1, d),
-        begun.has(1, e),
-        begun.has(1, f),
-    ]
+/// Calls of session 1, whether a gate was told that each was begun, and calls that it was told are made, or not.
+const BEGUN: [(u32, bool); 6] = [
+    (0, true),
+    (1, false),
+    (16, true),
+    (21, true),
+    (32, true),
+    (39, false),
+];
+
+const MADE: [(u32, bool); 3] = [(20, true), (38, false), (39, true)];
+
+/// Asserts of calls of session 1 whether they are noted.
+fn expect_noted(rt: &impl Abort, watch: &Watch<'_, impl Wait>, calls: &[(u32, bool)]) {
+    for (index, is_noted) in calls {
+        expect_eq(rt, watch.has(1, *index), *is_noted);
+    }
 }
 
 #[test]
@@ -146,18 +144,11 @@ fn calls_are_made_in_one_holding_where_the_gate_is_open(rt: HostRuntime) {
         made: Watch::new(&rt, rt.alloc()),
         held: 20,
     };
-    let mut script = String::new(rt.alloc());
-    push(&rt, &mut script, "session 1\n");
-    push(
-        &rt,
-        &mut script,
-        repeated(&rt, rt.alloc(), "sync\n", 40).as_str(),
-    );
+    let script = syncs(&rt, rt.alloc(), 40);
     let closed = serve_plain(&rt, rt.alloc(), script.as_str(), &gate);
     expect_eq(&rt, closed.volume.journal().len(), 40);
-    let found = are_begun(&gate, [0, 1, 16, 21, 32, 39]);
-    expect_eq(&rt, found, [true, false, true, true, true, false]);
-    assert!(&rt; gate.made.has(1, 20) && gate.made.has(1, 39) && !gate.made.has(1, 38));
+    expect_noted(&rt, &gate.begun, &BEGUN);
+    expect_noted(&rt, &gate.made, &MADE);
 }
 
 /// Notes the calls that the cleaner begins.

@@ -3,7 +3,7 @@
 use super::cleaning::{dirty_segments, is_dirty, root};
 use super::large::{ROOMY, leave_segments};
 use super::run;
-use crate::tests::scripts::full::make_pass;
+use crate::tests::full::make_pass;
 use crate::tests::{expect_eq, fresh};
 use lfs_logstore::LogStore;
 use lfs_server::pass::Pass;

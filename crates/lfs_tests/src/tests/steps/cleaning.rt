@@ -154,11 +154,25 @@ pub(super) fn dirty_segments(
 }
 
 /// The infos of a segment that is dirty.
-pub fn infos_of(rt: &impl Abort, volume: &mut Volume<LogStore>, segment: u32) -> InfoList {
+pub(super) fn infos_of(rt: &impl Abort, volume: &mut Volume<LogStore>, segment: u32) -> InfoList {
     let root = root(rt);
     match volume.clean(255, &root, CleanerCall::Infos(segment)) {
         CleanerAnswer::Infos(infos) => infos,
         _ => panic!(rt; "no infos"),
+    }
+}
+
+/// The present addresses of these blocks and records.
+pub(super) fn located(
+    rt: &impl Abort,
+    volume: &mut Volume<LogStore>,
+    asked: &[BlockInfo],
+) -> InfoList {
+    let infos = InfoList::new(asked).expect(rt, "infos");
+    let root = root(rt);
+    match volume.clean(255, &root, CleanerCall::Bmapv(infos)) {
+        CleanerAnswer::Bmapv(infos) => infos,
+        _ => panic!(rt; "no addresses"),
     }
 }
 

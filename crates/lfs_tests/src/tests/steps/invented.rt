@@ -1,14 +1,13 @@
 //! Lists of infos that no honest cleaner hands in: one info many times, the address of another file's block, and an
 //! address that a block had and has again.
 
-use super::cleaning::{Tried, empty_segment, is_dirty, mark, root, try_to_clean};
+use super::cleaning::{Tried, empty_segment, is_dirty, located, mark, try_to_clean};
 use super::run;
-use super::run_steps_rows::{first_infos, leave_first_segment};
+use super::run_steps_rows::{first_info, leave_first_segment};
 use crate::tests::{SMALL, expect_eq, fresh};
 use lfs_logstore::LogStore;
-use lfs_types::cleaner::{BlockInfo, CleanerCall, InfoList};
+use lfs_types::cleaner::BlockInfo;
 use lfs_types::store::Params;
-use lfs_volume::journal::CleanerAnswer;
 use lfs_volume::volume::Volume;
 use std::alloc::Global;
 use std::process::Abort;
@@ -35,22 +34,8 @@ const BLOCK_OF_B: BlockInfo = BlockInfo {
 
 /// The present address of a block.
 fn present_address(rt: &impl Abort, volume: &mut Volume<LogStore>, block: BlockInfo) -> u32 {
-    let asked = InfoList::new(&[block]).expect(rt, "an info");
-    let root = root(rt);
-    match volume.clean(255, &root, CleanerCall::Bmapv(asked)) {
-        CleanerAnswer::Bmapv(infos) => infos.items().first().expect(rt, "an info").addr,
-        _ => panic!(rt; "no address"),
-    }
-}
-
-/// The info of the first block of `/a` among those of segment 0.
-fn info_of_a(rt: &impl Abort, volume: &mut Volume<LogStore>) -> BlockInfo {
-    for info in first_infos(rt, volume).items() {
-        if (info.ino, info.version, info.lbn) == (4, 1, 0) {
-            return *info;
-        }
-    }
-    panic!(rt; "no such info")
+    let infos = located(rt, volume, &[block]);
+    infos.items().first().expect(rt, "an info").addr
 }
 
 /// `/a` is read.
@@ -78,7 +63,7 @@ fn expect_marked(
 fn info_that_comes_eight_times_moves_its_block_once(rt: HostRuntime) {
     let mut volume = fresh(&rt, rt.alloc(), LONG);
     leave_first_segment(&rt, rt.alloc(), &mut volume);
-    let infos = [info_of_a(&rt, &mut volume); 8];
+    let infos = [first_info(&rt, &mut volume); 8];
     expect_marked(&rt, rt.alloc(), &mut volume, &infos, (1, OLD_BYTES));
     expect_marked(&rt, rt.alloc(), &mut volume, &infos, (0, OLD_BYTES));
 }
@@ -126,7 +111,7 @@ fn write_until_at(rt: &impl Abort, alloc: Global, volume: &mut Volume<LogStore>,
 /// Leaves segment 0, cleans it, and writes `/a` until its block has its old address, whose info it gives.
 fn come_back(rt: &impl Abort, alloc: Global, volume: &mut Volume<LogStore>) -> BlockInfo {
     leave_first_segment(rt, alloc, volume);
-    let old = info_of_a(rt, volume);
+    let old = first_info(rt, volume);
     write_until_at(rt, alloc, volume, old.addr);
     expect_eq(rt, is_dirty(rt, volume, 0), false);
     old

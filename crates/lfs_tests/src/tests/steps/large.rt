@@ -1,17 +1,15 @@
 //! Files with blocks under each kind of indirect block: they keep their bytes while they are cut and while a cleaner's
 //! calls move their blocks, and give all of them back.
 
-use super::cleaning::{Tried, empty_segment, is_dirty, mark, root, try_to_clean};
+use super::cleaning::{Tried, empty_segment, is_dirty, located, mark, root, try_to_clean};
 use super::run;
-use crate::tests::scripts::log::{push_byte, push_number};
-use crate::tests::{expect_answers, expect_eq, fresh, push, repeated};
+use crate::tests::{expect_answers, expect_eq, fresh, push, push_byte, push_number, repeated};
 use lfs_logstore::LogStore;
-use lfs_types::cleaner::{BlockInfo, CleanerCall, InfoList};
+use lfs_types::cleaner::{BlockInfo, InfoList};
 use lfs_types::path::Path;
 use lfs_types::payload::Payload;
 use lfs_types::request::{Place, Request};
 use lfs_types::store::Params;
-use lfs_volume::journal::CleanerAnswer;
 use lfs_volume::volume::Volume;
 use std::alloc::Global;
 use std::process::Abort;
@@ -243,16 +241,6 @@ fn of_each_kind() -> [BlockInfo; 7] {
         block(0x8000_017f),
         block(0x8000_0180),
     ]
-}
-
-/// The present addresses of blocks.
-fn located(rt: &impl Abort, volume: &mut Volume<LogStore>, blocks: &[BlockInfo]) -> InfoList {
-    let asked = InfoList::new(blocks).expect(rt, "infos");
-    let root = root(rt);
-    match volume.clean(255, &root, CleanerCall::Bmapv(asked)) {
-        CleanerAnswer::Bmapv(infos) => infos,
-        _ => panic!(rt; "no addresses"),
-    }
 }
 
 /// How many of these have an address.

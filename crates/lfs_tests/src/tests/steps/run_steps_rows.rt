@@ -1,12 +1,15 @@
 //! Worked cases as runs of steps, with every answer compared.
 
-use super::{DEFAULTS, run, run_fresh};
-use crate::tests::{SMALL, calls, expect_answers, expect_eq, fresh, push, push_all, repeated};
+use super::cleaning::infos_of;
+use super::{run, run_fresh};
+use crate::tests::{
+    DEFAULTS, SMALL, calls, expect_answers, expect_eq, fresh, push, push_all, repeated,
+};
+use itoa::Buffer;
 use lfs_logstore::LogStore;
-use lfs_types::cleaner::{BlockInfo, CleanerCall, InfoList};
-use lfs_types::cred::Cred;
+use lfs_types::cleaner::BlockInfo;
 use lfs_types::store::Params;
-use lfs_volume::journal::{CleanerAnswer, CleanerKind, CleanerOutcome, Entry, Event};
+use lfs_volume::journal::{CleanerKind, CleanerOutcome, Entry, Event};
 use lfs_volume::volume::Volume;
 use std::alloc::Global;
 use std::process::Abort;
@@ -78,30 +81,15 @@ fn stale_info_of_a_number_given_out_again(rt: HostRuntime) {
     run_fresh(&rt, rt.alloc(), NUMBER_GIVEN_OUT_AGAIN, NONE_WRITTEN_AGAIN);
 }
 
-/// The infos of segment 0.
-pub(super) fn first_infos(rt: &impl Abort, volume: &mut Volume<LogStore>) -> InfoList {
-    let root = Cred::new(0, &[0], false).expect(rt, "a credential");
-    match volume.clean(3, &root, CleanerCall::Infos(0)) {
-        CleanerAnswer::Infos(infos) => infos,
-        _ => panic!(rt; "no infos"),
-    }
-}
-
-/// The address of the first block of file 4, by these infos.
-fn address_in(infos: &[BlockInfo]) -> Option<u32> {
-    for info in infos {
+/// The info of the first block of file 4 among those of segment 0.
+pub(super) fn first_info(rt: &impl Abort, volume: &mut Volume<LogStore>) -> BlockInfo {
+    let infos = infos_of(rt, volume, 0);
+    for info in infos.items() {
         if (info.ino, info.version, info.lbn) == (4, 1, 0) {
-            return Some(info.addr);
+            return *info;
         }
     }
-    None
-}
-
-/// That address, by the infos of segment 0, as text.
-fn first_address(rt: &impl Abort, alloc: Global, volume: &mut Volume<LogStore>) -> String {
-    let infos = first_infos(rt, volume);
-    let address = address_in(infos.items()).expect(rt, "such an info");
-    format!(in alloc; "{address}").expect(rt, "memory")
+    panic!(rt; "no such info")
 }
 
 /// A file is written, and another one made.
@@ -152,8 +140,8 @@ pub(super) fn leave_first_segment(rt: &impl Abort, alloc: Global, volume: &mut V
 fn overwritten_block_is_not_written_again(rt: HostRuntime) {
     let mut volume = fresh(&rt, rt.alloc(), SMALL);
     leave_first_segment(&rt, rt.alloc(), &mut volume);
-    let old = first_address(&rt, rt.alloc(), &mut volume);
-    overwrite_and_mark(&rt, rt.alloc(), &mut volume, old.as_str());
+    let old = first_info(&rt, &mut volume).addr;
+    overwrite_and_mark(&rt, rt.alloc(), &mut volume, Buffer::new().format(old));
 }
 
 /// The digits.

@@ -1,14 +1,13 @@
 //! What waits to be written, and what has it written: a Sync, a Markv, and a call by which more would wait than may.
 
-use super::cleaning::{infos_of, mark, root};
+use super::cleaning::{infos_of, located, mark};
 use super::run_steps_rows::leave_first_segment;
-use super::{DEFAULTS, run, run_fresh};
-use crate::tests::{SMALL, expect_eq, fresh, push, push_all, repeated};
+use super::{run, run_fresh};
+use crate::tests::{DEFAULTS, SMALL, expect_eq, fresh, push, push_all, repeated};
 use itoa::Buffer;
 use lfs_logstore::LogStore;
-use lfs_types::cleaner::{BlockInfo, CleanerCall, INODE_BLOCK, InfoList};
+use lfs_types::cleaner::{BlockInfo, INODE_BLOCK, InfoList};
 use lfs_types::store::Params;
-use lfs_volume::journal::CleanerAnswer;
 use lfs_volume::volume::Volume;
 use std::alloc::Global;
 use std::process::Abort;
@@ -111,16 +110,6 @@ fn asked(ino: u32, lbn: u32) -> BlockInfo {
     }
 }
 
-/// The present addresses of these blocks and records.
-fn located(rt: &impl Abort, volume: &mut Volume<LogStore>, asked: &[BlockInfo]) -> InfoList {
-    let infos = InfoList::new(asked).expect(rt, "infos");
-    let root = root(rt);
-    match volume.clean(3, &root, CleanerCall::Bmapv(infos)) {
-        CleanerAnswer::Bmapv(infos) => infos,
-        _ => panic!(rt; "no addresses"),
-    }
-}
-
 /// How many of these have no address.
 fn unwritten(infos: &[BlockInfo]) -> usize {
     let mut count = 0usize;
@@ -132,15 +121,8 @@ fn unwritten(infos: &[BlockInfo]) -> usize {
 
 /// Appends the two lines that write eight blocks of a file, and four behind them.
 fn push_twelve(rt: &impl Abort, script: &mut String, name: &str, eight: &str, four: &str) {
-    push(rt, script, "write /");
-    push(rt, script, name);
-    push(rt, script, " at 0 ");
-    push(rt, script, eight);
-    push(rt, script, "\nwrite /");
-    push(rt, script, name);
-    push(rt, script, " at 4096 ");
-    push(rt, script, four);
-    push(rt, script, "\n");
+    push_all(rt, script, &["write /", name, " at 0 ", eight, "\nwrite /"]);
+    push_all(rt, script, &[name, " at 4096 ", four, "\n"]);
 }
 
 /// Three files are made and synced, and twelve blocks each of the first two written.
@@ -150,12 +132,8 @@ fn twelve_blocks_each(rt: &impl Abort, alloc: Global) -> String {
         repeated(rt, alloc, "62", 2048),
     );
     let mut script = String::new(alloc);
-    push(
-        rt,
-        &mut script,
-        "session 3\ncreate /a 0644\ncreate /b 0644\n",
-    );
-    push(rt, &mut script, "create /c 0644\nsync\n");
+    let made = "session 3\ncreate /a 0644\ncreate /b 0644\ncreate /c 0644\nsync\n";
+    push(rt, &mut script, made);
     push_twelve(rt, &mut script, "a", eight.as_str(), four.as_str());
     push_twelve(rt, &mut script, "b", eight.as_str(), four.as_str());
     script
