@@ -6,7 +6,6 @@ use lfs_types::block::{BLOCK_SIZE, Block};
 use lfs_types::name::Name;
 use std::alloc::Global;
 use std::process::Abort;
-use std::test::Fail;
 
 /// A block of two entries with names of `first` bytes `a` and of `second` bytes `b`, as long as they fit.
 fn two_long_names(first: u8, second: u8) -> Block {
@@ -99,35 +98,40 @@ fn a_replaced_entry_keeps_its_place_and_name(rt: HostRuntime) {
     expect_replaced(&rt, alloc, &block, b"c", 0xfff, &block);
 }
 
+/// Bytes with which blocks begin, and how many entries these list.
+const COUNTS: [(&[u8], usize); 4] = [
+    (b"", 0),
+    (b"\x00\x00\x00\x04\x02ab", 1),
+    // No length.
+    (b"\x00\x00\x00\x04\x00\x00\x00\x00\x05\x01a", 0),
+    // No number.
+    (b"\x00\x00\x00\x00\x01a\x00\x00\x00\x05\x01b", 0),
+];
+
+/// Asserts how many entries a block lists.
+fn expect_count(rt: &impl Abort, block: &Block, count: usize) {
+    expect_eq(rt, entries(block).count(), count);
+}
+
+/// Asserts how many entries each of these lists.
+fn expect_counts(rt: &impl Abort) {
+    for (start, count) in &COUNTS {
+        expect_count(rt, &block_of(start), *count);
+    }
+    // A name up to the end, and one that runs over it.
+    expect_count(rt, &two_long_names(250, 252), 2);
+    expect_count(rt, &two_long_names(250, 253), 1);
+}
+
 #[test]
-fn entries_of_any_block_end(rt: HostRuntime) -> Result<(), Fail> {
+fn entries_of_any_block_end(rt: HostRuntime) {
     let ones = [0xff; BLOCK_SIZE];
     let mut listed = entries(&ones);
-    let (number, name) = listed.next().ok_or("no entry")?;
+    let (number, name) = listed.next().expect(&rt, "an entry");
     expect_eq(&rt, number, u32::MAX);
     expect_eq(&rt, name, [0xff; 255].as_slice());
-    assert!(rt; listed.next().is_none());
-
-    let counts = [
-        ([0; BLOCK_SIZE], 0, "zeros"),
-        (block_of(b"\x00\x00\x00\x04\x02ab"), 1, "one entry"),
-        (
-            block_of(b"\x00\x00\x00\x04\x00\x00\x00\x00\x05\x01a"),
-            0,
-            "no length",
-        ),
-        (
-            block_of(b"\x00\x00\x00\x00\x01a\x00\x00\x00\x05\x01b"),
-            0,
-            "no number",
-        ),
-        (two_long_names(250, 252), 2, "a name up to the end"),
-        (two_long_names(250, 253), 1, "a name that runs over the end"),
-    ];
-    for (block, count, what) in &counts {
-        expect_eq(&rt, entries(block).count(), *count);
-    }
-    Ok(())
+    expect_eq(&rt, listed.next().is_none(), true);
+    expect_counts(&rt);
 }
 
 /// Asserts whether a block is a directory block.

@@ -5,6 +5,7 @@ use lfs_fsck::LogFault;
 use lfs_image::{ImageFault, load, save};
 use lfs_log::Log;
 use lfs_logstore::LogStore;
+use lfs_types::fault::FormatFault;
 use lfs_types::level::Level;
 use lfs_types::store::Params;
 use std::alloc::Global;
@@ -18,32 +19,49 @@ fn expect_at(rt: &impl Abort, image: &[u8], place: usize, wanted: &[u8]) {
     }
 }
 
+/// The image of a log at the raised level.
+fn image_of(rt: &impl Abort, alloc: Global, log: &Log) -> Vec<u8> {
+    let mut image = Vec::new(alloc);
+    save(log, Level::Secure, &mut image).expect(rt, "an image");
+    image
+}
+
+/// Places of an image, and bytes that stand there: the sizes; the active segment, its blocks and the level; zeros; the label;
+/// the head of the ifile, and segment 0, which has no live bytes and is active.
+const NEW: [(usize, &[u8]); 6] = [
+    (
+        0,
+        &[0x4c, 0x46, 0x53, 0x49, 0, 0, 0, 1, 0, 0, 0, 6, 0, 0, 0, 16],
+    ),
+    (16, &[0, 0, 0, 0, 0, 0, 0, 1, 0, 0, 0, 2]),
+    (28, &[0; 484]),
+    (512, &[0x4c, 0x46, 0x53, 0x31, 0, 0, 0, 6, 0, 0, 0, 16]),
+    (197_120, &[0x4c, 0x46, 0x49, 0x46, 0, 0, 0, 6, 0, 0, 0, 16]),
+    (197_132, &[0, 0, 0, 0, 0, 0, 0, 2]),
+];
+
+/// The image of a log that was made.
+fn image_with(rt: &impl Abort, alloc: Global, made: Result<Log, FormatFault>) -> Vec<u8> {
+    match made {
+        Ok(log) => image_of(rt, alloc, &log),
+        Err(_) => panic!(rt; "no log"),
+    }
+}
+
 #[test]
 fn image_of_a_new_log(rt: HostRuntime) {
-    let log = Log::format(rt.alloc(), 6, 16).ok().expect(&rt, "a log");
-    let mut image = Vec::new(rt.alloc());
-    save(&log, Level::Secure, &mut image).expect(&rt, "an image");
+    let image = image_with(&rt, rt.alloc(), Log::format(rt.alloc(), 6, 16));
     // The head, 384 blocks, and the ifile of 252 bytes.
     expect_eq(&rt, image.len(), 512 + 196_608 + 252);
-    let sizes = [0x4c, 0x46, 0x53, 0x49, 0, 0, 0, 1, 0, 0, 0, 6, 0, 0, 0, 16];
-    expect_at(&rt, &image, 0, &sizes);
-    expect_at(&rt, &image, 16, &[0, 0, 0, 0, 0, 0, 0, 1, 0, 0, 0, 2]);
-    expect_at(&rt, &image, 28, &[0; 484]);
-    let label = [0x4c, 0x46, 0x53, 0x31, 0, 0, 0, 6, 0, 0, 0, 16];
-    expect_at(&rt, &image, 512, &label);
-    let ifile = [0x4c, 0x46, 0x49, 0x46, 0, 0, 0, 6, 0, 0, 0, 16];
-    expect_at(&rt, &image, 197_120, &ifile);
-    // Segment 0 has no live bytes, and is active.
-    expect_at(&rt, &image, 197_132, &[0, 0, 0, 0, 0, 0, 0, 2]);
+    for (place, bytes) in NEW {
+        expect_at(&rt, &image, place, bytes);
+    }
 }
 
 #[test]
 fn image_tells_the_next_serial(rt: HostRuntime) {
-    let log = Log::format_as(rt.alloc(), 6, 16, Some(258))
-        .ok()
-        .expect(&rt, "a log");
-    let mut image = Vec::new(rt.alloc());
-    save(&log, Level::Secure, &mut image).expect(&rt, "an image");
+    let made = Log::format_as(rt.alloc(), 6, 16, Some(258));
+    let image = image_with(&rt, rt.alloc(), made);
     expect_at(&rt, &image, 24, &[0, 0, 0, 2, 0, 0, 1, 2]);
     expect_at(&rt, &image, 32, &[0; 480]);
 }
@@ -51,9 +69,7 @@ fn image_tells_the_next_serial(rt: HostRuntime) {
 /// The image of a new volume of 6 segments and 16 inode numbers.
 fn fresh(rt: &impl Abort, alloc: Global) -> Vec<u8> {
     let store = fresh_log(rt, alloc);
-    let mut image = Vec::new(alloc);
-    save(&store.parts().log, Level::Secure, &mut image).expect(rt, "an image");
-    image
+    image_of(rt, alloc, &store.parts().log)
 }
 
 /// The image of such a volume whose summaries have serials.
@@ -64,12 +80,10 @@ fn fresh_with_serials(rt: &impl Abort, alloc: Global) -> Vec<u8> {
         frames: 32,
         journal: 1,
     };
-    let mut image = Vec::new(alloc);
     match LogStore::format_with_serials(alloc, params) {
-        Ok(store) => save(&store.parts().log, Level::Secure, &mut image).expect(rt, "an image"),
+        Ok(store) => image_of(rt, alloc, &store.parts().log),
         Err(_) => panic!(rt; "no store"),
     }
-    image
 }
 
 /// Asserts that some bytes are the image of no store, and why.
@@ -94,17 +108,35 @@ fn expect_told(
     image[place] = kept;
 }
 
+/// What a store that is loaded from an image shows: its level, the next address and the next serial of its log.
+type Shown = (Level, u32, Option<u32>);
+
+/// What a log shows at a level, and its image.
+fn shown_and_saved(rt: &impl Abort, alloc: Global, log: &Log, level: Level) -> (Shown, Vec<u8>) {
+    let mut image = Vec::new(alloc);
+    save(log, level, &mut image).expect(rt, "an image");
+    ((level, log.next_address(), log.serial()), image)
+}
+
+/// Loads an image and saves it again. Gives what its store shows, and the image that is saved.
+fn saved_again(rt: &impl Abort, alloc: Global, image: &[u8]) -> (Shown, Vec<u8>) {
+    match load(alloc, image, 32) {
+        Ok((store, level)) => shown_and_saved(rt, alloc, &store.parts().log, level),
+        Err(_) => panic!(rt; "not loaded"),
+    }
+}
+
+/// Asserts what a store shows that is loaded from an image, which it is saved as again.
+fn expect_loaded(rt: &impl Abort, alloc: Global, image: &[u8], wanted: Shown) {
+    let (shown, again) = saved_again(rt, alloc, image);
+    expect_eq(rt, shown, wanted);
+    expect_bytes(rt, &again, image);
+}
+
 #[test]
 fn image_of_a_new_volume_is_loaded(rt: HostRuntime) {
     let image = fresh(&rt, rt.alloc());
-    let Ok((store, level)) = load(rt.alloc(), &image, 32) else {
-        panic!(rt; "not loaded");
-    };
-    expect_eq(&rt, level, Level::Secure);
-    expect_eq(&rt, store.parts().log.next_address(), 3);
-    let mut again = Vec::new(rt.alloc());
-    save(&store.parts().log, level, &mut again).expect(&rt, "an image");
-    expect_bytes(&rt, &again, &image);
+    expect_loaded(&rt, rt.alloc(), &image, (Level::Secure, 3, None));
 }
 
 #[test]
@@ -117,50 +149,58 @@ fn image_with_serials_is_loaded(rt: HostRuntime) {
         0xff, 0xff, 0xff,
     ];
     expect_at(&rt, &image, 1024, &summary);
-    let Ok((store, level)) = load(rt.alloc(), &image, 32) else {
-        panic!(rt; "not loaded");
-    };
-    expect_eq(&rt, store.parts().log.serial(), Some(2));
-    let mut again = Vec::new(rt.alloc());
-    save(&store.parts().log, level, &mut again).expect(&rt, "an image");
-    expect_bytes(&rt, &again, &image);
+    expect_loaded(&rt, rt.alloc(), &image, (Level::Secure, 3, Some(2)));
+}
+
+/// What the image of a new volume is called where the byte of this place has this value.
+const HEAD: [(usize, u8, ImageFault); 9] = [
+    (0, 0, ImageFault::Mark),
+    (7, 2, ImageFault::Form),
+    (11, 5, ImageFault::Segments { number: 5 }),
+    (15, 15, ImageFault::Inodes { number: 15 }),
+    (19, 6, ImageFault::Active { segment: 6 }),
+    (23, 65, ImageFault::Used { blocks: 65 }),
+    (27, 4, ImageFault::Securelevel { number: 4 }),
+    // Its summaries would have serials, and the first one has none.
+    (
+        31,
+        1,
+        ImageFault::Log {
+            fault: LogFault::Unfinished { segment: 0 },
+        },
+    ),
+    (32, 1, ImageFault::Gap),
+];
+
+/// The same of what stands behind the head.
+const BEHIND: [(usize, u8, ImageFault); 5] = [
+    // A segment more: the image ends too early. A segment less would go on.
+    (11, 7, ImageFault::Short),
+    // The label's mark, the ifile's, the active segment's state.
+    (512, 0, ImageFault::Label),
+    (197_120, 0, ImageFault::IfileHead),
+    (197_139, 9, ImageFault::IfileSegment { segment: 0 }),
+    (197_139, 1, ImageFault::Apart),
+];
+
+/// Asserts what the image of a new volume is called with each of these bytes.
+fn expect_each_told(rt: &impl Abort, alloc: Global, table: &[(usize, u8, ImageFault)]) {
+    let mut image = fresh(rt, alloc);
+    for (place, byte, wanted) in table {
+        expect_told(rt, alloc, &mut image, *place, *byte, *wanted);
+    }
 }
 
 #[test]
 fn bytes_of_a_head_are_told(rt: HostRuntime) {
-    let mut image = fresh(&rt, rt.alloc());
-    let alloc = rt.alloc();
-    expect_told(&rt, alloc, &mut image, 0, 0, ImageFault::Mark);
-    expect_told(&rt, alloc, &mut image, 7, 2, ImageFault::Form);
-    let segments = ImageFault::Segments { number: 5 };
-    expect_told(&rt, alloc, &mut image, 11, 5, segments);
-    let inodes = ImageFault::Inodes { number: 15 };
-    expect_told(&rt, alloc, &mut image, 15, 15, inodes);
-    let active = ImageFault::Active { segment: 6 };
-    expect_told(&rt, alloc, &mut image, 19, 6, active);
-    let used = ImageFault::Used { blocks: 65 };
-    expect_told(&rt, alloc, &mut image, 23, 65, used);
-    let level = ImageFault::Securelevel { number: 4 };
-    expect_told(&rt, alloc, &mut image, 27, 4, level);
-    // Its summaries would have serials, and the first one has none.
-    let fault = LogFault::Unfinished { segment: 0 };
-    expect_told(&rt, alloc, &mut image, 31, 1, ImageFault::Log { fault });
-    expect_told(&rt, alloc, &mut image, 32, 1, ImageFault::Gap);
+    expect_each_told(&rt, rt.alloc(), &HEAD);
 }
 
 #[test]
 fn bytes_behind_a_head_are_told(rt: HostRuntime) {
+    expect_each_told(&rt, rt.alloc(), &BEHIND);
     let mut image = fresh(&rt, rt.alloc());
-    let alloc = rt.alloc();
-    // A segment more: the image ends too early. A segment less would go on.
-    expect_told(&rt, alloc, &mut image, 11, 7, ImageFault::Short);
-    // The label's mark, the ifile's, the active segment's state.
-    expect_told(&rt, alloc, &mut image, 512, 0, ImageFault::Label);
-    expect_told(&rt, alloc, &mut image, 197_120, 0, ImageFault::IfileHead);
-    let state = ImageFault::IfileSegment { segment: 0 };
-    expect_told(&rt, alloc, &mut image, 197_139, 9, state);
-    expect_told(&rt, alloc, &mut image, 197_139, 1, ImageFault::Apart);
     image.push(0).expect(&rt, "a byte");
-    expect_fault(&rt, alloc, &image, ImageFault::Long);
-    expect_fault(&rt, alloc, &[], ImageFault::Short);
+    expect_fault(&rt, rt.alloc(), &image, ImageFault::Long);
+    expect_fault(&rt, rt.alloc(), &[], ImageFault::Short);
 }

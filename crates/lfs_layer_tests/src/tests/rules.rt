@@ -264,10 +264,14 @@ fn owner_may_give_the_group_to_one_of_his_groups(rt: HostRuntime) {
     );
 }
 
+/// Whether a user passes as the owner of user 7's file.
+fn owns(rt: &impl Abort, uid: u32) -> bool {
+    is_owner(&file(rt, 7, 7, 0o644, 0), &user(rt, uid, &[7], false))
+}
+
 #[test]
 fn the_superuser_passes_as_owner(rt: HostRuntime) {
-    let attrs = file(&rt, 7, 7, 0o644, 0);
-    for (uid, want) in [(7, true), (0, true), (8, false)] {
-        expect_eq(&rt, is_owner(&attrs, &user(&rt, uid, &[7], false)), want);
-    }
+    expect_eq(&rt, owns(&rt, 7), true);
+    expect_eq(&rt, owns(&rt, 0), true);
+    expect_eq(&rt, owns(&rt, 8), false);
 }

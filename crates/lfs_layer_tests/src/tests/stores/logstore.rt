@@ -46,6 +46,12 @@ fn root_info(addr: u32) -> BlockInfo {
     info(2, 1, INODE_BLOCK, addr)
 }
 
+/// A fresh store of six segments. It lies in memory of its own, since a function that holds a value of so many parts takes
+/// the prover seconds.
+fn fresh(rt: &impl Abort, alloc: Global) -> Box<LogStore> {
+    Box::new(alloc, fresh_log(rt, alloc)).expect(rt, "memory")
+}
+
 /// Asserts how many segments are clean.
 fn expect_clean(rt: &impl Abort, store: &LogStore, segments: u32) {
     expect_eq(rt, store.clean_segments(), segments);
@@ -85,7 +91,7 @@ fn attrs_of(rt: &impl Abort, kind: Kind, mode: u16) -> Attrs
 
 #[test]
 fn a_fresh_store_has_the_root_alone(rt: HostRuntime) {
-    let mut store = fresh_log(&rt, rt.alloc());
+    let mut store = fresh(&rt, rt.alloc());
     let root = attrs_of(&rt, Kind::Directory, 0o755);
     expect_eq(&rt, store.attrs(2), Some(root));
     for ino in [0, 1, 3, 4, 15, 16, u32::MAX] {
@@ -96,12 +102,17 @@ fn a_fresh_store_has_the_root_alone(rt: HostRuntime) {
     expect_eq(&rt, store.sync().is_ok(), true);
 }
 
+/// Reads the root's bytes, and gives how many there were.
+fn read_root(rt: &impl Abort, store: &mut LogStore, buffer: &mut [u8]) -> usize {
+    assert!(rt; store.attrs(2).is_some());
+    store.read(2, 0, buffer)
+}
+
 #[test]
 fn a_fresh_root_has_no_bytes(rt: HostRuntime) {
-    let mut store = fresh_log(&rt, rt.alloc());
-    assert!(rt; store.attrs(2).is_some());
+    let mut store = fresh(&rt, rt.alloc());
     let mut buffer = [7; 4];
-    expect_eq(&rt, store.read(2, 0, &mut buffer), 0);
+    expect_eq(&rt, read_root(&rt, &mut store, &mut buffer), 0);
     expect_eq(&rt, buffer, [7; 4]);
 }
 
@@ -117,15 +128,16 @@ fn expect_usage(rt: &impl Abort, bytes: &[u8], segment: u32, live: u32, state: S
 
 #[test]
 fn the_ifile_has_an_entry_for_each_segment_and_number(rt: HostRuntime) {
-    let small = ifile_of(&rt, &fresh_log(&rt, rt.alloc()));
+    let small = ifile_of(&rt, &fresh(&rt, rt.alloc()));
     expect_eq(&rt, small.len(), 252);
     expect_usage(&rt, &small, 0, 128, SegState::Active);
     expect_usage(&rt, &small, 5, 0, SegState::Clean);
 }
 
 /// The store of a larger volume.
-fn larger(rt: &impl Abort, alloc: Global) -> LogStore {
-    LogStore::format(alloc, params(64, 256, 32)).expect(rt, "a store")
+fn larger(rt: &impl Abort, alloc: Global) -> Box<LogStore> {
+    let store = LogStore::format(alloc, params(64, 256, 32)).expect(rt, "a store");
+    Box::new(alloc, store).expect(rt, "memory")
 }
 
 #[test]
@@ -164,7 +176,7 @@ fn segments_that_are_not_dirty_are_refused(rt: HostRuntime) {
 
 #[test]
 fn infos_get_their_present_address(rt: HostRuntime) {
-    let store = fresh_log(&rt, rt.alloc());
+    let store = fresh(&rt, rt.alloc());
     let mut infos = [
         root_info(77),
         info(2, 2, INODE_BLOCK, 2),
@@ -228,11 +240,17 @@ fn make_file(rt: &impl Abort, store: &mut LogStore)
     store.apply(&made, Reserve::Users).expect(rt, "room");
 }
 
-/// A store of six segments. The first two are dirty: the first has the record of file 4 at block 4, the second has nothing
-/// that is live. The third is the active one, with the root's record.
-fn written_twice(rt: &impl Abort, alloc: Global) -> LogStore {
+/// A store of six segments with file 4, which waits.
+fn with_file(rt: &impl Abort, alloc: Global) -> Box<LogStore> {
     let mut store = fresh_log(rt, alloc);
     make_file(rt, &mut store);
+    Box::new(alloc, store).expect(rt, "memory")
+}
+
+/// A store of six segments. The first two are dirty: the first has the record of file 4 at block 4, the second has nothing
+/// that is live. The third is the active one, with the root's record.
+fn written_twice(rt: &impl Abort, alloc: Global) -> Box<LogStore> {
+    let mut store = with_file(rt, alloc);
     move_root(rt, &mut store, &FIRST[..1]);
     move_root(rt, &mut store, &FIRST[2..]);
     move_root(rt, &mut store, &SECOND);
@@ -271,7 +289,7 @@ fn a_dirty_segment_without_live_bytes_becomes_clean(rt: HostRuntime) {
 
 #[test]
 fn a_marked_record_moves(rt: HostRuntime) {
-    let mut store = fresh_log(&rt, rt.alloc());
+    let mut store = fresh(&rt, rt.alloc());
     let root = root_info(2);
     let named = [root, info(2, 2, INODE_BLOCK, 2), root, info(2, 1, 0, 2)];
     mark(&rt, &mut store, &named, 1);
@@ -297,8 +315,7 @@ fn expect_record_at(rt: &impl Abort, store: &LogStore, addr: u32) {
 
 #[test]
 fn a_new_file_has_no_address_before_a_sync(rt: HostRuntime) {
-    let mut store = fresh_log(&rt, rt.alloc());
-    make_file(&rt, &mut store);
+    let mut store = with_file(&rt, rt.alloc());
     expect_row(&rt, &store, [0, 0, 0, 0, 0, 0, 0, 1, 0, 0, 0, 1]);
     expect_record_at(&rt, &store, 0);
     expect_eq(&rt, store.sync().is_ok(), true);

@@ -156,7 +156,7 @@ fn expect_syncs(rt: &impl Abort, script: &Script, callers: &[Cred]) {
     expect_eq(rt, calls.len(), callers.len());
     for ((cred, request), caller) in calls.iter().zip(callers) {
         expect_eq(rt, cred, caller);
-        expect_eq(rt, request, &Request::Sync);
+        expect_eq(rt, matches!(request, Request::Sync), true);
     }
 }
 
