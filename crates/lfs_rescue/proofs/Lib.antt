@@ -1,3 +1,4 @@
 pub mod AgainLemmas
 pub mod BlocksLemmas
+pub mod ContentLemmas
 pub mod RecoverLemmas

@@ -5,6 +5,8 @@ ghost use Rattle.lfs_types.specs.Ranges.{least_frames, most_frames};
 ghost use Rattle.lfs_calls.specs.Volumes.{HasWorld};
 ghost use Rattle.lfs_logstore.specs.States.{state_of};
 ghost use Rattle.lfs_fsck.specs.Stored.{IsStored, stored};
+ghost use Rattle.lfs_image.specs.Image.{IsLabelled};
+ghost use Rattle.lfs_rescue.specs.Contents.{FindsAllOf};
 ghost use Rattle.lfs_rescue.specs.Recovering.{IsLastOf, IsOther, IsRecovered, IsRecoverFaultOf};
 ghost use Rattle.lfs_rescue.specs.Recovering.{TellsTheSame, last_serial, later};
 
@@ -40,6 +42,9 @@ pub fn recover(
     ensures recovered { IfOk result (λ store. IsRecovered memory.now store.log) }
     // Its blocks tell the same, so it can be recovered again.
     ensures again { IfOk result (λ store. TellsTheSame memory.now store.log.memory) }
+    ensures labelled { IfOk result (λ store. IsLabelled store.log) }
+    // It contains what the store contained whose blocks these are, where all of that lay in them.
+    ensures content { IfOk result (FindsAllOf memory.now) }
     ensures stored { IfOk result (λ store. IsStored store.log) }
     ensures flushed { IfOk result (λ store. store ≡ stored frames store.log) }
     ensures world { IfOk result (λ store. HasWorld (state_of store)) }
@@ -107,6 +112,7 @@ fn store_in(alloc: Global, image: &[u8], frames: u32) -> Result<LogStore, Recove
     ensures stored { IfOk result (λ store. IsStored store.log) }
     ensures flushed { IfOk result (λ store. store ≡ stored frames store.log) }
     ensures world { IfOk result (λ store. HasWorld (state_of store)) }
+    ensures labelled { IfOk result (λ store. IsLabelled store.log) }
     ensures fault { IfErr result IsOther }
 {
     match load_volume(alloc, image, frames) {

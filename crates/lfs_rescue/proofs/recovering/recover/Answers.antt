@@ -1,12 +1,15 @@
-use Rattle.std.proofs.Common.{◌≡◌, ◌↔◌, ℕ, Bool, true, false, List, Option, Some, None, get_or, sym, subst}
+use Rattle.std.proofs.Common.{◌≡◌, ◌↔◌, ℕ, Bool, true, false, List, Option, Some, None, get_or, refl, sym, subst}
 use Rattle.std.proofs.lemmas.Result.{err_from_is_err_and}
 use Rattle.std.specs.Prelude.{IfErr}
 use Rattle.lfs_parts.specs.declared.parts.Parts.{Parts}
+use Rattle.lfs_parts.specs.Store.{IsFlushed, IsStore}
+use Rattle.lfs_fsck.specs.Stored.{stored}
 use Rattle.lfs_recovery.specs.declared.places.PartialSegment.{PartialSegment}
 use Rattle.lfs_recovery.specs.declared.places.RecordPlace.{RecordPlace}
 use Rattle.lfs_reach.specs.Reach.{Reaches}
 use Rattle.lfs_rescue.specs.Recovering.{AreAt, IsLastOf, IsRecovered, IsRecoverFaultOf}
 use Rattle.lfs_rescue.proofs.AgainLemmas.{recovered_same}
+use Rattle.lfs_rescue.proofs.ContentLemmas.{finds_all}
 use Rattle.lfs_rescue.proofs.RecoverLemmas.{is_recovered, listed_logged, logged_listed}
 use Rattle.lfs_rescue.proofs.recovering.recover.Goals as goal
 
@@ -43,6 +46,16 @@ pub returns-clause-again : goal.returns-clause-again
 returns-clause-again c =
     recovered_same c.args.memory.now _ c.in_ok-partials.partials.items c.in_ok-partials.ensures.logs
     (returns-clause-recovered c)
+
+pub returns-clause-content : goal.returns-clause-content
+returns-clause-content c =
+    let frames = c.args.frames in
+    let l = c.in_ok-store.store.log in
+    let flushed = c.in_ok-store.ensures.flushed in
+    let is : IsStore (stored frames l) = c.in_ok-store.ensures.stored frames in
+    finds_all c.args.memory.now c.in_ok-store.store (returns-clause-recovered c) c.in_ok-store.ensures.labelled
+    (subst (λ (p : Parts). IsStore p) (sym flushed) is)
+    (subst (λ (p : Parts). IsFlushed p) (sym flushed) (record { no_record = refl; no_frame = refl }))
 
 pub returns-in_default-clause-fault : goal.returns-in_default-clause-fault
 returns-in_default-clause-fault c =

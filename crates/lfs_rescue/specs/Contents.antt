@@ -1,0 +1,14 @@
+-- What is found contains what the store contained.
+use Rattle.std.specs.Prelude.{◌≡◌}
+use Rattle.lfs_segments.specs.Memory.{SegmentMemory}
+use Rattle.lfs_parts.specs.declared.parts.Parts.{Parts}
+use Rattle.lfs_parts.specs.Files.{content_of}
+use Rattle.lfs_logstore.specs.States.{state_of}
+use Rattle.lfs_calls.specs.Volumes.{HasWorld}
+use Rattle.lfs_durable.specs.Names.{IsDurable}
+
+-- A store found in a memory contains what the store contained whose blocks these are, where all of it lay in them and it
+-- showed a tree.
+abbrev pub FindsAllOf : SegmentMemory → Parts → Type 0
+FindsAllOf m found = (p : Parts) → IsDurable p → HasWorld (state_of p) → p.log.memory ≡ m
+    → content_of found ≡ content_of p
