@@ -2,6 +2,8 @@ pub mod BlockLemmas
 pub mod LabelLemmas
 pub mod PlaceLemmas
 pub mod EntryLemmas
-pub mod NameLemmas
+pub mod SparedLemmas
 pub mod EndLemmas
+pub mod OwnLemmas
+pub mod NameLemmas
 pub mod ContentLemmas

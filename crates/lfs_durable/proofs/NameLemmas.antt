@@ -1,7 +1,7 @@
 -- Names lead to a number exactly where it is in use (`finds_names`). A directory's record and its whole blocks are for recovery
 -- what they are for the store, so what one of its blocks lists is a row of the tree, and so in use (`listed_used`); and each
 -- row's parent is a directory that lists it. The rows above lead to the root, so names lead down to it (`reach_down`).
-use Rattle.std.proofs.Common.{◌≡◌, ℕ, zero, suc, ◌/◌, ◌%◌, ◌<◌, inl, inr, true, List, length, get_or, Option, None}
+use Rattle.std.proofs.Common.{◌≡◌, ◌↔◌, ℕ, zero, suc, ◌/◌, ◌%◌, ◌<◌, inl, inr, true, List, length, get_or, Option, None}
 use Rattle.std.proofs.Common.{Some, refl, sym, ap, subst, ◌∙◌, arith}
 use Rattle.std.specs.FinMap as map
 use Rattle.std.specs.List.{Contains}
@@ -22,7 +22,7 @@ use Rattle.lfs_parts.specs.declared.parts.Parts.{Parts}
 use Rattle.lfs_parts.specs.Files.{content_of, file_with}
 use Rattle.lfs_parts.specs.View as view
 use Rattle.lfs_parts.specs.View.{tree_of}
-use Rattle.lfs_parts.proofs.FileLemmas.{bytes_of-record, file_at-some, free_shown, get-content_of}
+use Rattle.lfs_parts.proofs.FileLemmas.{bytes_of-record, record_used, file_at-some, free_shown, get-content_of}
 use Rattle.lfs_parts.proofs.SameLogLemmas.{used_low}
 use Rattle.lfs_dirs.specs.Directory.{AreEntries, number_in}
 use Rattle.lfs_dirs.specs.Reading.{entries_of}
@@ -33,19 +33,17 @@ use Rattle.lfs_calls.specs.Content.{IsDirectoryAt, Shows, all_entries, block_at}
 use Rattle.lfs_calls.proofs.ListedNames.{number-child}
 use Rattle.lfs_calls.proofs.Visible.{shown_of, stored_of}
 use Rattle.lfs_reach.specs.Reach.{IsListed, IsNamedBy, Reaches, begins, bytes_at, file_address, goes, record_of}
-use Rattle.lfs_durable.specs.Alike.{ReadsAlike}
 use Rattle.lfs_durable.specs.Names.{AreNewest, FindsNames, IsDurable}
-use Rattle.lfs_durable.proofs.BlockLemmas.{finds_blocks}
+use Rattle.lfs_durable.specs.Spared.{Spares}
 use Rattle.lfs_durable.proofs.EntryLemmas.{in_all, in_block}
-use Rattle.lfs_durable.proofs.PlaceLemmas.{read_there}
+use Rattle.lfs_durable.proofs.OwnLemmas.{own_spared}
+use Rattle.lfs_durable.proofs.SparedLemmas.{read_in, shown_in}
 
 abbrev pub IsUsed : Parts → ℕ → Type 0
 IsUsed p number = (row_of p.log.tables number).used ≡ true
 
-module _ (p : Parts) (d : IsDurable p) (w : World) (shows : Shows (content_of p) w) (tree : IsTree w.rows) where
-  abbrev m : SegmentMemory
-  m = p.log.memory
-
+module _ (p : Parts) (m : SegmentMemory) (d : IsDurable p) (spares : Spares p m) (w : World) (shows : Shows (content_of p) w)
+    (tree : IsTree w.rows) where
   -- a number with a row is in use
   row_used : (number : ℕ) (r : Row) → map.get w.rows number ≡ Some r → IsUsed p number
   row_used number r is =
@@ -85,8 +83,7 @@ module _ (p : Parts) (d : IsDurable p) (w : World) (shows : Shows (content_of p)
     block_is index within =
         let at_most = (d.store.whole.files dir f is).formed.sized.0 in
         let multiple = whole in
-        let alike : ReadsAlike p dir f index = finds_blocks p dir index f d.store d.flushed is (omega arith) in
-        alike.shown (omega arith)
+        shown_in p m d spares dir f (used_low p dir (record_used p dir f is)) is index (omega arith) (omega arith)
 
     listed_used : (number index : ℕ) → index < block_count f.attributes.size
         → IsListed (entries_of (bytes_at m (file_address m f index))) number → IsUsed p number
@@ -131,7 +128,7 @@ module _ (p : Parts) (d : IsDurable p) (w : World) (shows : Shows (content_of p)
     read_of number used =
         let low = used_low p number used in
         let most = d.store.whole.parts.formed.inodes_most in
-        read_there p d number used (get_or places number None) (newest.each number (omega arith))
+        read_in p m d spares number used (get_or places number None) (newest.each number (omega arith))
 
     reach_used : (number : ℕ) → Reaches m places number → IsUsed p number
     reach_used number begins = let top = some_and (map.get w.rows 2) _ tree.rooted in row_used 2 top.value top.is
@@ -172,8 +169,15 @@ module _ (p : Parts) (d : IsDurable p) (w : World) (shows : Shows (content_of p)
         let up = tree.reached number row.row row.there in
         reach_down up.0 number row.row row.there up.1
 
-pub finds_names : FindsNames
-finds_names p w places number d shows tree newest = (
-  reach_used p d w shows tree places newest number,
-  reach_all p d w shows tree places newest number,
+-- in a memory that spares the store
+pub finds_spared_names : (p : Parts) (m : SegmentMemory) (w : World) (places : List (Option RecordPlace)) (number : ℕ)
+    → IsDurable p → Spares p m → Shows (content_of p) w → IsTree w.rows → AreNewest m places
+    → Reaches m places number ↔ IsUsed p number
+finds_spared_names p m w places number d spares shows tree newest = (
+  reach_used p m d spares w shows tree places newest number,
+  reach_all p m d spares w shows tree places newest number,
 )
+
+pub finds_names : FindsNames
+finds_names p w places number d shows tree newest =
+    finds_spared_names p p.log.memory w places number d (own_spared p d) shows tree newest

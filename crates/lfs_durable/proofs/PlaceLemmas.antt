@@ -57,7 +57,7 @@ module _ (p : Parts) (d : IsDurable p) (number : ℕ) (used : (row_of p.log.tabl
   pub logged : view.record_of p number ≡ fields_in (slot_of (block_at m row.address) row.slot)
   logged = record_of-logged p number _ (cond-true _ _ _ used) none_waits
 
-  low_slot : row.slot < 4
+  pub low_slot : row.slot < 4
   low_slot = (d.store.whole.parts.formed.each_row number fresh_row (used_low p number used)).slot
 
   pub some_address : row.address ≢ 0
@@ -90,29 +90,32 @@ module _ (p : Parts) (d : IsDurable p) (number : ℕ) (used : (row_of p.log.tabl
         slot = omega arith;
       }
 
-  -- recovery reads the record that the store has
-  read_here : (s : RecordPlace) → s.address ≡ row.address → s.slot ≡ row.slot → record_of m (Some s) ≡ view.record_of p number
-  unfolding record_of
-  read_here s address slot =
-      let formed = d.store.whole.parts.formed.each_row number fresh_row (used_low p number used) in
-      let row_below = formed.address in
-      let agree = d.store.whole.parts.agree in
-      let low = low_slot in
-      let some : s.address ≢ 0 = λ none. some_address (sym address ∙ none) in
-      let own : s.slot < 4 = omega arith in
-      let below : s.address < m.segments * 64 = omega arith in
-      let bytes : bytes_at m s.address ≡ block_at m s.address =
-      inside m s.address below ∙ cond-false _ zero_block (block_at m s.address) (ne_eqb s.address 0 some) in
-      cond-true _ (fields_in (slot_of (bytes_at m s.address) s.slot)) None (lt-ltb s.slot 4 own)
-      ∙ ap (λ (b : List ℕ). fields_in (slot_of b s.slot)) bytes
-      ∙ ap (λ (a : ℕ). fields_in (slot_of (block_at m a) s.slot)) address
-      ∙ ap (λ (k : ℕ). fields_in (slot_of (block_at m row.address) k)) slot ∙ sym logged
+  -- recovery reads the record that the store has, in each memory that has its block
+  module _ (n : SegmentMemory) (segments : n.segments ≡ m.segments) (kept : block_at n row.address ≡ block_at m row.address) where
+    read_here : (s : RecordPlace) → s.address ≡ row.address → s.slot ≡ row.slot
+        → record_of n (Some s) ≡ view.record_of p number
+    unfolding record_of
+    read_here s address slot =
+        let formed = d.store.whole.parts.formed.each_row number fresh_row (used_low p number used) in
+        let row_below = formed.address in
+        let agree = d.store.whole.parts.agree in
+        let low = low_slot in
+        let some : s.address ≢ 0 = λ none. some_address (sym address ∙ none) in
+        let own : s.slot < 4 = omega arith in
+        let below : s.address < n.segments * 64 = omega arith in
+        let bytes : bytes_at n s.address ≡ block_at n s.address =
+        inside n s.address below ∙ cond-false _ zero_block (block_at n s.address) (ne_eqb s.address 0 some) in
+        cond-true _ (fields_in (slot_of (bytes_at n s.address) s.slot)) None (lt-ltb s.slot 4 own)
+        ∙ ap (λ (b : List ℕ). fields_in (slot_of b s.slot)) bytes
+        ∙ ap (λ (a : ℕ). fields_in (slot_of (block_at n a) s.slot)) address
+        ∙ ap (λ (b : List ℕ). fields_in (slot_of b s.slot)) kept
+        ∙ ap (λ (k : ℕ). fields_in (slot_of (block_at m row.address) k)) slot ∙ sym logged
 
-  pub read_there : (o : Option RecordPlace) → IsNewest m number o → record_of m o ≡ view.record_of p number
-  read_there o newest =
-      let s = there in
-      let f : IsFindable m d.next = d.recoverable.to d.next d.serial d.bound in
-      ap (record_of m) (newest_one m d.next number o s.newest f newest s.found) ∙ read_here s.newest s.address s.slot
+    pub read_there : (o : Option RecordPlace) → IsNewest m number o → record_of n o ≡ view.record_of p number
+    read_there o newest =
+        let s = there in
+        let f : IsFindable m d.next = d.recoverable.to d.next d.serial d.bound in
+        ap (record_of n) (newest_one m d.next number o s.newest f newest s.found) ∙ read_here s.newest s.address s.slot
 
 pub finds_record_of_each : FindsRecordOfEach
 finds_record_of_each p number d used =

@@ -1,3 +1,4 @@
 pub mod Alike
 pub mod Contents
 pub mod Names
+pub mod Spared

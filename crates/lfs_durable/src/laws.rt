@@ -3,6 +3,7 @@
 ghost use Rattle.lfs_durable.specs.Alike.{FindsBlocks};
 ghost use Rattle.lfs_durable.specs.Contents.{FindsContent};
 ghost use Rattle.lfs_durable.specs.Names.{FindsNames, FindsRecordOfEach};
+ghost use Rattle.lfs_durable.specs.Spared.{FindsSpared};
 
 /// Of a store of which nothing waits recovery reads each block of a file as the store does, by the file's record and the
 /// blocks of the log alone.
@@ -23,4 +24,9 @@ pub fn finds_names()
 /// So what stands on what recovery finds of the store contains what the store contained.
 pub fn finds_content()
     ensures { FindsContent }
+{}
+
+/// And so it does where the blocks are another memory's that spares the store.
+pub fn finds_spared()
+    ensures { FindsSpared }
 {}
