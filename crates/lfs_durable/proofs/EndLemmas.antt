@@ -1,4 +1,4 @@
--- Behind the partial segment of the highest serial its segment's log names nothing (`nothing_past`). A summary is expected
+-- Behind the partial segment of a segment's highest serial its log names nothing (`nothing_past`). A summary is expected
 -- there. One that stood there would begin a partial segment with a higher serial, and where none stands the log has ended.
 use Rattle.std.proofs.Common.{◌≡◌, ℕ, ◌+◌, ◌*◌, ◌/◌, ◌<◌, ◌≤◌, [], Bool, Option, None, Some, length, option_map}
 use Rattle.std.proofs.Common.{refl, sym, ap, ◌∙◌, ⊎_elim, arith}
@@ -17,7 +17,7 @@ use Rattle.lfs_found.proofs.ChainLemmas.{expected-next, expects_in, finds_all, f
 use Rattle.lfs_durable.specs.Contents.{IsPast}
 
 module _ (m : SegmentMemory) (next : ℕ) (f : IsFindable m next) (last : PartialSegment) (logged : IsLogged m last)
-    (latest : (p : PartialSegment) → IsLogged m p → p.serial ≤ last.serial) where
+    (latest : (p : PartialSegment) → IsLogged m p → p.address / 64 ≡ last.address / 64 → p.serial ≤ last.serial) where
   abbrev segment : ℕ
   segment = last.address / 64
 
@@ -43,9 +43,9 @@ module _ (m : SegmentMemory) (next : ℕ) (f : IsFindable m next) (last : Partia
       let from : first_of segment ≤ last.address = e.0 in
       let s = summary_at m segment end t (omega arith) (omega arith) low at_end told in
       let q : PartialSegment = record { serial = t.serial; address = end; count = length t.entries } in
-      let no_higher = latest q (finds_all m next q f.kind f.rising f.whole
-      (record { told = t; summary = s; serial = refl; count = refl })) in
       let here : last.address / 64 ≡ end / 64 = omega arith in
+      let no_higher = latest q (finds_all m next q f.kind f.rising f.whole
+      (record { told = t; summary = s; serial = refl; count = refl })) (sym here) in
       let higher = f.rising.rises last.address end b.told t b.summary s here (omega arith) in
       let serial = b.serial in
       absurd (omega arith)

@@ -7,3 +7,5 @@ pub mod EndLemmas
 pub mod OwnLemmas
 pub mod NameLemmas
 pub mod ContentLemmas
+pub mod ChainLemmas
+pub mod CrashLemmas

@@ -44,6 +44,7 @@ own_spared p d = record {
   newest = λ number o used is. is;
   ends = λ last logged latest address held past.
       let named = held_named p d address held in
-      nothing_past p.log.memory d.next (d.recoverable.to d.next d.serial d.bound) last logged latest address named.entry
+      nothing_past p.log.memory d.next (d.recoverable.to d.next d.serial d.bound) last logged
+      (λ s is here. latest s is) address named.entry
       named.named past;
 }

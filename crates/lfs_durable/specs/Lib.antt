@@ -1,4 +1,5 @@
 pub mod Alike
 pub mod Contents
+pub mod Crashes
 pub mod Names
 pub mod Spared

@@ -2,6 +2,7 @@
 
 ghost use Rattle.lfs_durable.specs.Alike.{FindsBlocks};
 ghost use Rattle.lfs_durable.specs.Contents.{FindsContent};
+ghost use Rattle.lfs_durable.specs.Crashes.{CrashSpares, FindsAfterCrash};
 ghost use Rattle.lfs_durable.specs.Names.{FindsNames, FindsRecordOfEach};
 ghost use Rattle.lfs_durable.specs.Spared.{FindsSpared};
 
@@ -29,4 +30,14 @@ pub fn finds_content()
 /// And so it does where the blocks are another memory's that spares the store.
 pub fn finds_spared()
     ensures { FindsSpared }
+{}
+
+/// What a crash leaves, between any two block writes of a flush, spares the store.
+pub fn crash_spares()
+    ensures { CrashSpares }
+{}
+
+/// So what stands on what recovery finds there contains what the store contained before that flush.
+pub fn finds_after_crash()
+    ensures { FindsAfterCrash }
 {}

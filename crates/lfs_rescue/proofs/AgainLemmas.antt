@@ -1,74 +1,24 @@
 -- What is recovered tells the same: where blocks are kept up to the end of the last partial segment of the highest serial,
 -- and zeros stand behind it, the logs have the same partial segments (`logged_kept`, `kept_logged`), and each number the
 -- same newest record (`tells_same`, `recovered_same`).
-use Rattle.std.proofs.Common.{◌≡◌, ◌≢◌, ◌↔◌, ◌⊎◌, ℕ, zero, suc, ◌+◌, ◌*◌, ◌/◌, ◌<◌, ◌≤◌, List, [], ◌∷◌, ◌++◌, Option, Some, Bool, true, false, ◌==◌}
-use Rattle.std.proofs.Common.{None, length, get_or, inl, inr, refl, sym, ap, subst, ◌∙◌, ⊎_elim, arith}
+use Rattle.std.proofs.Common.{◌≡◌, ◌≢◌, ℕ, ◌+◌, ◌*◌, ◌/◌, ◌<◌, ◌≤◌, List, [], ◌∷◌, ◌++◌, Option, Some, true, false, ◌==◌}
+use Rattle.std.proofs.Common.{None, sym, ap, subst, ◌∙◌, ⊎_elim, arith}
 use Rattle.std.specs.List.{Contains}
-use Rattle.std.proofs.lemmas.Bool.{cases_lt}
 use Rattle.std.proofs.lemmas.Bool.Decides.{eqb_tells}
-use Rattle.std.proofs.lemmas.List.Elements.{Contains-append_right, Contains-push, Contains-push_cases}
-use Rattle.std.proofs.lemmas.Nat.{div-mul-add}
+use Rattle.std.proofs.lemmas.List.Elements.{Contains-push, Contains-push_cases}
 use Rattle.std.proofs.lemmas.Option.{none-some}
-use Rattle.lfs_types.specs.Blocks.{zero_block}
 use Rattle.lfs_inodes.specs.Reading.{fields_in}
 use Rattle.lfs_inodes.specs.Slots.{slot_of}
-use Rattle.lfs_segments.specs.Bytes.{word_at}
-use Rattle.lfs_segments.specs.Memory.{SegmentMemory, block_at, log_start, next_address}
+use Rattle.lfs_segments.specs.Memory.{SegmentMemory, block_at}
 use Rattle.lfs_segments.specs.Serial.{told_in}
-use Rattle.lfs_segments.proofs.BytesLemmas.{get_or-replicate_same}
-use Rattle.lfs_segments.proofs.SerialLemmas.{told_in-zero}
 use Rattle.lfs_log.specs.Parts.{LogParts}
 use Rattle.lfs_recovery.specs.declared.places.PartialSegment.{PartialSegment}
 use Rattle.lfs_recovery.specs.declared.places.RecordPlace.{RecordPlace}
-use Rattle.lfs_recovery.specs.Logs.{AreLogs, IsChain, IsLink, IsLog, IsLogged, log_place}
+use Rattle.lfs_recovery.specs.Logs.{AreLogs, IsChain, IsLog, IsLogged, log_place}
 use Rattle.lfs_recovery.specs.Newest.{IsNewest, IsRecord}
-use Rattle.lfs_recovery.specs.Whole.{IsWhole, has_record, is_there}
 use Rattle.lfs_recovery.proofs.LogLemmas.{longest_one}
+use Rattle.lfs_durable.proofs.ChainLemmas.{HasSame, chain_same, cons_cases, cons_first, cons_there, in_chain, zeros_tell}
 use Rattle.lfs_rescue.specs.Recovering.{EndsBehind, IsBehind, IsKept, IsRecovered, TellsTheSame}
-
--- ---- the first of a list and the others
-
-cons_at : {A : Type 0} (q p : A) (rest : List A) (k : ℕ) → k < length (q ∷ rest) → get_or (q ∷ rest) k p ≡ p
-    → (q ≡ p) ⊎ Contains rest p
-cons_at q p rest zero low e = inl e
-cons_at q p rest (suc k) low e = inr (k, omega arith, e)
-
-cons_cases : {A : Type 0} (q p : A) (rest : List A) → Contains (q ∷ rest) p → (q ≡ p) ⊎ Contains rest p
-cons_cases q p rest there = cons_at q p rest there.0 there.1 there.2
-
-cons_there : {A : Type 0} (q p : A) (rest : List A) → Contains rest p → Contains (q ∷ rest) p
-cons_there q p rest there = Contains-append_right (q ∷ []) rest p there
-
-cons_first : {A : Type 0} (q : A) (rest : List A) → Contains (q ∷ rest) q
-cons_first q rest = (0, omega arith, refl)
-
--- ---- chains
-
--- where a partial segment of a chain stands
-record IsInChain (m : SegmentMemory) (segment address above : ℕ) (p : PartialSegment) : Type 0 where
-  whole : IsWhole m p
-  low : address ≤ p.address
-  high : p.address + p.count < (segment + 1) * 64
-  rises : above < p.serial
-
-in_chain : (m : SegmentMemory) (segment address above : ℕ) (ps : List PartialSegment) (p : PartialSegment)
-    → IsChain m segment address above ps → Contains ps p → IsInChain m segment address above p
-in_chain m segment address above [] p chain there = let below = there.1 in absurd (omega arith)
-in_chain m segment address above (q ∷ rest) p chain there = ⊎_elim
-    (λ (same : q ≡ p). subst (λ (r : PartialSegment). IsInChain m segment address above r) same (record {
-      whole = chain.0.whole;
-      low = let at = chain.0.place in omega arith;
-      high = chain.0.inside;
-      rises = chain.0.rises;
-    }))
-    (λ (behind : Contains rest p).
-    let at = chain.0.place in
-    let newer = chain.0.rises in
-    let is = in_chain m segment (q.address + 1 + q.count) q.serial rest p chain.1 behind in
-    let low = is.low in
-    let rises = is.rises in
-    record { whole = is.whole; low = omega arith; high = is.high; rises = omega arith })
-    (cons_cases q p rest there)
 
 -- none has a serial above that of one
 abbrev pub IsHighest : List PartialSegment → PartialSegment → Type 0
@@ -127,53 +77,6 @@ next_last m segment address above (q ∷ rest) last p chain there highest = ⊎_
     next_last m segment (q.address + 1 + q.count) q.serial rest last p chain.1 later
     (λ r in_rest. highest r (cons_there q r rest in_rest)))
     (cons_cases q last rest there)
-
--- ---- the same blocks
-
--- two memories have the same summary and the same last block of a partial segment
-abbrev HasSame : SegmentMemory → SegmentMemory → PartialSegment → Type 0
-HasSame m n p = (block_at n p.address ≡ block_at m p.address)
-    × (block_at n (p.address + p.count) ≡ block_at m (p.address + p.count))
-
-whole_same : (m n : SegmentMemory) (p : PartialSegment) → HasSame m n p → IsWhole m p → IsWhole n p
-unfolding has_record
-whole_same m n p same w = record {
-  told = w.told;
-  spelled = ap (λ (b : List ℕ). told_in b) same.0 ∙ w.spelled;
-  serial = w.serial;
-  count = w.count;
-  segment = w.segment;
-  offset = w.offset;
-  last = w.last;
-  record_there = ap (λ (b : List ℕ). is_there (fields_in (slot_of b 0))) same.1 ∙ w.record_there;
-}
-
-chain_same : (m n : SegmentMemory) (segment address above : ℕ) (ps : List PartialSegment)
-    → ((p : PartialSegment) → Contains ps p → HasSame m n p) → IsChain m segment address above ps
-    → IsChain n segment address above ps
-chain_same m n segment address above [] same chain = tt
-chain_same m n segment address above (q ∷ rest) same chain =
-    let link : IsLink n segment address above q = record {
-      whole = whole_same m n q (same q (cons_first q rest)) chain.0.whole;
-      place = chain.0.place;
-      inside = chain.0.inside;
-      rises = chain.0.rises;
-    } in (
-      link,
-      chain_same m n segment (q.address + 1 + q.count) q.serial rest
-          (λ p in_rest. same p (cons_there q p rest in_rest)) chain.1,
-    )
-
--- zeros are no summary
-zeros_tell : told_in zero_block ≡ None
-unfolding zero_block
-zeros_tell = told_in-zero zero_block (omega (
-  arith,
-  get_or-replicate_same {A = ℕ} 512 0 12,
-  get_or-replicate_same {A = ℕ} 512 0 13,
-  get_or-replicate_same {A = ℕ} 512 0 14,
-  get_or-replicate_same {A = ℕ} 512 0 15,
-))
 
 -- ---- what is kept
 

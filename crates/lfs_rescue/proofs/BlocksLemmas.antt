@@ -1,5 +1,5 @@
 -- Bytes that are whole segments are a memory's blocks (`whole_blocks`).
-use Rattle.std.proofs.Common.{◌≡◌, ◌≤◌, ℕ, ◌*◌, ◌++◌, ◌∙◌, List, drop, length, refl, sym, ap, append-nil, arith}
+use Rattle.std.proofs.Common.{◌≡◌, ◌≤◌, ℕ, ◌*◌, ◌++◌, ◌∙◌, List, drop, length, sym, ap, append-nil}
 use Rattle.std.specs.List.{flat_map}
 use Rattle.std.proofs.lemmas.List.{drop_all}
 

@@ -1,15 +1,14 @@
 -- What is recovered is made of what recovery finds (`makes_it`), so it contains what the store contained (`finds_all`).
-use Rattle.std.proofs.Common.{◌≡◌, ◌∙◌, Option, Some, length, subst, sym, arith}
+use Rattle.std.proofs.Common.{◌∙◌, Option, Some, subst, arith}
 use Rattle.lfs_segments.specs.Memory.{SegmentMemory}
 use Rattle.lfs_ifile.specs.declared.inode.InodePlace.{InodePlace}
 use Rattle.lfs_ifile.specs.Tables.{place_of}
 use Rattle.lfs_log.specs.Parts.{LogParts}
 use Rattle.lfs_parts.specs.declared.parts.Parts.{Parts}
-use Rattle.lfs_parts.specs.Files.{content_of}
 use Rattle.lfs_parts.specs.Store.{IsFlushed, IsStore}
 use Rattle.lfs_image.specs.Image.{IsLabelled}
 use Rattle.lfs_durable.specs.Contents.{IsMadeOf}
-use Rattle.lfs_durable.proofs.ContentLemmas.{finds_content}
+use Rattle.lfs_durable.proofs.ContentLemmas.{finds_spared}
 use Rattle.lfs_rescue.specs.Contents.{FindsAllOf}
 use Rattle.lfs_rescue.specs.Recovering.{HasNewest, IsRecovered}
 
@@ -31,6 +30,5 @@ makes_it m l r labelled = record {
 
 pub finds_all : (m : SegmentMemory) (q : Parts) → IsRecovered m q.log → IsLabelled q.log → IsStore q → IsFlushed q
     → FindsAllOf m q
-finds_all m q r labelled store done = λ p d shown same.
-    finds_content p q shown.0 d shown.1.shows shown.1.tree
-    (subst (λ (n : SegmentMemory). IsMadeOf n q.log) (sym same) (makes_it m q.log r labelled)) store done
+finds_all m q r labelled store done = λ p d shown spares.
+    finds_spared p q shown.0 m d shown.1.shows shown.1.tree spares (makes_it m q.log r labelled) store done

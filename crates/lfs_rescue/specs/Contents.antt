@@ -6,9 +6,9 @@ use Rattle.lfs_parts.specs.Files.{content_of}
 use Rattle.lfs_logstore.specs.States.{state_of}
 use Rattle.lfs_calls.specs.Volumes.{HasWorld}
 use Rattle.lfs_durable.specs.Names.{IsDurable}
+use Rattle.lfs_durable.specs.Spared.{Spares}
 
--- A store found in a memory contains what the store contained whose blocks these are, where all of it lay in them and it
--- showed a tree.
+-- A store found in a memory contains what each store contained that the memory spares, as the store's own blocks do and
+-- what a crash leaves of them, where all of it lay in its log and it showed a tree.
 abbrev pub FindsAllOf : SegmentMemory → Parts → Type 0
-FindsAllOf m found = (p : Parts) → IsDurable p → HasWorld (state_of p) → p.log.memory ≡ m
-    → content_of found ≡ content_of p
+FindsAllOf m found = (p : Parts) → IsDurable p → HasWorld (state_of p) → Spares p m → content_of found ≡ content_of p

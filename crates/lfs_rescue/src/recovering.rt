@@ -43,7 +43,7 @@ pub fn recover(
     // Its blocks tell the same, so it can be recovered again.
     ensures again { IfOk result (λ store. TellsTheSame memory.now store.log.memory) }
     ensures labelled { IfOk result (λ store. IsLabelled store.log) }
-    // It contains what the store contained whose blocks these are, where all of that lay in them.
+    // It contains what the store contained whose blocks these are, or what a crash left of them.
     ensures content { IfOk result (FindsAllOf memory.now) }
     ensures stored { IfOk result (λ store. IsStored store.log) }
     ensures flushed { IfOk result (λ store. store ≡ stored frames store.log) }

@@ -1,0 +1,63 @@
+-- What a crash in the middle of a flush leaves of a store's log.
+use Rattle.std.specs.Prelude.{◌≡◌, ℕ, ◌/◌, ◌<◌, ◌⊎◌}
+use Rattle.lfs_types.specs.declared.limits.TheConstants.{SEGMENT_BLOCKS}
+use Rattle.lfs_types.specs.Blocks.{zero_block}
+use Rattle.lfs_types.specs.Tree.{World}
+use Rattle.lfs_segments.specs.Memory.{SegmentMemory, block_at, next_address}
+use Rattle.lfs_ifile.specs.declared.segment.SegState.TheVariants.{Clean}
+use Rattle.lfs_log.specs.Parts.{state_of}
+use Rattle.lfs_recovery.specs.declared.places.PartialSegment.{PartialSegment}
+use Rattle.lfs_recovery.specs.Logs.{log_place}
+use Rattle.lfs_recovery.specs.Whole.{IsWhole}
+use Rattle.lfs_parts.specs.declared.parts.Parts.{Parts}
+use Rattle.lfs_parts.specs.Files.{content_of}
+use Rattle.lfs_parts.specs.Store.{IsFlushed, IsStore}
+use Rattle.lfs_model.specs.World.{IsTree}
+use Rattle.lfs_calls.specs.Content.{Shows}
+use Rattle.lfs_durable.specs.Contents.{IsMadeOf}
+use Rattle.lfs_durable.specs.Names.{IsDurable}
+use Rattle.lfs_durable.specs.Spared.{Spares}
+
+-- no whole partial segment begins at an address: what was written there is torn, or nothing was
+abbrev pub IsNoneWhole : SegmentMemory → ℕ → Type 0
+IsNoneWhole n address = (s : PartialSegment) → IsWhole n s → s.address ≡ address → ⊥
+
+-- a segment has all of its blocks as they were
+pub record IsUntouched (m n : SegmentMemory) (segment : ℕ) : Type 0 where
+  pub each : (a : ℕ) → a / SEGMENT_BLOCKS ≡ segment → block_at n a ≡ block_at m a
+
+-- the active segment has its blocks up to the end of its log, behind which anything stands but a whole partial segment
+pub record IsTorn (m n : SegmentMemory) (segment : ℕ) : Type 0 where
+  pub active : segment ≡ m.active
+  pub before : (a : ℕ) → a / SEGMENT_BLOCKS ≡ segment → a < next_address m → block_at n a ≡ block_at m a
+  pub torn : IsNoneWhole n (next_address m)
+
+-- a clean segment is being filled with zeros: some blocks are, in whatever order
+pub record IsWiped (p : Parts) (n : SegmentMemory) (segment : ℕ) : Type 0 where
+  pub clean : state_of p.log.tables segment ≡ Clean
+  pub each : (a : ℕ) → a / SEGMENT_BLOCKS ≡ segment
+      → (block_at n a ≡ block_at p.log.memory a) ⊎ (block_at n a ≡ zero_block)
+
+-- or it has anything but a whole partial segment where its log begins
+pub record IsBarren (p : Parts) (n : SegmentMemory) (segment : ℕ) : Type 0 where
+  pub clean : state_of p.log.tables segment ≡ Clean
+  pub torn : IsNoneWhole n (log_place segment)
+
+abbrev pub IsLeft : Parts → SegmentMemory → ℕ → Type 0
+IsLeft p n segment = IsUntouched p.log.memory n segment
+    ⊎ (IsTorn p.log.memory n segment ⊎ (IsWiped p n segment ⊎ IsBarren p n segment))
+
+-- A crash left these blocks of a store, between any two block writes of a flush: the label, and each segment so.
+pub record IsCrashOf (p : Parts) (n : SegmentMemory) : Type 0 where
+  pub segments : n.segments ≡ p.log.memory.segments
+  pub label : block_at n 0 ≡ block_at p.log.memory 0
+  pub each : (segment : ℕ) → segment < n.segments → IsLeft p n segment
+
+-- Such blocks spare the store.
+abbrev pub CrashSpares : Type 0
+CrashSpares = (p : Parts) (n : SegmentMemory) → IsDurable p → IsCrashOf p n → Spares p n
+
+-- So a store on what is found in them contains all that the store contained, which showed a tree.
+abbrev pub FindsAfterCrash : Type 0
+FindsAfterCrash = (p q : Parts) (w : World) (n : SegmentMemory) → IsDurable p → Shows (content_of p) w → IsTree w.rows
+    → IsCrashOf p n → IsMadeOf n q.log → IsStore q → IsFlushed q → content_of q ≡ content_of p
