@@ -9,3 +9,4 @@ pub mod NameLemmas
 pub mod ContentLemmas
 pub mod ChainLemmas
 pub mod CrashLemmas
+pub mod FlushLemmas

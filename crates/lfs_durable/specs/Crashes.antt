@@ -1,9 +1,11 @@
 -- What a crash in the middle of a flush leaves of a store's log.
-use Rattle.std.specs.Prelude.{◌≡◌, ℕ, ◌/◌, ◌<◌, ◌⊎◌}
+use Rattle.std.specs.Prelude.{◌≡◌, ℕ, ◌+◌, ◌-◌, ◌/◌, ◌<◌, ◌≤◌, ◌⊎◌, List, [], Some, length, replicate}
+use Rattle.std.specs.Prelude.{slice_index_or, take}
 use Rattle.lfs_types.specs.declared.limits.TheConstants.{SEGMENT_BLOCKS}
 use Rattle.lfs_types.specs.Blocks.{zero_block}
 use Rattle.lfs_types.specs.Tree.{World}
-use Rattle.lfs_segments.specs.Memory.{SegmentMemory, block_at, next_address}
+use Rattle.lfs_segments.specs.Memory.{SegmentMemory, block_at, log_start, next_address, opened, room_of, written}
+use Rattle.lfs_segments.specs.Serial.{Told, told_in}
 use Rattle.lfs_ifile.specs.declared.segment.SegState.TheVariants.{Clean}
 use Rattle.lfs_log.specs.Parts.{state_of}
 use Rattle.lfs_recovery.specs.declared.places.PartialSegment.{PartialSegment}
@@ -61,3 +63,43 @@ CrashSpares = (p : Parts) (n : SegmentMemory) → IsDurable p → IsCrashOf p n 
 abbrev pub FindsAfterCrash : Type 0
 FindsAfterCrash = (p q : Parts) (w : World) (n : SegmentMemory) → IsDurable p → Shows (content_of p) w → IsTree w.rows
     → IsCrashOf p n → IsMadeOf n q.log → IsStore q → IsFlushed q → content_of q ≡ content_of p
+
+-- ---- a flush, block by block
+
+-- The blocks of a partial segment that a memory has room for: a summary that tells this, and the blocks of its entries.
+pub record IsPartialSegment (m : SegmentMemory) (blocks : List (List ℕ)) : Type 0 where
+  pub told : Told
+  pub summary : told_in (slice_index_or blocks 0 []) ≡ Some told
+  pub count : length blocks ≡ 1 + length told.entries
+  pub fits : length blocks ≤ room_of m
+
+-- Of a partial segment that is written behind the log's end some blocks have landed, in order, but not all of them.
+pub record IsInFlush (m n : SegmentMemory) : Type 0 where
+  pub wanted : List (List ℕ)
+  pub whole : IsPartialSegment m wanted
+  pub landed : ℕ
+  pub not_all : landed < length wanted
+  pub segments : n.segments ≡ m.segments
+  pub blocks : n.blocks ≡ written m.blocks (next_address m) (take landed wanted)
+
+-- so, where a clean segment was opened before
+pub record IsInOpenedFlush (p : Parts) (n : SegmentMemory) : Type 0 where
+  pub segment : ℕ
+  pub inside : segment < p.log.memory.segments
+  pub clean : state_of p.log.tables segment ≡ Clean
+  pub flush : IsInFlush (opened p.log.memory segment) n
+
+-- of a clean segment that is opened some blocks are zeros, in order
+pub record IsInOpening (p : Parts) (n : SegmentMemory) : Type 0 where
+  pub segment : ℕ
+  pub inside : segment < p.log.memory.segments
+  pub clean : state_of p.log.tables segment ≡ Clean
+  pub landed : ℕ
+  pub few : landed ≤ SEGMENT_BLOCKS - log_start segment
+  pub segments : n.segments ≡ p.log.memory.segments
+  pub blocks : n.blocks ≡ written p.log.memory.blocks (log_place segment) (replicate landed zero_block)
+
+-- What a store's blocks are between any two block writes of a flush is what a crash leaves.
+abbrev pub FlushCrashes : Type 0
+FlushCrashes = (p : Parts) (n : SegmentMemory) → IsDurable p
+    → IsInFlush p.log.memory n ⊎ (IsInOpening p n ⊎ IsInOpenedFlush p n) → IsCrashOf p n

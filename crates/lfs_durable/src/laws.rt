@@ -2,7 +2,7 @@
 
 ghost use Rattle.lfs_durable.specs.Alike.{FindsBlocks};
 ghost use Rattle.lfs_durable.specs.Contents.{FindsContent};
-ghost use Rattle.lfs_durable.specs.Crashes.{CrashSpares, FindsAfterCrash};
+ghost use Rattle.lfs_durable.specs.Crashes.{CrashSpares, FindsAfterCrash, FlushCrashes};
 ghost use Rattle.lfs_durable.specs.Names.{FindsNames, FindsRecordOfEach};
 ghost use Rattle.lfs_durable.specs.Spared.{FindsSpared};
 
@@ -40,4 +40,9 @@ pub fn crash_spares()
 /// So what stands on what recovery finds there contains what the store contained before that flush.
 pub fn finds_after_crash()
     ensures { FindsAfterCrash }
+{}
+
+/// What a store's blocks are between any two block writes of a flush is what a crash leaves.
+pub fn flush_crashes()
+    ensures { FlushCrashes }
 {}
