@@ -3,7 +3,7 @@
 -- found in what is left was found before (`none_new`, `no_record`): behind the end none is whole (`torn_chain`), and of what
 -- is being filled with zeros whole ones are as they were (`wiped_same`).
 use Rattle.std.proofs.Common.{◌≡◌, ◌≢◌, ℕ, ◌+◌, ◌*◌, ◌/◌, ◌<◌, ◌≤◌, inl, inr, true, List, [], ◌∷◌, Option, None, Some}
-use Rattle.std.proofs.Common.{length, refl, sym, ap, subst, ◌∙◌, ⊎_elim, arith}
+use Rattle.std.proofs.Common.{get_or, length, refl, sym, ap, subst, ◌∙◌, ⊎_elim, arith}
 use Rattle.std.specs.List.{Contains}
 use Rattle.std.proofs.lemmas.Bool.{cases_lt}
 use Rattle.std.proofs.lemmas.Option.{none-some}
@@ -28,7 +28,7 @@ use Rattle.lfs_found.specs.Written.{IsFindable}
 use Rattle.lfs_found.proofs.ChainLemmas.{expected-next, expects_in, finds_begun, none_within}
 use Rattle.lfs_parts.specs.declared.parts.Parts.{Parts}
 use Rattle.lfs_parts.specs.Keys.{log_state}
-use Rattle.lfs_durable.specs.Crashes.{FindsAfterCrash, IsBarren, IsCrashOf, IsLeft, IsTorn, IsWiped}
+use Rattle.lfs_durable.specs.Crashes.{FindsAfterCrash, IsBarren, IsCrashOf, IsLeft, IsNoneWhole, IsTorn, IsWiped}
 use Rattle.lfs_durable.specs.Names.{IsDurable}
 use Rattle.lfs_durable.specs.Spared.{IsHeld, Spares}
 use Rattle.lfs_durable.proofs.ChainLemmas.{HasSame, chain_logged, chain_same, in_chain, whole_same}
@@ -372,3 +372,38 @@ module _ (p : Parts) (n : SegmentMemory) (d : IsDurable p) (crash : IsCrashOf p 
 pub finds_after_crash : FindsAfterCrash
 finds_after_crash p q w n d shows tree crash made store done =
     finds_spared p q w n d shows tree (crash_spares p n d crash) made store done
+
+-- ---- the blocks alone decide
+none_same : (m n : SegmentMemory) (a : ℕ) → n.blocks ≡ m.blocks → IsNoneWhole m a → IsNoneWhole n a
+none_same m n a same none = λ s whole at.
+    let at_block : (x : ℕ) → block_at m x ≡ block_at n x =
+    λ x. ap (λ (bs : List (List ℕ)). get_or bs x []) (sym same) in
+    none s (whole_same n m s (at_block s.address, at_block (s.address + s.count)) whole) at
+
+pub crash_same : (p : Parts) (m n : SegmentMemory) → n.blocks ≡ m.blocks → n.segments ≡ m.segments → IsCrashOf p m
+    → IsCrashOf p n
+crash_same p m n same size crash =
+    let at_block : (x : ℕ) → block_at n x ≡ block_at m x = λ x. ap (λ (bs : List (List ℕ)). get_or bs x []) same in
+    record {
+      segments = size ∙ crash.segments;
+      label = at_block 0 ∙ crash.label;
+      each = λ segment below. elim (crash.each segment (omega arith)) [
+        | inl left ↦ inl (record { each = λ a here. at_block a ∙ left.each a here })
+        | inr (inl torn) ↦ inr (inl (record {
+          active = torn.active;
+          before = λ a here low. at_block a ∙ torn.before a here low;
+          torn = none_same m n (next_address p.log.memory) same torn.torn;
+        }))
+        | inr (inr (inl wiped)) ↦ inr (inr (inl (record {
+          clean = wiped.clean;
+          each = λ a here. ⊎_elim
+              (λ (was : block_at m a ≡ block_at p.log.memory a). inl (at_block a ∙ was))
+              (λ (zeros : block_at m a ≡ zero_block). inr (at_block a ∙ zeros))
+              (wiped.each a here);
+        })))
+        | inr (inr (inr barren)) ↦ inr (inr (inr (record {
+          clean = barren.clean;
+          torn = none_same m n (log_place segment) same barren.torn;
+        })))
+      ];
+    }

@@ -1,7 +1,15 @@
--- Bytes that are whole segments are a memory's blocks (`whole_blocks`).
-use Rattle.std.proofs.Common.{◌≡◌, ◌≤◌, ℕ, ◌*◌, ◌++◌, ◌∙◌, List, drop, length, sym, ap, append-nil}
+-- Bytes that are whole segments are a memory's blocks (`whole_blocks`); no other memory has other blocks
+-- (`same_blocks`). So what is found in the memory of bytes is found in the bytes (`finds_all_in`).
+use Rattle.std.proofs.Common.{◌≡◌, ◌≤◌, ℕ, suc, ◌*◌, ◌++◌, ◌∷◌, ◌∙◌, List, [], All, drop, length, take, refl, sym}
+use Rattle.std.proofs.Common.{ap, append-nil, length-append, arith}
 use Rattle.std.specs.List.{flat_map}
+use Rattle.std.proofs.Math.Seq.{drop-append_seam, take-append_seam}
 use Rattle.std.proofs.lemmas.List.{drop_all}
+use Rattle.lfs_segments.specs.Memory.{SegmentMemory}
+use Rattle.lfs_parts.specs.declared.parts.Parts.{Parts}
+use Rattle.lfs_durable.proofs.CrashLemmas.{crash_same, crash_spares}
+use Rattle.lfs_rescue.specs.Blocks.{FindsAllIn, IsMemoryOf}
+use Rattle.lfs_rescue.specs.Contents.{FindsAllOf}
 
 pub whole_blocks : (bytes : List ℕ) (blocks : List (List ℕ)) (count : ℕ) → length bytes ≤ 512 * count
     → flat_map (λ block. block) blocks ++ drop (512 * count) bytes ≡ bytes → flat_map (λ block. block) blocks ≡ bytes
@@ -9,3 +17,44 @@ whole_blocks bytes blocks count few is =
     sym (append-nil (flat_map (λ block. block) blocks))
     ∙ ap (λ (rest : List ℕ). flat_map (λ block. block) blocks ++ rest) (sym (drop_all (512 * count) bytes few))
     ∙ is
+
+-- ---- the blocks of bytes
+front : (x y p q : List ℕ) → length x ≡ length y → x ++ p ≡ y ++ q → x ≡ y
+front x y p q long e =
+    sym (take-append_seam x p) ∙ ap (λ bs. take (length x) bs) e ∙ ap (λ n. take n (y ++ q)) long ∙ take-append_seam y q
+
+back : (x y p q : List ℕ) → length x ≡ length y → x ++ p ≡ y ++ q → p ≡ q
+back x y p q long e =
+    sym (drop-append_seam x p) ∙ ap (λ bs. drop (length x) bs) e ∙ ap (λ n. drop n (y ++ q)) long ∙ drop-append_seam y q
+
+abbrev AreBlocks : List (List ℕ) → Type 0
+AreBlocks blocks = All (λ block. length block ≡ 512) blocks
+
+rest_of : (x : List ℕ) (xs : List (List ℕ)) → AreBlocks (x ∷ xs) → AreBlocks xs
+rest_of x xs are = λ k d low. are (suc k) d (omega arith)
+
+same_blocks : (xs ys : List (List ℕ)) → AreBlocks xs → AreBlocks ys
+    → flat_map (λ block. block) xs ≡ flat_map (λ block. block) ys → xs ≡ ys
+same_blocks [] [] a b e = refl
+same_blocks [] (y ∷ ys) a b e =
+    let some = b 0 [] (omega arith) in
+    let long : length (y ++ flat_map (λ block. block) ys) ≡ 0 = ap length (sym e) in
+    let sum = length-append y (flat_map (λ block. block) ys) in absurd (omega arith)
+same_blocks (x ∷ xs) [] a b e =
+    let some = a 0 [] (omega arith) in
+    let long : length (x ++ flat_map (λ block. block) xs) ≡ 0 = ap length e in
+    let sum = length-append x (flat_map (λ block. block) xs) in absurd (omega arith)
+same_blocks (x ∷ xs) (y ∷ ys) a b e =
+    let sizes : length x ≡ length y = a 0 [] (omega arith) ∙ sym (b 0 [] (omega arith)) in
+    let here : x ≡ y = front x y _ _ sizes e in
+    let there : xs ≡ ys = same_blocks xs ys (rest_of x xs a) (rest_of y ys b) (back x y _ _ sizes e) in
+    λ i. here i ∷ there i
+
+pub finds_all_in : (bytes : List ℕ) (m : SegmentMemory) (q : Parts) → IsMemoryOf bytes m → FindsAllOf m q
+    → FindsAllIn bytes q
+finds_all_in bytes m q is finds = λ p n d shown other crash.
+    let same : m.blocks ≡ n.blocks = same_blocks m.blocks n.blocks is.each other.each (is.spelled ∙ sym other.spelled) in
+    let long = ap (λ (bs : List (List ℕ)). length bs) same in
+    let whole = is.whole in
+    let whole_too = other.whole in
+    finds p d shown (crash_spares p m d (crash_same p n m same (omega arith) crash))

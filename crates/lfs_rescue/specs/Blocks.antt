@@ -3,12 +3,17 @@ use Rattle.std.specs.Prelude.{◌≡◌, ◌≢◌, ◌*◌, ◌≤◌, ◌++◌
 use Rattle.std.specs.Prelude.{length, ⊤}
 use Rattle.std.specs.List.{flat_map}
 use Rattle.lfs_types.specs.declared.level.Level.TheVariants.{HighlySecure}
+use Rattle.lfs_types.specs.declared.limits.TheConstants.{SEGMENT_BLOCKS}
 use Rattle.lfs_types.specs.Ranges.{least_segments, most_segments}
 use Rattle.lfs_segments.specs.Memory.{SegmentMemory}
 use Rattle.lfs_log.specs.Parts.{LogParts}
+use Rattle.lfs_parts.specs.declared.parts.Parts.{Parts}
+use Rattle.lfs_parts.specs.Files.{content_of}
 use Rattle.lfs_logstore.specs.States.{state_of}
 use Rattle.lfs_calls.specs.Volumes.{HasWorld}
 use Rattle.lfs_fsck.specs.Stored.{IsStored, flushed}
+use Rattle.lfs_durable.specs.Crashes.{IsCrashOf}
+use Rattle.lfs_durable.specs.Names.{IsDurable}
 use Rattle.lfs_checking.specs.Files.{HasImage}
 use Rattle.lfs_checking.specs.Volumes.{well_text}
 use Rattle.lfs_rescue.specs.declared.fault.RecoverFault.{RecoverFault}
@@ -16,8 +21,9 @@ use Rattle.lfs_rescue.specs.declared.fault.RecoverFault.TheVariants.{Empty, Volu
 use Rattle.lfs_rescue.specs.declared.fault.RecoverFault.TheVariants.{LastSerial, Length, Segments, Memory}
 use Rattle.lfs_rescue.specs.Recovering.{IsRecovered, IsRecoverFaultOf}
 
--- bytes are a memory's blocks of 512 bytes, from address 0 on
+-- bytes are the blocks of a memory's segments, of 512 bytes each, from address 0 on
 pub record IsMemoryOf (bytes : List ℕ) (m : SegmentMemory) : Type 0 where
+  pub whole : length m.blocks ≡ m.segments * SEGMENT_BLOCKS
   pub each : All (λ block. length block ≡ 512) m.blocks
   pub spelled : flat_map (λ block. block) m.blocks ≡ bytes
 
@@ -26,6 +32,12 @@ pub record IsFoundIn (bytes : List ℕ) (l : LogParts) : Type 0 where
   pub memory : SegmentMemory
   pub blocks : IsMemoryOf bytes memory
   pub recovered : IsRecovered memory l
+
+-- A store found in bytes contains what each store contained that showed a tree, of which all lay in its log, and of which
+-- a crash, or no crash, left these bytes.
+abbrev pub FindsAllIn : List ℕ → Parts → Type 0
+FindsAllIn bytes found = (p : Parts) (m : SegmentMemory) → IsDurable p → HasWorld (state_of p) → IsMemoryOf bytes m
+    → IsCrashOf p m → content_of found ≡ content_of p
 
 -- what a fault says of the memory of bytes
 abbrev pub IsFaultIn : List ℕ → RecoverFault → Type 0
@@ -62,13 +74,14 @@ fault_words Memory = Some (codes "no memory")
 abbrev pub IsFaultLine : RecoverFault → List ℕ → Type 0
 IsFaultLine fault text = IfSome (fault_words fault) (λ words. text ≡ codes "fault: " ++ (words ++ codes "\n"))
 
--- a volume is found in bytes, whose names show a tree, and of which this is told; and a file got its image, where one is
--- asked for
+-- a volume is found in bytes, whose names show a tree, with all that a store contained whose bytes these are, and of which
+-- this is told; and a file got its image, where one is asked for
 pub record IsFound {F S : Type 0} (contents : F → Option (List ℕ)) (save : Option S) (bytes text : List ℕ) : Type 0 where
   pub log : LogParts
   pub found : IsFoundIn bytes log
   pub stored : IsStored log
   pub world : HasWorld (state_of (flushed log))
+  pub content : FindsAllIn bytes (flushed log)
   pub told : text ≡ well_text log
   pub kept : IfSome save (λ _. HasImage contents log HighlySecure)
 

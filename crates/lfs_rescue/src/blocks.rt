@@ -5,7 +5,7 @@ ghost use Rattle.lfs_types.specs.Ranges.{least_frames, least_segments, most_fram
 ghost use Rattle.lfs_calls.specs.Volumes.{HasWorld};
 ghost use Rattle.lfs_logstore.specs.States.{state_of};
 ghost use Rattle.lfs_fsck.specs.Stored.{IsStored, stored};
-ghost use Rattle.lfs_rescue.specs.Blocks.{IsBlocksFaultOf, IsFoundIn, IsMemoryOf};
+ghost use Rattle.lfs_rescue.specs.Blocks.{FindsAllIn, IsBlocksFaultOf, IsFoundIn, IsMemoryOf};
 
 use crate::fault::RecoverFault;
 use crate::recovering::recover;
@@ -36,6 +36,7 @@ pub fn recover_blocks(
     ensures stored { IfOk result (λ store. IsStored store.log) }
     ensures flushed { IfOk result (λ store. store ≡ stored frames store.log) }
     ensures world { IfOk result (λ store. HasWorld (state_of store)) }
+    ensures content { IfOk result (FindsAllIn bytes.now) }
     ensures fault { IfErr result (IsBlocksFaultOf bytes.now) }
 {
     let memory = memory_of(alloc, bytes)?;

@@ -1,3 +1,4 @@
+use Rattle.lfs_rescue.proofs.BlocksLemmas.{finds_all_in}
 use Rattle.lfs_rescue.proofs.blocks.recover_blocks.Goals as goal
 
 pub returns-in-Ok-clause-found : goal.returns-in-Ok-clause-found
@@ -6,3 +7,7 @@ returns-in-Ok-clause-found c = record {
   blocks = c.in_ok-memory.ensures.memory;
   recovered = c.in-Ok.ensures.recovered;
 }
+
+pub returns-in-Ok-clause-content : goal.returns-in-Ok-clause-content
+returns-in-Ok-clause-content c =
+    finds_all_in c.args.bytes.now c.in_ok-memory.memory c.in-Ok.store c.in_ok-memory.ensures.memory c.in-Ok.ensures.content

@@ -5,6 +5,7 @@ use Rattle.lfs_parts.specs.Store.{IsFlushed}
 use Rattle.lfs_logstore.specs.States.{state_of}
 use Rattle.lfs_calls.specs.Volumes.{HasWorld}
 use Rattle.lfs_view.specs.SpaceText.{space_text}
+use Rattle.lfs_rescue.specs.Blocks.{FindsAllIn}
 use Rattle.lfs_rescue.proofs.telling.finding.Goals as goal
 
 pub keep-requires : goal.keep-requires
@@ -19,6 +20,7 @@ returns-in_ok-text-in-Ok-clause-told g c =
       found = is.found;
       stored = is.stored;
       world = subst (λ (p : Parts). HasWorld (state_of p)) is.flushed is.world;
+      content = subst (λ (p : Parts). FindsAllIn c.args.bytes.now p) is.flushed is.content;
       told = c.in_ok-text-in-Ok.ensures ∙ ap (λ (p : Parts). codes "ok\n" ++ space_text p) is.flushed;
       kept = c.in_ok-keep-in-Ok.ensures.kept;
     }
