@@ -7,7 +7,7 @@ use Rattle.lfs_types.specs.Tree.{attrs_of, fresh_root}
 use Rattle.lfs_segments.specs.declared.entry.LogicalBlock.TheVariants.{Inodes}
 use Rattle.lfs_segments.specs.declared.entry.SummaryEntry.{SummaryEntry}
 use Rattle.lfs_segments.specs.Log.{Expects, entry_at}
-use Rattle.lfs_segments.specs.Memory.{SegmentMemory, block_at, next_serial}
+use Rattle.lfs_segments.specs.Memory.{SegmentMemory, block_at, label, next_serial}
 use Rattle.lfs_segments.specs.Serial.{IsSummaryWith}
 use Rattle.lfs_ifile.specs.declared.inode.InodeRow.{InodeRow}
 use Rattle.lfs_ifile.specs.declared.segment.SegState.TheVariants.{Clean, Active}
@@ -74,9 +74,10 @@ pub record HasRootRow (many_segments many_inodes : ℕ) (t : Tables) : Type 0 wh
   pub root : row_of t ROOT_INODE ≡ root_row
   pub others : (number : ℕ) → number ≢ ROOT_INODE → row_of t number ≡ fresh_row
 
--- the parts of such a volume: all frames are empty, and nothing waits
+-- the parts of such a volume: block 0 is the label, all frames are empty, and nothing waits
 pub record IsOpeningWith (serial : Option ℕ) (many_segments many_inodes many_frames : ℕ) (p : Parts) : Type 0 where
   pub memory : HasRootBlock serial p.log.memory
+  pub label : block_at p.log.memory 0 ≡ label many_segments many_inodes
   pub size : p.log.memory.segments ≡ many_segments
   pub parts : IsParts p.log
   pub tables : HasRootRow many_segments many_inodes p.log.tables

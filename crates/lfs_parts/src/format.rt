@@ -6,7 +6,7 @@ ghost use Rattle.lfs_cache.specs.Changes.{IsContents};
 ghost use Rattle.lfs_cache.specs.Contents.{nothing_in};
 ghost use Rattle.lfs_types.specs.Tree.{attrs_of, fresh_root, opening_content};
 ghost use Rattle.lfs_segments.specs.Log.{Expects};
-ghost use Rattle.lfs_segments.specs.Memory.{IsNextSerial};
+ghost use Rattle.lfs_segments.specs.Memory.{IsNextSerial, block_at};
 ghost use Rattle.lfs_segments.specs.Rising.{IsRising};
 ghost use Rattle.lfs_log.specs.Parts.{IsParts};
 ghost use Rattle.lfs_parts.specs.Files.{content_of};
@@ -132,6 +132,7 @@ fn write_root(log: &mut Log)
     requires ready { Expects log.old.memory [] }
     ensures written { HasRootBlock log.old.memory.serial log.new.memory }
     ensures rising { IsRising log.old.memory → IsRising log.new.memory }
+    ensures label { block_at log.new.memory 0 ≡ block_at log.old.memory 0 }
     ensures size { log.new.memory.segments ≡ log.old.memory.segments }
     ensures tables { log.new.tables ≡ log.old.tables }
     ensures clean { log.new.clean ≡ log.old.clean }

@@ -15,7 +15,7 @@ use Rattle.lfs_ifile.specs.declared.segment.SegState.{SegState}
 use Rattle.lfs_ifile.specs.declared.segment.SegState.TheVariants.{Clean}
 use Rattle.lfs_ifile.specs.declared.inode.InodeRow.{InodeRow}
 use Rattle.lfs_cache.specs.Contents.{IsLocked}
-use Rattle.lfs_segments.specs.Memory.{SegmentMemory, block_at, has_serials, next_address, room_of}
+use Rattle.lfs_segments.specs.Memory.{SegmentMemory, block_at, has_serials, log_start, next_address, room_of}
 use Rattle.lfs_segments.specs.Rising.{IsRising}
 use Rattle.lfs_found.specs.Written.{IsRecoverable}
 use Rattle.lfs_log.specs.Parts.{state_of}
@@ -55,6 +55,11 @@ apart a segment fill other = elim (cases_lt a (segment * 64 + fill)) [
   | inl before ↦ inl before
   | inr not_before ↦ inr (omega arith)
 ]
+
+-- the log of a segment ends behind the label
+used_first : (active fill : ℕ) → log_start active ≤ fill → 0 < active * 64 + fill
+used_first zero fill from = omega arith
+used_first (suc active) fill from = omega arith
 
 module _ (old a b new : Parts) (kept : KeepsFiles old a) (fewer : a.log.clean ≤ old.log.clean)
     (stays : StaysInLog a b) (staged : IsStaged b 0) (flushes : Flushes b new) where
@@ -154,6 +159,8 @@ module _ (old a b new : Parts) (kept : KeepsFiles old a) (fewer : a.log.clean �
     clean = clean_less;
     moves = moves_ahead;
     dirty = StaysDirty-trans (log_state old) (log_state b) (log_state new) until_dirty flush_dirty;
+    label = flushes.blocks 0 (inl (used_first b.log.memory.active b.log.memory.fill staged.whole.parts.laid_out.begun))
+        ∙ ap (λ (m : SegmentMemory). block_at m 0) stays.memory ∙ kept.label;
     blocks = λ x used before.
         flushes.blocks x (outside x used before) ∙ ap (λ (m : SegmentMemory). block_at m x) stays.memory
         ∙ kept.blocks x used;
@@ -238,6 +245,7 @@ stays_ahead a b stays = record {
     segments = ap (λ (m : SegmentMemory). m.segments) stays.memory;
     dirty = λ s low dirty. ap (λ (xs : List SegState). slice_index_or xs s Clean) stays.states ∙ dirty;
   };
+  label = ap (λ (m : SegmentMemory). block_at m 0) stays.memory;
   blocks = λ x used before. ap (λ (m : SegmentMemory). block_at m x) stays.memory;
 }
 
@@ -258,6 +266,7 @@ ahead_stays old a b ahead stays =
         versions = λ n c there dirty. stays.moves.versions n c there tt;
       });
       dirty = StaysDirty-trans (log_state old) (log_state a) (log_state b) ahead.dirty after.dirty;
+      label = ap (λ (m : SegmentMemory). block_at m 0) stays.memory ∙ ahead.label;
       blocks = λ x used before. ap (λ (m : SegmentMemory). block_at m x) stays.memory ∙ ahead.blocks x used before;
     }
 

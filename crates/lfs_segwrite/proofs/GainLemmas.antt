@@ -305,6 +305,7 @@ moves_none p store flushed = record {
   versions = λ n. refl;
   moves = record { numbers = refl; places = λ n c there within. refl; versions = λ n c there within. refl };
   dirty = StaysDirty-refl (log_state p);
+  label = refl;
   blocks = λ a low dirty. refl;
 }
 
@@ -335,6 +336,7 @@ moves_more old mid new marks count h store flushed content m =
         versions = λ n c there dirty. m.log.moves.versions n c there (still _ (inside n c there) dirty);
       });
       dirty = StaysDirty-trans (log_state old) (log_state mid) (log_state new) h.dirty m.log.dirty;
+      label = m.log.label ∙ h.label;
       blocks = λ a low dirty.
           let was = still (a / 64) low dirty in
           m.log.blocks a (λ clean. dirty_not_clean (sym was ∙ clean))

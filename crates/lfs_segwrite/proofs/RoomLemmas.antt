@@ -254,6 +254,7 @@ module _ (p : Parts) (s : ℕ) (store : IsStore p) (inside : s < p.log.memory.se
           keys = keys_kept;
           dirty = StaysDirty-opened (log_state p) (log_state q) 0 s store.log opens;
           blocks = λ a used. apart_kept a (λ here. used (ap (state_of p.log.tables) here ∙ was_clean));
+          label = label_kept;
           end = inr was_clean;
         };
         room = starts s;

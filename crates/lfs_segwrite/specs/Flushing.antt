@@ -20,7 +20,7 @@ use Rattle.lfs_parts.specs.Store.{IsFlushed, IsStore}
 use Rattle.lfs_parts.specs.View.{key_of, version_of, waiting_in}
 
 -- Blocks were written at the log's end, perhaps in a clean segment that was opened for them. No key came to lie in a
--- segment that was dirty, each of these is dirty still, and no block that was written is another. Where recovery found all
+-- segment that was dirty, each of these is dirty still, no block that was written is another, and nor is the label, block 0. Where recovery found all
 -- that was begun, it finds all that is, and where the inode map had each number's latest record, it has it.
 pub record WritesAhead (old new : Parts) : Type 0 where
   pub segments : new.log.memory.segments ≡ old.log.memory.segments
@@ -32,6 +32,7 @@ pub record WritesAhead (old new : Parts) : Type 0 where
   pub clean : new.log.clean ≤ old.log.clean
   pub moves : Moves (DirtyIn (log_state old)) (log_state old) (log_state new)
   pub dirty : StaysDirty (log_state old) (log_state new)
+  pub label : block_at new.log.memory 0 ≡ block_at old.log.memory 0
   pub blocks : (a : ℕ) → state_of old.log.tables (a / SEGMENT_BLOCKS) ≢ Clean
       → (a / SEGMENT_BLOCKS ≡ old.log.memory.active → a < next_address old.log.memory)
       → block_at new.log.memory a ≡ block_at old.log.memory a

@@ -107,7 +107,7 @@ Spends blocks most old new =
     × (room_of old.log.memory < blocks))
 
 -- Blocks were written again, with what they had. What moved went to segments that weren't dirty; these are dirty still,
--- and their blocks are what they were.
+-- and their blocks are what they were. So is the label, block 0.
 pub record MovesBlocks (old new : Parts) : Type 0 where
   pub store : IsStore new
   pub flushed : IsFlushed new
@@ -123,6 +123,7 @@ pub record MovesBlocks (old new : Parts) : Type 0 where
   pub versions : (number : ℕ) → version_of new number ≡ version_of old number
   pub moves : Moves (DirtyIn (log_state old)) (log_state old) (log_state new)
   pub dirty : StaysDirty (log_state old) (log_state new)
+  pub label : block_at new.log.memory 0 ≡ block_at old.log.memory 0
   pub blocks : (a : ℕ) → a / SEGMENT_BLOCKS < old.log.memory.segments
       → DirtyIn (log_state old) (a / SEGMENT_BLOCKS)
       → block_at new.log.memory a ≡ block_at old.log.memory a

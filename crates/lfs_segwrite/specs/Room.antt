@@ -34,6 +34,7 @@ pub record KeepsFiles (old new : Parts) : Type 0 where
   pub dirty : StaysDirty (log_state old) (log_state new)
   pub blocks : (a : ℕ) → state_of old.log.tables (a / SEGMENT_BLOCKS) ≢ Clean
       → block_at new.log.memory a ≡ block_at old.log.memory a
+  pub label : block_at new.log.memory 0 ≡ block_at old.log.memory 0
   pub end : (new.log.memory ≡ old.log.memory)
       ⊎ (state_of old.log.tables new.log.memory.active ≡ Clean)
 

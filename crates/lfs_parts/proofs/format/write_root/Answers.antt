@@ -64,3 +64,10 @@ returns-clause-written c =
 pub returns-clause-rising : goal.returns-clause-rising
 returns-clause-rising c = λ rising.
     c.put.ensures.rising inodes_entry [] c.begin.ensures.expects (c.begin.ensures.rising rising)
+
+pub returns-clause-label : goal.returns-clause-label
+returns-clause-label c =
+    let filled = c.requires.filled in
+    let active = c.requires.active in
+    let next = c.begin.ensures.next in
+    c.put.ensures.extends.blocks 0 (inl (omega arith)) ∙ c.begin.ensures.extends.blocks 0 (inl (omega arith))

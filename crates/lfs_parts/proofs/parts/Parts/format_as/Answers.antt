@@ -1,6 +1,6 @@
 use Rattle.std.proofs.Common.{◌≡◌, length, sym, ap, ◌∙◌, subst, arith}
 use Rattle.std.proofs.lemmas.List.{length-replicate}
-use Rattle.lfs_segments.specs.Memory.{SegmentMemory}
+use Rattle.lfs_segments.specs.Memory.{SegmentMemory, block_at}
 use Rattle.lfs_log.specs.Parts.{IsParts, LogParts}
 use Rattle.lfs_ifile.specs.Inode.{fresh_row}
 use Rattle.lfs_ifile.specs.Tables.{Tables}
@@ -23,6 +23,9 @@ returns-clause-opening c = record {
       (subst (λ (m : SegmentMemory). HasRootBlock c.args.serial m) (sym c.enter_root.ensures.memory)
       (subst (λ (l : LogParts). HasRootBlock l.memory.serial c.write_root.new.log.memory) c.in_ok-log.ensures.fresh
       c.write_root.ensures.written));
+  label = ap (λ (l : LogParts). block_at l.memory 0) c.in_ok-over.ensures.log
+      ∙ ap (λ (m : SegmentMemory). block_at m 0) c.enter_root.ensures.memory ∙ c.write_root.ensures.label
+      ∙ ap (λ (l : LogParts). block_at l.memory 0) c.in_ok-log.ensures.fresh;
   size = ap (λ (l : LogParts). l.memory.segments) c.in_ok-over.ensures.log
       ∙ ap (λ (m : SegmentMemory). m.segments) c.enter_root.ensures.memory ∙ c.write_root.ensures.size
       ∙ ap (λ (l : LogParts). l.memory.segments) c.in_ok-log.ensures.fresh;
