@@ -9,7 +9,9 @@ use Rattle.lfs_types.specs.Blocks.{zero_block}
 use Rattle.lfs_segments.specs.Memory.{IsLaidOut, SegmentMemory, appended, block_at, log_start, next_address, opened, room_of}
 use Rattle.lfs_segments.specs.Memory.{seen_with, written}
 use Rattle.lfs_segments.specs.Log.{first_of}
+use Rattle.lfs_ifile.specs.declared.segment.SegState.{SegState}
 use Rattle.lfs_ifile.specs.declared.segment.SegState.TheVariants.{Clean}
+use Rattle.std.specs.Prelude.{slice_index_or}
 use Rattle.lfs_log.specs.Parts.{state_of}
 use Rattle.lfs_segments.specs.Serial.{Told, told_in}
 use Rattle.lfs_segments.proofs.MemoryLemmas.{get_or-written_after, get_or-written_before, get_or-written_inside}
@@ -18,7 +20,8 @@ use Rattle.lfs_segments.proofs.WritingLemmas.{block_at-opened, block_at-opened_a
 use Rattle.lfs_segments.proofs.WritingLemmas.{block_at-appended_behind, block_at-appended_new, block_at-appended_older}
 use Rattle.lfs_recovery.specs.Logs.{log_place}
 use Rattle.lfs_parts.specs.declared.parts.Parts.{Parts}
-use Rattle.lfs_durable.specs.Crashes.{FlushCrashes, IsCrashOf, IsInFlush, IsInOpenedFlush, IsInOpening, IsNoneWhole}
+use Rattle.lfs_durable.specs.Crashes.{FlushCrashes, IsCrashOf, IsInFlush, IsInOpenedFlush, IsInOpening, IsMidway, IsNoneWhole}
+use Rattle.lfs_durable.specs.Crashes.{StagedCrashes}
 use Rattle.lfs_durable.specs.Names.{IsDurable}
 use Rattle.lfs_durable.proofs.ChainLemmas.{zeros_last, zeros_tell}
 
@@ -222,3 +225,36 @@ pub flush_crashes : FlushCrashes
 flush_crashes p n d (inl f) = in_flush p n d f
 flush_crashes p n d (inr (inl o)) = in_opening p n d o
 flush_crashes p n d (inr (inr o)) = in_opened p n d o
+
+-- what waits doesn't change the log
+pub staged_crashes : StagedCrashes
+staged_crashes p q n d stays midway = flush_crashes p n d (back midway)
+  where
+    clean_before : (segment : ℕ) → state_of q.log.tables segment ≡ Clean → state_of p.log.tables segment ≡ Clean
+    clean_before segment clean =
+        sym (ap (λ (xs : List SegState). slice_index_or xs segment Clean) stays.states) ∙ clean
+
+    back : IsMidway q n → IsMidway p n
+    back (inl f) = inl (subst (λ (k : SegmentMemory). IsInFlush k n) stays.memory f)
+    back (inr (inl o)) =
+        let inside = o.inside in
+        let size = ap (λ (k : SegmentMemory). k.segments) stays.memory in
+        inr (inl (record {
+          segment = o.segment;
+          inside = omega arith;
+          clean = clean_before o.segment o.clean;
+          landed = o.landed;
+          few = o.few;
+          segments = o.segments ∙ size;
+          blocks = o.blocks ∙ ap (λ (k : SegmentMemory). written k.blocks (log_place o.segment) (replicate o.landed zero_block))
+              stays.memory;
+        }))
+    back (inr (inr o)) =
+        let inside = o.inside in
+        let size = ap (λ (k : SegmentMemory). k.segments) stays.memory in
+        inr (inr (record {
+          segment = o.segment;
+          inside = omega arith;
+          clean = clean_before o.segment o.clean;
+          flush = subst (λ (k : SegmentMemory). IsInFlush (opened k o.segment) n) stays.memory o.flush;
+        }))

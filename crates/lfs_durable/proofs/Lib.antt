@@ -10,3 +10,4 @@ pub mod ContentLemmas
 pub mod ChainLemmas
 pub mod CrashLemmas
 pub mod FlushLemmas
+pub mod KeptLemmas

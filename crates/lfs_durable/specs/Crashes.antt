@@ -14,6 +14,7 @@ use Rattle.lfs_recovery.specs.Whole.{IsWhole}
 use Rattle.lfs_parts.specs.declared.parts.Parts.{Parts}
 use Rattle.lfs_parts.specs.Files.{content_of}
 use Rattle.lfs_parts.specs.Store.{IsFlushed, IsStore}
+use Rattle.lfs_staging.specs.Changing.{StaysInLog}
 use Rattle.lfs_model.specs.World.{IsTree}
 use Rattle.lfs_calls.specs.Content.{Shows}
 use Rattle.lfs_durable.specs.Contents.{IsMadeOf}
@@ -99,7 +100,14 @@ pub record IsInOpening (p : Parts) (n : SegmentMemory) : Type 0 where
   pub segments : n.segments ≡ p.log.memory.segments
   pub blocks : n.blocks ≡ written p.log.memory.blocks (log_place segment) (replicate landed zero_block)
 
--- What a store's blocks are between any two block writes of a flush is what a crash leaves.
+-- the blocks of a store between any two block writes of a flush
+abbrev pub IsMidway : Parts → SegmentMemory → Type 0
+IsMidway p n = IsInFlush p.log.memory n ⊎ (IsInOpening p n ⊎ IsInOpenedFlush p n)
+
+-- They are what a crash leaves.
 abbrev pub FlushCrashes : Type 0
-FlushCrashes = (p : Parts) (n : SegmentMemory) → IsDurable p
-    → IsInFlush p.log.memory n ⊎ (IsInOpening p n ⊎ IsInOpenedFlush p n) → IsCrashOf p n
+FlushCrashes = (p : Parts) (n : SegmentMemory) → IsDurable p → IsMidway p n → IsCrashOf p n
+
+-- So they are of the store as it was before the changes that this flush writes.
+abbrev pub StagedCrashes : Type 0
+StagedCrashes = (p staged : Parts) (n : SegmentMemory) → IsDurable p → StaysInLog p staged → IsMidway staged n → IsCrashOf p n

@@ -1,5 +1,6 @@
 pub mod Alike
 pub mod Contents
 pub mod Crashes
+pub mod Kept
 pub mod Names
 pub mod Spared

@@ -2,7 +2,9 @@
 
 ghost use Rattle.lfs_durable.specs.Alike.{FindsBlocks};
 ghost use Rattle.lfs_durable.specs.Contents.{FindsContent};
-ghost use Rattle.lfs_durable.specs.Crashes.{CrashSpares, FindsAfterCrash, FlushCrashes};
+ghost use Rattle.lfs_durable.specs.Crashes.{CrashSpares, FindsAfterCrash, FlushCrashes, StagedCrashes};
+ghost use Rattle.lfs_durable.specs.Kept.{FlushedIsDurable, FreshCanBeFound, FreshIsDurable};
+ghost use Rattle.lfs_durable.specs.Kept.{MovesCanBeFound, WritesCanBeFound};
 ghost use Rattle.lfs_durable.specs.Names.{FindsNames, FindsRecordOfEach};
 ghost use Rattle.lfs_durable.specs.Spared.{FindsSpared};
 
@@ -45,4 +47,34 @@ pub fn finds_after_crash()
 /// What a store's blocks are between any two block writes of a flush is what a crash leaves.
 pub fn flush_crashes()
     ensures { FlushCrashes }
+{}
+
+/// A store that was just laid out with serials can be found.
+pub fn fresh_can_be_found()
+    ensures { FreshCanBeFound }
+{}
+
+/// And is durable.
+pub fn fresh_is_durable()
+    ensures { FreshIsDurable }
+{}
+
+/// It can be found whatever is written at its log's end.
+pub fn writes_can_be_found()
+    ensures { WritesCanBeFound }
+{}
+
+/// And where the cleaner has blocks written again.
+pub fn moves_can_be_found()
+    ensures { MovesCanBeFound }
+{}
+
+/// So it is durable wherever nothing waits, until the last serial comes: behind each Sync.
+pub fn flushed_is_durable()
+    ensures { FlushedIsDurable }
+{}
+
+/// So a crash while changes are written leaves the store as it was before them.
+pub fn staged_crashes()
+    ensures { StagedCrashes }
 {}
