@@ -36,6 +36,12 @@ WritesCanBeFound = (old new : Parts) → WritesAhead old new → CanBeFound old 
 abbrev pub MovesCanBeFound : Type 0
 MovesCanBeFound = (old new : Parts) → MovesBlocks old new → CanBeFound old → CanBeFound new
 
+-- And where no block changed, as where a segment is made clean.
+abbrev pub SameCanBeFound : Type 0
+SameCanBeFound = (old new : Parts) → new.log.memory ≡ old.log.memory
+    → length new.log.tables.rows ≡ length old.log.tables.rows → (IsOrdered old.log → IsOrdered new.log)
+    → CanBeFound old → CanBeFound new
+
 -- Wherever nothing waits it is durable, until the last serial comes.
 abbrev pub FlushedIsDurable : Type 0
 FlushedIsDurable = (p : Parts) (next : ℕ) → CanBeFound p → IsStore p → IsFlushed p → p.log.memory.serial ≡ Some next

@@ -4,7 +4,7 @@ ghost use Rattle.lfs_durable.specs.Alike.{FindsBlocks};
 ghost use Rattle.lfs_durable.specs.Contents.{FindsContent};
 ghost use Rattle.lfs_durable.specs.Crashes.{CrashSpares, FindsAfterCrash, FlushCrashes, StagedCrashes};
 ghost use Rattle.lfs_durable.specs.Kept.{FlushedIsDurable, FreshCanBeFound, FreshIsDurable};
-ghost use Rattle.lfs_durable.specs.Kept.{MovesCanBeFound, WritesCanBeFound};
+ghost use Rattle.lfs_durable.specs.Kept.{MovesCanBeFound, SameCanBeFound, WritesCanBeFound};
 ghost use Rattle.lfs_durable.specs.Names.{FindsNames, FindsRecordOfEach};
 ghost use Rattle.lfs_durable.specs.Spared.{FindsSpared};
 
@@ -49,6 +49,11 @@ pub fn flush_crashes()
     ensures { FlushCrashes }
 {}
 
+/// So a crash while changes are written leaves the store as it was before them.
+pub fn staged_crashes()
+    ensures { StagedCrashes }
+{}
+
 /// A store that was just laid out with serials can be found.
 pub fn fresh_can_be_found()
     ensures { FreshCanBeFound }
@@ -69,12 +74,12 @@ pub fn moves_can_be_found()
     ensures { MovesCanBeFound }
 {}
 
+/// And where no block changes, as where a segment is made clean.
+pub fn same_can_be_found()
+    ensures { SameCanBeFound }
+{}
+
 /// So it is durable wherever nothing waits, until the last serial comes: behind each Sync.
 pub fn flushed_is_durable()
     ensures { FlushedIsDurable }
-{}
-
-/// So a crash while changes are written leaves the store as it was before them.
-pub fn staged_crashes()
-    ensures { StagedCrashes }
 {}
