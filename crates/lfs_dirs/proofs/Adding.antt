@@ -85,22 +85,3 @@ block_added block es e end out h at_end room entry absent is_out =
       entries = AreEntries-added es e h.entries entry absent;
       spelled = subst P (sym bytes) (Spells-from_bytes rest (es ++ e ∷ []));
     }
-
--- bytes, one after the other, at the front of zeros
-pub joined_is : (front rest first second : List ℕ) → first ≡ front → second ≡ rest → length front + length rest ≤ 512
-    → put_mid (length front) (length front + length rest - length front)
-    (first ++ drop (length front) (replicate 512 0)) second
-    ≡ front ++ (rest ++ replicate (512 - length front - length rest) 0)
-joined_is front rest first second is_first is_second room =
-    let a = length front in
-    let m = length rest in
-    let zeros : List ℕ = replicate (512 - a) 0 in
-    let inner : first ++ drop a (replicate 512 0) ≡ front ++ zeros =
-    ap (λ xs. xs ++ drop a (replicate 512 0)) is_first ∙ ap (λ xs. front ++ xs) (drop-replicate a 512 0) in
-    let count : a + m - a ≡ m = omega arith in
-    ap (λ xs. put_mid a (a + m - a) xs second) inner
-    ∙ ap (λ ys. put_mid a (a + m - a) (front ++ zeros) ys) is_second
-    ∙ ap (λ n. put_mid a n (front ++ zeros) rest) count
-    ∙ ap (λ xs. xs ++ (rest ++ post_of a m (front ++ zeros))) (take_at front zeros a refl)
-    ∙ ap (λ xs. front ++ (rest ++ drop m xs)) (drop_at front zeros a refl)
-    ∙ ap (λ xs. front ++ (rest ++ xs)) (drop-replicate m (512 - a) 0)
