@@ -89,40 +89,53 @@ fn each_line_is_told_again(rt: HostRuntime) {
     expect_eq(&rt, text.as_slice(), LINES);
 }
 
-#[test]
-fn entries_by_hand(rt: HostRuntime) {
-    let path = Path::parse(rt.alloc(), "/a b").expect(&rt, "a path");
-    let entry = call(&rt, Request::Unlink { path }, Answer::Served(Served::Done));
-    let line = b"1 as 0 0 | unlink %/a%20b | ok";
-    expect_eq(&rt, read_entry(rt.alloc(), line), Ok(entry));
-    let path = Path::parse_bytes(rt.alloc(), b"/\xff/\xc3").expect(&rt, "a path");
-    let entry = call(&rt, Request::Unlink { path }, Answer::Served(Served::Done));
-    let line = b"1 as 0 0 | unlink %/%ff/%c3 | ok";
-    expect_eq(&rt, read_entry(rt.alloc(), line), Ok(entry));
-    let entry = call(&rt, Request::Sync, Answer::Refused(Resource::NoSpace));
-    let line = b"1 as 0 0 | sync | refused NoSpace";
-    expect_eq(&rt, read_entry(rt.alloc(), line), Ok(entry));
+/// Asserts that a line is read as this entry.
+fn expect_entry(rt: &impl Abort, alloc: Global, line: &[u8], entry: Entry) {
+    expect_eq(rt, read_entry(alloc, line), Ok(entry));
+}
+
+/// The entry of an Unlink of a path that was served.
+fn unlink(rt: &impl Abort, alloc: Global, path: &[u8]) -> Entry {
+    let path = Path::parse_bytes(alloc, path).expect(rt, "a path");
+    call(rt, Request::Unlink { path }, Answer::Served(Served::Done))
 }
 
 #[test]
+fn entries_by_hand(rt: HostRuntime) {
+    let alloc = rt.alloc();
+    let line = b"1 as 0 0 | unlink %/a%20b | ok";
+    expect_entry(&rt, alloc, line, unlink(&rt, alloc, b"/a b"));
+    let line = b"1 as 0 0 | unlink %/%ff/%c3 | ok";
+    expect_entry(&rt, alloc, line, unlink(&rt, alloc, b"/\xff/\xc3"));
+    let line = b"1 as 0 0 | sync | refused NoSpace";
+    let entry = call(&rt, Request::Sync, Answer::Refused(Resource::NoSpace));
+    expect_entry(&rt, alloc, line, entry);
+}
+
+/// Lines, and what stands behind a number.
+const NUMBERED: [(&[u8], u64, Option<&[u8]>); 7] = [
+    (b"1 as 0 0 | sync | ok", 12, Some(b"1 as 0 0 | sync | ok")),
+    (
+        b"#12 1 as 0 0 | sync | ok",
+        12,
+        Some(b"1 as 0 0 | sync | ok"),
+    ),
+    (b"#12 1 as 0 0 | sync | ok", 13, None),
+    (b"#012 1 as 0 0 | sync | ok", 12, None),
+    (b"#121 as 0 0 | sync | ok", 12, None),
+    (b"#", 0, None),
+    (
+        b"#18446744073709551615 x",
+        18_446_744_073_709_551_615,
+        Some(b"x"),
+    ),
+];
+
+#[test]
 fn numbers_by_hand(rt: HostRuntime) {
-    let line = b"1 as 0 0 | sync | ok";
-    expect_eq(&rt, unnumbered(line, 12), Some(line.as_slice()));
-    expect_eq(
-        &rt,
-        unnumbered(b"#12 1 as 0 0 | sync | ok", 12),
-        Some(line.as_slice()),
-    );
-    expect_eq(&rt, unnumbered(b"#12 1 as 0 0 | sync | ok", 13), None);
-    expect_eq(&rt, unnumbered(b"#012 1 as 0 0 | sync | ok", 12), None);
-    expect_eq(&rt, unnumbered(b"#121 as 0 0 | sync | ok", 12), None);
-    expect_eq(&rt, unnumbered(b"#", 0), None);
-    let last = b"#18446744073709551615 x";
-    expect_eq(
-        &rt,
-        unnumbered(last, 18_446_744_073_709_551_615),
-        Some(b"x".as_slice()),
-    );
+    for (line, number, rest) in NUMBERED {
+        expect_eq(&rt, unnumbered(line, number), rest);
+    }
 }
 
 /// The call of the cleaner, session 255, with what came of it.
@@ -150,226 +163,124 @@ const MARKS: [BlockInfo; 2] = [
     },
 ];
 
+/// The entry of a Markv of these blocks.
+fn markv(rt: &impl Abort, alloc: Global) -> Entry {
+    let marks = CleanerCall::Markv(MarkList::new(&MARKS).expect(rt, "two infos"));
+    let act = CleanerAct::of(alloc, &marks).expect(rt, "memory");
+    cleaning(rt, act, CleanerOutcome::Done(2))
+}
+
 #[test]
 fn cleaner_by_hand(rt: HostRuntime) {
     let live = CleanerOutcome::Fault(CleanFault::Live(512));
     let entry = cleaning(&rt, CleanerAct::Segclean(12), live);
     let line = b"255 as 0 0 | segclean 12 | fault Live 512";
-    expect_eq(&rt, read_entry(rt.alloc(), line), Ok(entry));
-    let marks = CleanerCall::Markv(MarkList::new(&MARKS).expect(&rt, "two infos"));
-    let act = CleanerAct::of(rt.alloc(), &marks).expect(&rt, "memory");
-    let entry = cleaning(&rt, act, CleanerOutcome::Done(2));
+    expect_entry(&rt, rt.alloc(), line, entry);
     let line = b"255 as 0 0 | markv 4:1:2:70 5:3:4294967295:71 | ok 2";
-    expect_eq(&rt, read_entry(rt.alloc(), line), Ok(entry));
+    expect_entry(&rt, rt.alloc(), line, markv(&rt, rt.alloc()));
 }
 
-#[test]
-fn faults_of_the_line(rt: HostRuntime) {
-    expect_fault(&rt, rt.alloc(), b"", Field::Line, FaultKind::Words);
-    expect_fault(&rt, rt.alloc(), b"\xff", Field::Line, FaultKind::Bytes);
-    expect_fault(
-        &rt,
-        rt.alloc(),
-        b"0 as 0 0 | sync | ok\n",
-        Field::Line,
-        FaultKind::Bytes,
-    );
-    expect_fault(
-        &rt,
-        rt.alloc(),
-        b"0 as 0 0 | sync |  ok",
-        Field::Line,
-        FaultKind::Words,
-    );
-    expect_fault(
-        &rt,
-        rt.alloc(),
-        b"0 as 0 0 | sync ok",
-        Field::Line,
-        FaultKind::Words,
-    );
-    expect_fault(&rt, rt.alloc(), b"0 as 0 0", Field::Line, FaultKind::Words);
-}
-
-#[test]
-fn faults_of_the_caller(rt: HostRuntime) {
-    let field = Field::Caller;
-    expect_fault(
-        &rt,
-        rt.alloc(),
-        b"256 as 0 0 | sync | ok",
-        field,
-        FaultKind::Range,
-    );
-    expect_fault(
-        &rt,
-        rt.alloc(),
-        b"0 is 0 0 | sync | ok",
-        field,
-        FaultKind::Words,
-    );
-    expect_fault(
-        &rt,
-        rt.alloc(),
-        b"0 as x 0 | sync | ok",
-        field,
-        FaultKind::Number,
-    );
-    expect_fault(&rt, rt.alloc(), b"| sync | ok", field, FaultKind::Words);
-}
-
-#[test]
-fn faults_of_the_call(rt: HostRuntime) {
-    let field = Field::Call;
-    expect_fault(&rt, rt.alloc(), b"0 as 0 0 | | ok", field, FaultKind::Words);
-    expect_fault(
-        &rt,
-        rt.alloc(),
-        b"0 as 0 0 | # | ok",
-        field,
-        FaultKind::Words,
-    );
-    expect_fault(
-        &rt,
-        rt.alloc(),
-        b"0 as 0 0 | as 0 0 | ok",
-        field,
-        FaultKind::Words,
-    );
-    expect_fault(
-        &rt,
-        rt.alloc(),
-        b"0 as 0 0 | pass | ok",
-        field,
-        FaultKind::Words,
-    );
-    expect_fault(
-        &rt,
-        rt.alloc(),
-        b"0 as 0 0 | stat %/a%2 | ok",
-        field,
-        FaultKind::Hex,
-    );
-    expect_fault(
-        &rt,
-        rt.alloc(),
-        b"0 as 0 0 | stat %/a%2G | ok",
-        field,
-        FaultKind::Hex,
-    );
-    expect_fault(
-        &rt,
-        rt.alloc(),
-        b"0 as 0 0 | stat %a | ok",
-        field,
-        FaultKind::Path(BadPath::NotAbsolute),
-    );
-}
-
-#[test]
-fn faults_of_a_cleaners_call(rt: HostRuntime) {
-    let field = Field::Call;
-    let lines: [(&[u8], FaultKind); 6] = [
-        (b"0 as 0 0 | cleaner ifile | ok 252", FaultKind::Words),
-        (b"0 as 0 0 | segclean | ok 0", FaultKind::Words),
-        (b"0 as 0 0 | segclean 0 1 | ok 0", FaultKind::Words),
-        (b"0 as 0 0 | infos %/0 | ok 1", FaultKind::Number),
-        (b"0 as 0 0 | bmapv 4:1:0 | ok 1", FaultKind::Number),
-        (
-            b"0 as 0 0 | markv 4:1:0:4294967296 | ok 1",
-            FaultKind::Range,
-        ),
-    ];
-    for (line, kind) in lines {
-        expect_fault(&rt, rt.alloc(), line, field, kind);
+/// Asserts that each of these lines has this fault in this field.
+fn expect_faults(rt: &impl Abort, alloc: Global, field: Field, faults: &[(&[u8], FaultKind)]) {
+    for (line, kind) in faults {
+        expect_fault(rt, alloc, line, field, *kind);
     }
 }
 
+/// Lines that are none of a journal.
+const OF_LINES: [(&[u8], FaultKind); 6] = [
+    (b"", FaultKind::Words),
+    (b"\xff", FaultKind::Bytes),
+    (b"0 as 0 0 | sync | ok\n", FaultKind::Bytes),
+    (b"0 as 0 0 | sync |  ok", FaultKind::Words),
+    (b"0 as 0 0 | sync ok", FaultKind::Words),
+    (b"0 as 0 0", FaultKind::Words),
+];
+
+#[test]
+fn faults_of_the_line(rt: HostRuntime) {
+    expect_faults(&rt, rt.alloc(), Field::Line, &OF_LINES);
+}
+
+/// Lines of a session or of a caller that is none.
+const OF_CALLERS: [(&[u8], FaultKind); 4] = [
+    (b"256 as 0 0 | sync | ok", FaultKind::Range),
+    (b"0 is 0 0 | sync | ok", FaultKind::Words),
+    (b"0 as x 0 | sync | ok", FaultKind::Number),
+    (b"| sync | ok", FaultKind::Words),
+];
+
+#[test]
+fn faults_of_the_caller(rt: HostRuntime) {
+    expect_faults(&rt, rt.alloc(), Field::Caller, &OF_CALLERS);
+}
+
+/// Lines of a user's call that is none.
+const OF_CALLS: [(&[u8], FaultKind); 7] = [
+    (b"0 as 0 0 | | ok", FaultKind::Words),
+    (b"0 as 0 0 | # | ok", FaultKind::Words),
+    (b"0 as 0 0 | as 0 0 | ok", FaultKind::Words),
+    (b"0 as 0 0 | pass | ok", FaultKind::Words),
+    (b"0 as 0 0 | stat %/a%2 | ok", FaultKind::Hex),
+    (b"0 as 0 0 | stat %/a%2G | ok", FaultKind::Hex),
+    (
+        b"0 as 0 0 | stat %a | ok",
+        FaultKind::Path(BadPath::NotAbsolute),
+    ),
+];
+
+#[test]
+fn faults_of_the_call(rt: HostRuntime) {
+    expect_faults(&rt, rt.alloc(), Field::Call, &OF_CALLS);
+}
+
+/// Lines of a cleaner's call that is none.
+const OF_CLEANERS: [(&[u8], FaultKind); 6] = [
+    (b"0 as 0 0 | cleaner ifile | ok 252", FaultKind::Words),
+    (b"0 as 0 0 | segclean | ok 0", FaultKind::Words),
+    (b"0 as 0 0 | segclean 0 1 | ok 0", FaultKind::Words),
+    (b"0 as 0 0 | infos %/0 | ok 1", FaultKind::Number),
+    (b"0 as 0 0 | bmapv 4:1:0 | ok 1", FaultKind::Number),
+    (
+        b"0 as 0 0 | markv 4:1:0:4294967296 | ok 1",
+        FaultKind::Range,
+    ),
+];
+
+#[test]
+fn faults_of_a_cleaners_call(rt: HostRuntime) {
+    expect_faults(&rt, rt.alloc(), Field::Call, &OF_CLEANERS);
+}
+
+/// Lines of an answer that is none, or that is no answer to the call.
+const OF_ANSWERS: [(&[u8], FaultKind); 12] = [
+    (b"0 as 0 0 | sync |", FaultKind::Words),
+    (b"0 as 0 0 | sync | okay", FaultKind::Words),
+    (b"0 as 0 0 | sync | ok 0", FaultKind::Words),
+    (b"0 as 0 0 | sync | refused NoMemory", FaultKind::Words),
+    (b"0 as 0 0 | sync | refused JournalFull", FaultKind::Words),
+    (b"0 as 0 0 | sync | denied M2 EPERM 0 0", FaultKind::Words),
+    (
+        b"0 as 0 0 | sync | denied M2 EACCES 256 0",
+        FaultKind::Range,
+    ),
+    (
+        b"0 as 0 0 | stat / | stat 2 link 0 0 0755 00000000 0",
+        FaultKind::Words,
+    ),
+    (
+        b"0 as 0 0 | stat / | stat 2 dir 0 0 0755 00000000",
+        FaultKind::Words,
+    ),
+    (b"0 as 0 0 | read / 0 1 | bytes 0", FaultKind::Hex),
+    (b"0 as 0 0 | infos 0 | fault Live", FaultKind::Words),
+    (
+        b"0 as 0 0 | list / | names a%2fb",
+        FaultKind::Path(BadPath::Name(1, BadName::Slash)),
+    ),
+];
+
 #[test]
 fn faults_of_the_answer(rt: HostRuntime) {
-    let field = Field::Answer;
-    expect_fault(
-        &rt,
-        rt.alloc(),
-        b"0 as 0 0 | sync |",
-        field,
-        FaultKind::Words,
-    );
-    expect_fault(
-        &rt,
-        rt.alloc(),
-        b"0 as 0 0 | sync | okay",
-        field,
-        FaultKind::Words,
-    );
-    expect_fault(
-        &rt,
-        rt.alloc(),
-        b"0 as 0 0 | sync | ok 0",
-        field,
-        FaultKind::Words,
-    );
-    expect_fault(
-        &rt,
-        rt.alloc(),
-        b"0 as 0 0 | sync | refused NoMemory",
-        field,
-        FaultKind::Words,
-    );
-    expect_fault(
-        &rt,
-        rt.alloc(),
-        b"0 as 0 0 | sync | refused JournalFull",
-        field,
-        FaultKind::Words,
-    );
-    expect_fault(
-        &rt,
-        rt.alloc(),
-        b"0 as 0 0 | sync | denied M2 EPERM 0 0",
-        field,
-        FaultKind::Words,
-    );
-    expect_fault(
-        &rt,
-        rt.alloc(),
-        b"0 as 0 0 | sync | denied M2 EACCES 256 0",
-        field,
-        FaultKind::Range,
-    );
-    expect_fault(
-        &rt,
-        rt.alloc(),
-        b"0 as 0 0 | stat / | stat 2 link 0 0 0755 00000000 0",
-        field,
-        FaultKind::Words,
-    );
-    expect_fault(
-        &rt,
-        rt.alloc(),
-        b"0 as 0 0 | stat / | stat 2 dir 0 0 0755 00000000",
-        field,
-        FaultKind::Words,
-    );
-    expect_fault(
-        &rt,
-        rt.alloc(),
-        b"0 as 0 0 | read / 0 1 | bytes 0",
-        field,
-        FaultKind::Hex,
-    );
-    expect_fault(
-        &rt,
-        rt.alloc(),
-        b"0 as 0 0 | infos 0 | fault Live",
-        field,
-        FaultKind::Words,
-    );
-    expect_fault(
-        &rt,
-        rt.alloc(),
-        b"0 as 0 0 | list / | names a%2fb",
-        field,
-        FaultKind::Path(BadPath::Name(1, BadName::Slash)),
-    );
+    expect_faults(&rt, rt.alloc(), Field::Answer, &OF_ANSWERS);
 }

@@ -86,36 +86,67 @@ fn memory_of(rt: &impl Abort, alloc: Global, blocks: &[Block]) -> Segments {
     memory
 }
 
-/// Asserts where a log ends, and where the records of the root and of file 4 stand.
-fn expect_found(
-    rt: &impl Abort,
-    store: &LogStore,
+/// What a log shows: the address at which it ends, where the records of the root and of file 4 stand, and the next serial.
+#[derive(Clone, Copy, PartialEq, Debug)]
+struct Found {
     end: u32,
-    root: (u32, u16),
+    root: Option<(u32, u16)>,
     file: Option<(u32, u16, u32)>,
-) {
+    serial: Option<u32>,
+}
+
+/// The file that stands behind the first partial segment.
+const FIRST: Found = Found {
+    end: 4,
+    root: Some((3, 0)),
+    file: Some((3, 1, 3)),
+    serial: Some(2),
+};
+
+/// What the log of a store shows.
+fn shown(rt: &impl Abort, store: &LogStore) -> Found {
     let log = &store.parts().log;
     assert!(rt; log.inodes() > 4);
-    expect_eq(rt, log.next_address(), end);
-    let place = log
-        .place(2)
-        .map(|place: InodePlace| (place.addr, place.slot));
-    expect_eq(rt, place, Some(root));
-    let place = log.place(4).map(|place: InodePlace| (place.addr, place.slot, place.version));
-    expect_eq(rt, place, file);
+    let root = log.place(2);
+    let file = log.place(4);
+    Found {
+        end: log.next_address(),
+        root: root.map(|place: InodePlace| (place.addr, place.slot)),
+        file: file.map(|place: InodePlace| (place.addr, place.slot, place.version)),
+        serial: log.serial(),
+    }
+}
+
+/// What the store shows that is found in a memory.
+fn recovered(rt: &impl Abort, alloc: Global, memory: &Segments) -> Found {
+    let store = recover(alloc, memory, Level::Insecure, LEAST_FRAMES).expect(rt, "a volume");
+    shown(rt, &store)
+}
+
+/// What the store shows that is found in the bytes of blocks.
+fn recovered_bytes(rt: &impl Abort, alloc: Global, bytes: &[u8]) -> Found {
+    let store = recover_blocks(alloc, bytes, Level::Insecure, LEAST_FRAMES);
+    shown(rt, &store.expect(rt, "a volume"))
+}
+
+/// Asserts what the store shows that is found in a memory with these blocks.
+fn expect_found(rt: &impl Abort, alloc: Global, blocks: &[Block], wanted: Found) {
+    let memory = memory_of(rt, alloc, blocks);
+    expect_eq(rt, recovered(rt, alloc, &memory), wanted);
+}
+
+/// What is told where no volume is found in a memory.
+fn fault_in(rt: &impl Abort, alloc: Global, memory: &Segments) -> String {
+    let found = recover(alloc, memory, Level::HighlySecure, LEAST_FRAMES);
+    let fault = found.err().expect(rt, "no volume");
+    format!(in alloc; "fault: {fault}\n").expect(rt, "memory")
 }
 
 /// Asserts that no volume is found in a memory with these blocks, and in which line `lfs_check` tells why.
 fn expect_lost(rt: &impl Abort, alloc: Global, blocks: &[Block], line: &str) {
     let memory = memory_of(rt, alloc, blocks);
+    expect_eq(rt, fault_in(rt, alloc, &memory).as_str(), line);
     let bytes = bytes_in(rt, alloc, &memory);
-    match recover(alloc, &memory, Level::HighlySecure, LEAST_FRAMES) {
-        Ok(_) => panic!(rt; "a volume"),
-        Err(fault) => {
-            let told = format!(in alloc; "fault: {fault}\n").expect(rt, "memory");
-            expect_eq(rt, told.as_str(), line);
-        }
-    }
     expect_ended(rt, &searched(alloc, &bytes), (1, line, ""));
 }
 
@@ -163,9 +194,7 @@ fn bytes_of(rt: &impl Abort, alloc: Global, store: &LogStore) -> Vec<u8> {
 #[test]
 fn file_that_is_named_is_found(rt: HostRuntime) {
     let blocks = [summary(1, 1), block_of(&LISTED), root_and_file(2)];
-    let memory = memory_of(&rt, rt.alloc(), &blocks);
-    let store = recover(rt.alloc(), &memory, Level::Insecure, LEAST_FRAMES).expect(&rt, "a volume");
-    expect_found(&rt, &store, 4, (3, 0), Some((3, 1, 3)));
+    expect_found(&rt, rt.alloc(), &blocks, FIRST);
 }
 
 #[test]
@@ -178,9 +207,13 @@ fn file_that_was_removed_is_not(rt: HostRuntime) {
         ZERO_BLOCK,
         root(5),
     ];
-    let memory = memory_of(&rt, rt.alloc(), &blocks);
-    let store = recover(rt.alloc(), &memory, Level::Insecure, LEAST_FRAMES).expect(&rt, "a volume");
-    expect_found(&rt, &store, 7, (6, 0), None);
+    let wanted = Found {
+        end: 7,
+        root: Some((6, 0)),
+        file: None,
+        serial: Some(3),
+    };
+    expect_found(&rt, rt.alloc(), &blocks, wanted);
 }
 
 #[test]
@@ -192,9 +225,7 @@ fn torn_partial_segment_leaves_what_was_before(rt: HostRuntime) {
         summary(4, 2),
         block_of(&LISTED),
     ];
-    let memory = memory_of(&rt, rt.alloc(), &blocks);
-    let store = recover(rt.alloc(), &memory, Level::Insecure, LEAST_FRAMES).expect(&rt, "a volume");
-    expect_found(&rt, &store, 4, (3, 0), Some((3, 1, 3)));
+    expect_found(&rt, rt.alloc(), &blocks, FIRST);
 }
 
 #[test]
@@ -211,9 +242,11 @@ fn last_serial_tells_no_order(rt: HostRuntime) {
     let line = "fault: the last serial is given out, and does not tell which is the newest\n";
     expect_lost(&rt, rt.alloc(), &blocks, line);
     blocks[0][15] = 0xfe;
-    let memory = memory_of(&rt, rt.alloc(), &blocks);
-    let store = recover(rt.alloc(), &memory, Level::Insecure, LEAST_FRAMES).expect(&rt, "a volume");
-    expect_eq(&rt, store.parts().log.serial(), Some(0xffff_ffff));
+    let wanted = Found {
+        serial: Some(0xffff_ffff),
+        ..FIRST
+    };
+    expect_found(&rt, rt.alloc(), &blocks, wanted);
 }
 
 #[test]
@@ -249,6 +282,14 @@ fn names_of_no_tree_are_told(rt: HostRuntime) {
     expect_lost(&rt, alloc, &partial(1, &LISTED, block_of(&FILE)), line);
 }
 
+/// What the store shows that is found in a memory with these blocks, and what is found again in the bytes of its blocks.
+fn found_twice(rt: &impl Abort, alloc: Global, blocks: &[Block]) -> [Found; 2] {
+    let memory = memory_of(rt, alloc, blocks);
+    let store = recover(alloc, &memory, Level::Insecure, LEAST_FRAMES).expect(rt, "a volume");
+    let bytes = bytes_of(rt, alloc, &store);
+    [shown(rt, &store), recovered_bytes(rt, alloc, &bytes)]
+}
+
 #[test]
 fn volume_is_found_twice(rt: HostRuntime) {
     let blocks = [
@@ -258,36 +299,33 @@ fn volume_is_found_twice(rt: HostRuntime) {
         summary(4, 7),
         block_of(&LISTED),
     ];
-    let alloc = rt.alloc();
-    let memory = memory_of(&rt, alloc, &blocks);
-    let store = recover(alloc, &memory, Level::Insecure, LEAST_FRAMES).expect(&rt, "a volume");
-    expect_eq(&rt, store.parts().log.serial(), Some(2));
-    let bytes = bytes_of(&rt, alloc, &store);
-    let again = recover_blocks(alloc, &bytes, Level::Insecure, LEAST_FRAMES).expect(
-        &rt, "a volume",
-    );
-    expect_found(&rt, &again, 4, (3, 0), Some((3, 1, 3)));
-    expect_eq(&rt, again.parts().log.serial(), Some(2));
+    expect_eq(&rt, found_twice(&rt, rt.alloc(), &blocks), [FIRST, FIRST]);
 }
 
-#[test]
-fn store_with_serials_is_found(rt: HostRuntime) {
+/// The blocks of a new volume whose summaries have serials.
+fn with_serials(rt: &impl Abort, alloc: Global) -> Vec<u8> {
     let params = Params {
         segments: 6,
         inodes: 16,
         frames: 32,
         journal: 1,
     };
-    let alloc = rt.alloc();
-    let Ok(store) = LogStore::format_with_serials(alloc, params) else {
-        panic!(&rt; "no store");
+    match LogStore::format_with_serials(alloc, params) {
+        Ok(store) => bytes_of(rt, alloc, &store),
+        Err(_) => panic!(rt; "no store"),
+    }
+}
+
+#[test]
+fn store_with_serials_is_found(rt: HostRuntime) {
+    let bytes = with_serials(&rt, rt.alloc());
+    let wanted = Found {
+        end: 3,
+        root: Some((2, 0)),
+        file: None,
+        serial: Some(2),
     };
-    let bytes = bytes_of(&rt, alloc, &store);
-    let found = recover_blocks(alloc, &bytes, Level::Insecure, LEAST_FRAMES).expect(
-        &rt, "a volume",
-    );
-    expect_found(&rt, &found, 3, (2, 0), None);
-    expect_eq(&rt, found.parts().log.serial(), Some(2));
+    expect_eq(&rt, recovered_bytes(&rt, rt.alloc(), &bytes), wanted);
 }
 
 #[test]

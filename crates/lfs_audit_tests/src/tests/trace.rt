@@ -39,102 +39,76 @@ fn denied(rule: Rule, at: u32) -> Answer {
     Answer::Denied(Denial { rule, path: 0, at })
 }
 
+/// Whether an entry with this answer is as one that is denied by GrantsWrite at the root.
+fn is_as_denied(rt: &impl Abort, alloc: Global, answer: Answer) -> bool {
+    let made = unlink(rt, alloc, 1, denied(Rule::GrantsWrite, 0));
+    is_as_made(&made, &unlink(rt, alloc, 1, answer))
+}
+
 #[test]
 fn entries_as_they_are_made(rt: HostRuntime) {
-    let made = unlink(&rt, rt.alloc(), 1, denied(Rule::GrantsWrite, 0));
-    let same = unlink(&rt, rt.alloc(), 1, denied(Rule::GrantsWrite, 0));
-    let rule = unlink(&rt, rt.alloc(), 1, denied(Rule::GrantsSearch, 0));
-    let place = unlink(&rt, rt.alloc(), 1, denied(Rule::GrantsWrite, 1));
-    let served = unlink(&rt, rt.alloc(), 1, Answer::Served(Served::Done));
     one_answer();
-    expect_eq(&rt, is_as_made(&made, &same), true);
-    expect_eq(&rt, is_as_made(&made, &rule), false);
-    expect_eq(&rt, is_as_made(&made, &place), false);
-    expect_eq(&rt, is_as_made(&made, &served), false);
+    let alloc = rt.alloc();
+    let same = is_as_denied(&rt, alloc, denied(Rule::GrantsWrite, 0));
+    let rule = is_as_denied(&rt, alloc, denied(Rule::GrantsSearch, 0));
+    let place = is_as_denied(&rt, alloc, denied(Rule::GrantsWrite, 1));
+    let served = is_as_denied(&rt, alloc, Answer::Served(Served::Done));
+    expect_eq(
+        &rt,
+        [same, rule, place, served],
+        [true, false, false, false],
+    );
 }
+
+/// Asserts of each row whether a call may be refused: whether the rules allow it, and a number is left, and what ran out.
+fn expect_refused(rt: &impl Abort, request: Request, rows: &[(bool, bool, Resource, bool)]) {
+    for (is_allowed, is_number_left, resource, want) in rows {
+        let found = may_be_refused(&request, *is_allowed, *is_number_left, *resource);
+        expect_eq(rt, found, *want);
+    }
+}
+
+/// Refusals of an Unlink.
+const OF_UNLINK: [(bool, bool, Resource, bool); 5] = [
+    (true, false, Resource::NoSpace, true),
+    (false, false, Resource::NoSpace, false),
+    (true, false, Resource::NoInodes, false),
+    (true, true, Resource::DirectoryFull, false),
+    (true, true, Resource::NoMemory, false),
+];
 
 #[test]
 fn refusals(rt: HostRuntime) {
-    let path = Path::parse(rt.alloc(), "/a").expect(&rt, "a path");
-    let unlink = Request::Unlink { path };
-    expect_eq(
-        &rt,
-        may_be_refused(&unlink, true, false, Resource::NoSpace),
-        true,
-    );
-    expect_eq(
-        &rt,
-        may_be_refused(&unlink, false, false, Resource::NoSpace),
-        false,
-    );
-    expect_eq(
-        &rt,
-        may_be_refused(&unlink, true, false, Resource::NoInodes),
-        false,
-    );
-    expect_eq(
-        &rt,
-        may_be_refused(&unlink, true, true, Resource::DirectoryFull),
-        false,
-    );
-    expect_eq(
-        &rt,
-        may_be_refused(&unlink, true, true, Resource::NoMemory),
-        false,
-    );
-    let path = Path::parse(rt.alloc(), "/a").expect(&rt, "a path");
-    let list = Request::List { path };
-    expect_eq(
-        &rt,
-        may_be_refused(&list, true, true, Resource::NoSpace),
-        false,
-    );
+    let path = self::path(&rt, rt.alloc(), "/a");
+    expect_refused(&rt, Request::Unlink { path }, &OF_UNLINK);
+    let path = self::path(&rt, rt.alloc(), "/a");
+    let rows = [(true, true, Resource::NoSpace, false)];
+    expect_refused(&rt, Request::List { path }, &rows);
 }
+
+/// Calls of the cleaner by a user on a volume of 6 segments and 16 numbers, what came of each, and whether that may be.
+const CLEANING: [(u32, CleanerKind, CleanerOutcome, bool); 10] = [
+    (0, CleanerKind::Ifile, CleanerOutcome::Done(252), true),
+    (0, CleanerKind::Ifile, CleanerOutcome::Done(253), false),
+    (0, CleanerKind::Infos, CleanerOutcome::Done(248), true),
+    (0, CleanerKind::Infos, CleanerOutcome::Done(249), false),
+    (0, CleanerKind::Infos, ACTIVE, true),
+    (0, CleanerKind::Markv, ACTIVE, false),
+    (0, CleanerKind::Markv, CleanerOutcome::Done(9), false),
+    (0, CleanerKind::Infos, CleanerOutcome::Denied, false),
+    (7, CleanerKind::Infos, CleanerOutcome::Denied, true),
+    (7, CleanerKind::Infos, ACTIVE, false),
+];
+
+/// That a segment is the active one.
+const ACTIVE: CleanerOutcome = CleanerOutcome::Fault(CleanFault::Active);
 
 #[test]
 fn cleaner_calls(rt: HostRuntime) {
-    let root = user(&rt, 0);
-    let infos = CleanerKind::Infos;
-    let markv = CleanerKind::Markv;
-    let active = CleanerOutcome::Fault(CleanFault::Active);
-    expect_eq(
-        &rt,
-        is_cleaning(16, 6, &root, CleanerKind::Ifile, CleanerOutcome::Done(252)),
-        true,
-    );
-    expect_eq(
-        &rt,
-        is_cleaning(16, 6, &root, CleanerKind::Ifile, CleanerOutcome::Done(253)),
-        false,
-    );
-    expect_eq(
-        &rt,
-        is_cleaning(16, 6, &root, infos, CleanerOutcome::Done(248)),
-        true,
-    );
-    expect_eq(
-        &rt,
-        is_cleaning(16, 6, &root, infos, CleanerOutcome::Done(249)),
-        false,
-    );
-    expect_eq(&rt, is_cleaning(16, 6, &root, infos, active), true);
-    expect_eq(&rt, is_cleaning(16, 6, &root, markv, active), false);
-    expect_eq(
-        &rt,
-        is_cleaning(16, 6, &root, markv, CleanerOutcome::Done(9)),
-        false,
-    );
-    expect_eq(
-        &rt,
-        is_cleaning(16, 6, &root, infos, CleanerOutcome::Denied),
-        false,
-    );
-    expect_eq(
-        &rt,
-        is_cleaning(16, 6, &user(&rt, 7), infos, CleanerOutcome::Denied),
-        true,
-    );
-    expect_eq(&rt, is_cleaning(16, 6, &user(&rt, 7), infos, active), false);
+    for (uid, kind, outcome, want) in CLEANING {
+        let found = is_cleaning(16, 6, &user(&rt, uid), kind, outcome);
+        expect_eq(&rt, found, want);
+    }
 }
 
 /// The entry of a call by user 7 in session 1, with this answer.
@@ -171,60 +145,95 @@ fn two_entries(rt: &impl Abort, alloc: Global, at: u32) -> [Entry; 2] {
     ]
 }
 
+/// What is said of two such entries on a volume of so many numbers.
+fn judged(rt: &impl Abort, alloc: Global, at: u32, inodes: u32) -> Result<(), TraceFault> {
+    check_trace(alloc, inodes, 6, &two_entries(rt, alloc, at))
+}
+
 #[test]
 fn traces(rt: HostRuntime) {
-    let legal = two_entries(&rt, rt.alloc(), 1);
-    expect_eq(&rt, check_trace(rt.alloc(), 16, 6, &legal), Ok(()));
-    let illegal = two_entries(&rt, rt.alloc(), 0);
-    let found = check_trace(rt.alloc(), 16, 6, &illegal);
-    expect_eq(&rt, found, Err(TraceFault::Illegal(1)));
-    let few = check_trace(rt.alloc(), 15, 6, &legal);
-    let fault = TraceFault::Volume(FormatFault::TooFew);
-    expect_eq(&rt, few, Err(fault));
+    expect_eq(&rt, judged(&rt, rt.alloc(), 1, 16), Ok(()));
+    let illegal = Err(TraceFault::Illegal(1));
+    expect_eq(&rt, judged(&rt, rt.alloc(), 0, 16), illegal);
+    let few = Err(TraceFault::Volume(FormatFault::TooFew));
+    expect_eq(&rt, judged(&rt, rt.alloc(), 1, 15), few);
+}
+
+/// A checker of a volume of 6 segments and 16 numbers. It lies in memory of its own.
+fn fresh(rt: &impl Abort, alloc: Global) -> Box<Checker> {
+    let checker = Checker::new(alloc, 16, 6).expect(rt, "a checker");
+    Box::new(alloc, checker).expect(rt, "memory")
+}
+
+/// How many names a List of the root by user 7 gives by the rules.
+fn listed(rt: &impl Abort, alloc: Global, checker: &mut Checker) -> Option<usize> {
+    let list = Request::List {
+        path: path(rt, alloc, "/"),
+    };
+    match checker.ruled(&user(rt, 7), &list).expect(rt, "memory") {
+        Answer::Served(Served::Names(names)) => Some(names.as_slice().len()),
+        _ => None,
+    }
 }
 
 #[test]
 fn a_checker_says_what_the_rules_answer(rt: HostRuntime) {
     let alloc = rt.alloc();
-    let mut checker = Checker::new(alloc, 16, 6).expect(&rt, "a checker");
-    let root = path(&rt, alloc, "/");
-    let row = checker.row(&root).expect(&rt, "a row");
-    expect_eq(&rt, row.number == 2 && checker.is_used(2), true);
-    expect_eq(&rt, checker.is_used(4), false);
-    let list = Request::List { path: root };
-    let answer = checker.ruled(&user(&rt, 7), &list).expect(&rt, "memory");
-    let names = match answer {
-        Answer::Served(Served::Names(names)) => names,
-        _ => panic!(&rt; "no names"),
-    };
-    expect_eq(&rt, names.as_slice().is_empty(), true);
+    let mut checker = fresh(&rt, alloc);
+    let row = checker.row(&path(&rt, alloc, "/")).expect(&rt, "a row");
+    expect_eq(&rt, row.number, 2);
+    expect_eq(&rt, [checker.is_used(2), checker.is_used(4)], [true, false]);
+    expect_eq(&rt, listed(&rt, alloc, &mut checker), Some(0));
+}
+
+/// What a checker says of a Mkdir of `/a` by user 7 with this answer.
+fn judged_as(
+    rt: &impl Abort,
+    alloc: Global,
+    checker: &mut Checker,
+    denials: Denials,
+    answer: Answer,
+) -> Result<(), EntryFault> {
+    checker.entry_as(denials, &mkdir(rt, alloc, answer))
+}
+
+/// Asserts what a checker says of a Mkdir that the rules deny by GrantsWrite, with EACCES.
+fn expect_judged(rt: &impl Abort, alloc: Global, checker: &mut Checker) {
+    let illegal = Err(EntryFault::Illegal);
+    let same = denied(Rule::GrantsSearch, 3);
+    let found = judged_as(rt, alloc, checker, Denials::Whole, same);
+    expect_eq(rt, found, illegal);
+    let same = denied(Rule::GrantsSearch, 3);
+    let found = judged_as(rt, alloc, checker, Denials::ByError, same);
+    expect_eq(rt, found, Ok(()));
+    let other = denied(Rule::IsOwner, 0);
+    let found = judged_as(rt, alloc, checker, Denials::ByError, other);
+    expect_eq(rt, found, illegal);
+    let done = Answer::Served(Served::Done);
+    let found = judged_as(rt, alloc, checker, Denials::ByError, done);
+    expect_eq(rt, found, illegal);
 }
 
 #[test]
 fn denials_by_their_errors(rt: HostRuntime) {
-    let alloc = rt.alloc();
-    let mut checker = Checker::new(alloc, 16, 6).expect(&rt, "a checker");
-    // By the rules user 7 is denied by GrantsWrite, with EACCES.
-    let same = mkdir(&rt, alloc, denied(Rule::GrantsSearch, 3));
-    let other = mkdir(&rt, alloc, denied(Rule::IsOwner, 0));
-    let illegal = Err(EntryFault::Illegal);
-    expect_eq(&rt, checker.entry_as(Denials::Whole, &same), illegal);
-    expect_eq(&rt, checker.entry_as(Denials::ByError, &same), Ok(()));
-    expect_eq(&rt, checker.entry_as(Denials::ByError, &other), illegal);
-    let done = mkdir(&rt, alloc, Answer::Served(Served::Done));
-    expect_eq(&rt, checker.entry_as(Denials::ByError, &done), illegal);
+    let mut checker = fresh(&rt, rt.alloc());
+    expect_judged(&rt, rt.alloc(), &mut checker);
+}
+
+/// What a checker tells of who could give the root to user 0 and group 20.
+fn told_who(rt: &impl Abort, alloc: Global, checker: &mut Checker) -> Vec<u8> {
+    let chown = Request::Chown {
+        path: path(rt, alloc, "/"),
+        uid: 0,
+        gid: 20,
+    };
+    checker.tell_who(&chown).expect(rt, "memory")
 }
 
 #[test]
 fn who_could_make_a_call(rt: HostRuntime) {
-    let alloc = rt.alloc();
-    let mut checker = Checker::new(alloc, 16, 6).expect(&rt, "a checker");
-    let chown = Request::Chown {
-        path: path(&rt, alloc, "/"),
-        uid: 0,
-        gid: 20,
-    };
-    let text = checker.tell_who(&chown).expect(&rt, "memory");
+    let mut checker = fresh(&rt, rt.alloc());
+    let text = told_who(&rt, rt.alloc(), &mut checker);
     // The root is user 0's.
     let wanted = b"user 0: ok\nothers: denied O2 EPERM 0 0\n";
     expect_eq(&rt, text.as_slice(), wanted.as_slice());

@@ -106,9 +106,41 @@ fn audited(alloc: Global, image: &[u8], words: &[&[u8]], journal: &str) -> Ended
     }
 }
 
-/// Asserts that a text begins so.
-fn expect_begins(rt: &impl Abort, text: &[u8], wanted: &str) {
-    assert!(rt; text.starts_with(wanted.as_bytes()));
+/// Asserts how it ends, and what it writes.
+fn expect_audited(
+    rt: &impl Abort,
+    alloc: Global,
+    image: &[u8],
+    (words, journal): (&[&[u8]], &str),
+    wanted: (u8, &str, &str),
+) {
+    expect_ended(rt, &audited(alloc, image, words, journal), wanted);
+}
+
+/// Asserts by which status it ends, and that its output begins so.
+fn expect_begins(
+    rt: &impl Abort,
+    alloc: Global,
+    image: &[u8],
+    (words, journal): (&[&[u8]], &str),
+    (status, line): (u8, &str),
+) {
+    let ended = audited(alloc, image, words, journal);
+    expect_eq(rt, ended.status, status);
+    expect_eq(rt, ended.out.starts_with(line.as_bytes()), true);
+}
+
+/// Asserts by which status it ends, and gives what it writes to standard output.
+fn out_of(
+    rt: &impl Abort,
+    alloc: Global,
+    image: &[u8],
+    (words, journal): (&[&[u8]], &str),
+    status: u8,
+) -> Vec<u8> {
+    let ended = audited(alloc, image, words, journal);
+    expect_eq(rt, ended.status, status);
+    ended.out
 }
 
 /// Asserts that a text has a piece.
@@ -128,26 +160,39 @@ fn has(text: &[u8], piece: &[u8]) -> bool {
 
 const FROM: &[u8] = b"--from=volume.image";
 
+/// The words of an audit from the image, and of one from a fresh volume.
+const THERE: &[&[u8]] = &[b"lfs_audit_trail", FROM];
+
+const ALONE: &[&[u8]] = &[b"lfs_audit_trail"];
+
 #[test]
 fn journal_from_an_image_is_legal_there_alone(rt: HostRuntime) {
     let alloc = rt.alloc();
     let image = image(&rt, alloc);
-    let ended = audited(alloc, &image, &[b"lfs_audit_trail", FROM], JOURNAL);
-    expect_ended(&rt, &ended, (0, TOLD, ""));
-    let ended = audited(alloc, &image, &[b"lfs_audit_trail"], JOURNAL);
-    expect_eq(&rt, ended.status, 1);
+    expect_audited(&rt, alloc, &image, (THERE, JOURNAL), (0, TOLD, ""));
     let line = "illegal entry 1: 0 as 0 0 | chflags /home/diary 00000000 | denied L2 EPERM 0 2\n\
         by the rules: denied N2 ENOENT 0 1\n";
-    expect_begins(&rt, ended.out.as_slice(), line);
+    expect_begins(&rt, alloc, &image, (ALONE, JOURNAL), (1, line));
     // At the lowest securelevel the lock would go.
     let served = "0 as 0 0 | chflags /home/diary 00000000 | ok\n";
-    let ended = audited(alloc, &image, &[b"lfs_audit_trail", FROM], served);
-    expect_eq(&rt, ended.status, 1);
-    expect_begins(
-        &rt,
-        ended.out.as_slice(),
-        "illegal entry 1: 0 as 0 0 | chflags",
-    );
+    let line = "illegal entry 1: 0 as 0 0 | chflags";
+    expect_begins(&rt, alloc, &image, (THERE, served), (1, line));
+}
+
+/// Pieces of what is told of who could read the diary.
+const WHO: [&str; 2] = [
+    "{\"act\":\"read\",\"answer\":\"ok\",\"in\":[],\"not_in\":[],\"user\":7}",
+    "{\"act\":\"read\",\"answer\":\"denied M1 EACCES 0 2\",\"in\":[],\"not_in\":[],\"user\":null}",
+];
+
+/// Asserts what is told as JSON of the journal and of who could read the diary.
+fn expect_who(rt: &impl Abort, alloc: Global, image: &[u8]) {
+    let words: &[&[u8]] = &[b"lfs_audit_trail", FROM, b"--json", b"--who=/home/diary"];
+    let out = out_of(rt, alloc, image, (words, JOURNAL), 0);
+    for piece in WHO {
+        expect_has(rt, &out, piece);
+    }
+    expect_entries(rt, alloc, &out, 6);
 }
 
 #[test]
@@ -155,20 +200,8 @@ fn audit_as_json(rt: HostRuntime) {
     let alloc = rt.alloc();
     let image = image(&rt, alloc);
     let words: &[&[u8]] = &[b"lfs_audit_trail", FROM, b"--json"];
-    expect_ended(&rt, &audited(alloc, &image, words, JOURNAL), (0, JSON, ""));
-    let words: &[&[u8]] = &[b"lfs_audit_trail", FROM, b"--json", b"--who=/home/diary"];
-    let ended = audited(alloc, &image, words, JOURNAL);
-    expect_eq(&rt, ended.status, 0);
-    let who = ended.out.as_slice();
-    expect_has(
-        &rt,
-        who,
-        "{\"act\":\"read\",\"answer\":\"ok\",\"in\":[],\"not_in\":[],\"user\":7}",
-    );
-    let others =
-        "{\"act\":\"read\",\"answer\":\"denied M1 EACCES 0 2\",\"in\":[],\"not_in\":[],\"user\":null}";
-    expect_has(&rt, who, others);
-    expect_entries(&rt, alloc, who, 6);
+    expect_audited(&rt, alloc, &image, (words, JOURNAL), (0, JSON, ""));
+    expect_who(&rt, alloc, &image);
 }
 
 /// Asserts that a text is JSON that tells of so many entries.
@@ -187,13 +220,13 @@ fn faults_of_a_journal_as_json(rt: HostRuntime) {
     let words: &[&[u8]] = &[b"lfs_audit_trail", b"--json"];
     let gap = "{\"changed\":[],\"entries\":0,\"legal\":false,\"read\":[],\
         \"stopped\":{\"entry\":1,\"fault\":\"line: Gap\"},\"users\":[],\"who\":null}\n";
-    let ended = audited(alloc, &[], words, "#2 0 as 0 0 | sync | ok\n");
-    expect_ended(&rt, &ended, (1, gap, ""));
-    let ended = audited(alloc, &[], words, "0 as 0 0 | unlink /a | ok\n");
-    expect_eq(&rt, ended.status, 1);
+    let journal = "#2 0 as 0 0 | sync | ok\n";
+    expect_audited(&rt, alloc, &[], (words, journal), (1, gap, ""));
+    let journal = "0 as 0 0 | unlink /a | ok\n";
+    let out = out_of(&rt, alloc, &[], (words, journal), 1);
     let stopped = "\"stopped\":{\"entry\":1,\"line\":\"0 as 0 0 | unlink /a | ok\",\
         \"rules\":\"by the rules: denied N2 ENOENT 0 1\\n";
-    expect_has(&rt, ended.out.as_slice(), stopped);
+    expect_has(&rt, &out, stopped);
 }
 
 /// What is told of an image that can't be read, of one that is none, and of numbers beside one.
@@ -214,11 +247,10 @@ const FAULTS: [(&[u8], u8, &str); 2] = [
 fn faults_of_an_image(rt: HostRuntime) {
     let alloc = rt.alloc();
     for (word, status, told) in FAULTS {
-        let ended = audited(alloc, &[], &[b"lfs_audit_trail", word], JOURNAL);
-        expect_ended(&rt, &ended, (status, "", told));
+        let words: &[&[u8]] = &[b"lfs_audit_trail", word];
+        expect_audited(&rt, alloc, &[], (words, JOURNAL), (status, "", told));
     }
     let words: &[&[u8]] = &[b"lfs_audit_trail", FROM, b"--inodes", b"64"];
-    let ended = audited(alloc, &[], words, JOURNAL);
-    expect_eq(&rt, ended.status, 2);
-    expect_eq(&rt, ended.out.as_slice(), b"".as_slice());
+    let out = out_of(&rt, alloc, &[], (words, JOURNAL), 2);
+    expect_eq(&rt, out.len(), 0);
 }
