@@ -326,10 +326,16 @@ fn some_bytes(rt: &impl Abort, alloc: Global) -> Vec<u8> {
     file.bytes().expect(rt, "bytes")
 }
 
+/// The ifile that is read from these bytes.
+fn read_back(rt: &impl Abort, alloc: Global) -> Ifile {
+    let bytes = some_bytes(rt, alloc);
+    let file = Ifile::read(alloc, &bytes).ok();
+    file.expect(rt, "an ifile")
+}
+
 #[test]
 fn bytes_are_read_back(rt: HostRuntime) {
-    let bytes = some_bytes(&rt, rt.alloc());
-    let file = Ifile::read(rt.alloc(), &bytes).ok().expect(&rt, "an ifile");
+    let file = read_back(&rt, rt.alloc());
     let dirty = SegUse {
         live: 128,
         state: SegState::Dirty,

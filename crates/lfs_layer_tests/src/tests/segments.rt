@@ -170,13 +170,9 @@ fn fault_of(alloc: Global, segments: u32) -> Option<FormatFault> {
 
 #[test]
 fn format_keeps_its_range(rt: HostRuntime) {
-    for (segments, fault) in [
-        (5, Some(FormatFault::TooFew)),
-        (6, None),
-        (1025, Some(FormatFault::TooMany)),
-    ] {
-        expect_eq(&rt, &fault_of(rt.alloc(), segments), &fault);
-    }
+    expect_eq(&rt, fault_of(rt.alloc(), 5), Some(FormatFault::TooFew));
+    expect_eq(&rt, fault_of(rt.alloc(), 6), None);
+    expect_eq(&rt, fault_of(rt.alloc(), 1025), Some(FormatFault::TooMany));
 }
 
 /// Asserts that the memory has this block at this address.

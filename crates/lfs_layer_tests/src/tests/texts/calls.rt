@@ -107,14 +107,18 @@ fn expect_call_of(rt: &impl Abort, steps: &[Step], call: &Request, index: usize)
     }
 }
 
+/// Asserts that a copy of the call of each of 18 steps is that of its own step alone.
+fn expect_copies(rt: &impl Abort, alloc: Global, steps: &[Step]) {
+    expect_eq(rt, steps.len(), 18);
+    for (i, step) in steps.iter().enumerate() {
+        expect_call_of(rt, steps, &copy_of(rt, alloc, step), i);
+    }
+}
+
 #[test]
 fn copied_requests_are_equal_to_their_own_alone(rt: HostRuntime) {
     let plan = parse_script(rt.alloc(), CALLS).expect(&rt, "a script");
-    let steps = plan.steps();
-    expect_eq(&rt, steps.len(), 18);
-    for (i, step) in steps.iter().enumerate() {
-        expect_call_of(&rt, steps, &copy_of(&rt, rt.alloc(), step), i);
-    }
+    expect_copies(&rt, rt.alloc(), plan.steps());
 }
 
 /// Asserts that an answer is that of this number alone.

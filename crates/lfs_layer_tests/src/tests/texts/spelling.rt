@@ -11,6 +11,7 @@ use lfs_types::cred::Cred;
 use lfs_types::path::Path;
 use lfs_types::request::Request;
 use lfs_words::caller::spell_caller;
+use std::alloc::Global;
 use std::process::Abort;
 
 /// A call of each kind, with each number as it is spelled.
@@ -55,12 +56,20 @@ fn calls_as_lines(rt: HostRuntime) {
     expect_eq(&rt, text.as_slice(), LINES);
 }
 
+/// The line of a Rename.
+fn rename_of(rt: &impl Abort, alloc: Global, from: &str, to: &str) -> Vec<u8> {
+    let rename = Request::Rename {
+        from: Path::parse(alloc, from).expect(rt, "a path"),
+        to: Path::parse(alloc, to).expect(rt, "a path"),
+    };
+    let mut text = Vec::new(alloc);
+    push_request(&mut text, &rename).expect(rt, "memory");
+    text
+}
+
 #[test]
 fn paths_that_no_script_can_spell(rt: HostRuntime) {
-    let from = Path::parse(rt.alloc(), "/a b/c%\x7f").expect(&rt, "a path");
-    let to = Path::parse(rt.alloc(), "/a%20b/c").expect(&rt, "a path");
-    let mut text = Vec::new(rt.alloc());
-    push_request(&mut text, &Request::Rename { from, to }).expect(&rt, "memory");
+    let text = rename_of(&rt, rt.alloc(), "/a b/c%\x7f", "/a%20b/c");
     expect_eq(
         &rt,
         text.as_slice(),

@@ -102,16 +102,19 @@ fn expect_members(rt: &impl Abort, cred: &Cred, groups: &[u32], are: bool) {
     }
 }
 
+/// Users, groups and whether they are init, and why each is no credential.
+const NO_CREDENTIALS: [(u32, &[u32], bool, BadCred); 5] = [
+    (0, &[], false, BadCred::NoGroup),
+    (5, &[], true, BadCred::NoGroup),
+    (0, &[7; 17], false, BadCred::TooManyGroups),
+    (5, &[7; 17], true, BadCred::TooManyGroups),
+    (5, &[5], true, BadCred::InitNotRoot),
+];
+
 #[test]
 fn credentials_have_1_to_16_groups(rt: HostRuntime) {
-    for (uid, groups, init, fault) in [
-        (0, [].as_slice(), false, BadCred::NoGroup),
-        (5, &[], true, BadCred::NoGroup),
-        (0, &[7; 17], false, BadCred::TooManyGroups),
-        (5, &[7; 17], true, BadCred::TooManyGroups),
-        (5, &[5], true, BadCred::InitNotRoot),
-    ] {
-        expect_eq(&rt, fault_of(uid, groups, init), Some(fault));
+    for (uid, groups, init, fault) in &NO_CREDENTIALS {
+        expect_eq(&rt, fault_of(*uid, groups, *init), Some(*fault));
     }
     let most = [1, 2, 3, 4, 5, 6, 7, 8, 9, 10, 11, 12, 13, 14, 15, 16];
     let cred = Cred::new(7, &most, false).expect(&rt, "a credential");
@@ -179,17 +182,18 @@ fn copied_lists_are_equal(rt: HostRuntime) {
     expect_eq(&rt, names.into_vec().len(), 2);
 }
 
+/// Asserts as what a fault is printed.
+fn expect_printed(rt: &impl Abort, alloc: Global, fault: FormatFault, text: &str) {
+    let printed = format!(in alloc; "{fault}").expect(rt, "memory");
+    expect_eq(rt, printed.as_str(), text);
+}
+
 #[test]
 fn want_of_memory_is_a_fault_of_a_format(rt: HostRuntime) {
     expect_eq(&rt, FormatFault::from(AllocError), FormatFault::Memory);
-    for (fault, text) in [
-        (FormatFault::TooFew, "TooFew"),
-        (FormatFault::TooMany, "TooMany"),
-        (FormatFault::Memory, "Memory"),
-    ] {
-        let printed = format!(in rt.alloc(); "{fault}").expect(&rt, "memory");
-        expect_eq(&rt, printed.as_str(), text);
-    }
+    expect_printed(&rt, rt.alloc(), FormatFault::TooFew, "TooFew");
+    expect_printed(&rt, rt.alloc(), FormatFault::TooMany, "TooMany");
+    expect_printed(&rt, rt.alloc(), FormatFault::Memory, "Memory");
     let directory = Kind::Directory.is_directory();
     expect_eq(&rt, [directory, Kind::File.is_directory()], [true, false]);
 }
