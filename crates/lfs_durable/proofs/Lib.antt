@@ -11,3 +11,4 @@ pub mod ChainLemmas
 pub mod CrashLemmas
 pub mod FlushLemmas
 pub mod KeptLemmas
+pub mod RunLemmas

@@ -6,6 +6,7 @@ ghost use Rattle.lfs_durable.specs.Crashes.{CrashSpares, FindsAfterCrash, FlushC
 ghost use Rattle.lfs_durable.specs.Kept.{FlushedIsDurable, FreshCanBeFound, FreshIsDurable};
 ghost use Rattle.lfs_durable.specs.Kept.{MovesCanBeFound, SameCanBeFound, WritesCanBeFound};
 ghost use Rattle.lfs_durable.specs.Names.{FindsNames, FindsRecordOfEach};
+ghost use Rattle.lfs_durable.specs.Runs.{FindsPrefix};
 ghost use Rattle.lfs_durable.specs.Spared.{FindsSpared};
 
 /// Of a store of which nothing waits recovery reads each block of a file as the store does, by the file's record and the
@@ -82,4 +83,10 @@ pub fn same_can_be_found()
 /// So it is durable wherever nothing waits, until the last serial comes: behind each Sync.
 pub fn flushed_is_durable()
     ensures { FlushedIsDurable }
+{}
+
+/// After a crash in a run of calls what is found is what the store contained behind some of them: at least those up to the
+/// last Sync.
+pub fn finds_prefix()
+    ensures { FindsPrefix }
 {}
