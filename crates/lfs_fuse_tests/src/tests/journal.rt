@@ -4,7 +4,7 @@ use super::disk::Disk;
 use super::{expect_bytes, expect_eq, message_of};
 use lfs_command::streams::Streams;
 use lfs_fuse_talk::program::lfs_fuse;
-use std::alloc::Global;
+use std::alloc::{AllocError, Global};
 use std::env::{Env, FillError};
 use std::process::Abort;
 
@@ -94,9 +94,50 @@ fn each_line_stands_before_its_reply(rt: HostRuntime) {
     expect_bytes(&rt, &disk.into_written(), ENTERED);
 }
 
-/// The line and the reply of a look-up, as above, and the reply to a removal, of which there is no entry: EACCES (13).
+/// The name of a file that isn't there, and what it is to be called, in the directory of a node.
+fn renaming(alloc: Global, node: u8) -> Result<Vec<u8>, AllocError> {
+    message_of(
+        alloc,
+        53,
+        12,
+        &[node, 0, 0, 0, 0, 0, 0, 0, b'a', 0, b'b', b'c', 0],
+    )
+}
+
+/// The opening of the root, to be read.
+fn opening(alloc: Global) -> Result<Vec<u8>, AllocError> {
+    message_of(alloc, 48, 14, &[0; 8])
+}
+
+/// The reading of its first byte.
+fn reading(alloc: Global) -> Result<Vec<u8>, AllocError> {
+    let mut body = [0; 40];
+    body[16] = 1;
+    message_of(alloc, 80, 15, &body)
+}
+
+/// The superuser lets its group, which is 0, write in the root.
+fn granting(alloc: Global) -> Result<Vec<u8>, AllocError> {
+    let mut body = [0; 88];
+    body[0] = 1; // valid: the mode
+    body[68] = 0xfd; // 0775
+    body[69] = 1;
+    let mut bytes = message_of(alloc, 128, 4, &body)?;
+    if let Some(user) = bytes.as_mut_slice().get_mut(24..26) {
+        user.fill(0);
+    }
+    Ok(bytes)
+}
+
+/// The lines and the replies of a look-up, of a read and of a rename in the root: ENOENT (2), EISDIR (21), ENOENT. Of an
+/// opening, and of a rename to another directory, there is no entry, and the reply is EACCES (13).
 const UNKNOWN: &[u8] = b"#1 0 as 1000 100 | stat /a | denied N2 ENOENT 0 1\n\
     \x10\0\0\0\xfe\xff\xff\xff\x07\0\0\0\0\0\0\0\
+    #2 0 as 1000 100 | read / 0 1 | denied K1 EISDIR 0 0\n\
+    \x10\0\0\0\xeb\xff\xff\xff\x07\0\0\0\0\0\0\0\
+    #3 0 as 1000 100 | rename /a /bc | denied N2 ENOENT 0 1\n\
+    \x10\0\0\0\xfe\xff\xff\xff\x07\0\0\0\0\0\0\0\
+    \x10\0\0\0\xf3\xff\xff\xff\x07\0\0\0\0\0\0\0\
     \x10\0\0\0\xf3\xff\xff\xff\x07\0\0\0\0\0\0\0";
 
 #[test]
@@ -104,12 +145,41 @@ fn groups_that_are_unknown_count_where_they_grant(rt: HostRuntime) {
     let alloc = rt.alloc();
     let disk = Disk::new(alloc, false);
     let mut bytes = message_of(alloc, 42, 1, b"a\0").expect(&rt, "room");
-    let removal = message_of(alloc, 42, 10, b"a\0").expect(&rt, "room");
-    bytes.extend_from_slice(&removal).expect(&rt, "room");
+    let read = reading(alloc).expect(&rt, "room");
+    bytes.extend_from_slice(&read).expect(&rt, "room");
+    let within = renaming(alloc, 1).expect(&rt, "room");
+    bytes.extend_from_slice(&within).expect(&rt, "room");
+    let opened = opening(alloc).expect(&rt, "room");
+    bytes.extend_from_slice(&opened).expect(&rt, "room");
+    let away = renaming(alloc, 2).expect(&rt, "room");
+    bytes.extend_from_slice(&away).expect(&rt, "room");
     // Not recorded: the groups of a process are looked for, but its file isn't on this disk.
     let (status, _told) = end_on(&disk, alloc, &FILED[..7], &bytes);
     expect_eq(&rt, status, 0);
     expect_bytes(&rt, &disk.into_written(), UNKNOWN);
+}
+
+/// The replies to a rename and to a read of what grants its group more than others: EACCES (13), and EISDIR (21), as that
+/// is granted reading alike.
+const GRANTED: &[u8] = b"\x10\0\0\0\xf3\xff\xff\xff\x07\0\0\0\0\0\0\0\
+    \x10\0\0\0\xeb\xff\xff\xff\x07\0\0\0\0\0\0\0";
+
+#[test]
+fn groups_count_where_a_mode_grants_them_more(rt: HostRuntime) {
+    let alloc = rt.alloc();
+    let disk = Disk::new(alloc, false);
+    let mut bytes = granting(alloc).expect(&rt, "room");
+    let within = renaming(alloc, 1).expect(&rt, "room");
+    bytes.extend_from_slice(&within).expect(&rt, "room");
+    let read = reading(alloc).expect(&rt, "room");
+    bytes.extend_from_slice(&read).expect(&rt, "room");
+    let mut streams = streams_of(alloc, &bytes);
+    let env = (Words { words: &FILED[..7] }, alloc);
+    let status = lfs_fuse(&env, &disk.files(), &mut streams);
+    expect_eq(&rt, status, 0);
+    // Behind the attributes: 16 bytes, and 104.
+    assert_eq!(rt; streams.stdout.len(), 152);
+    expect_bytes(&rt, &streams.stdout[120..], GRANTED);
 }
 
 /// The replies where the file takes no byte: EDQUOT (122).
