@@ -71,12 +71,17 @@ const QUOTED: [(&[u8], &[u8]); 5] = [
     (b"<!--&amp;", b"\"\\u003c!--\\u0026amp;\""),
 ];
 
+/// Asserts what stands for a text between quotation marks.
+fn expect_quoted(rt: &impl Abort, alloc: Global, text: &[u8], wanted: &[u8]) {
+    let mut out = Vec::new(alloc);
+    push_quoted(&mut out, text).expect(rt, "memory");
+    expect_eq(rt, out.as_slice(), wanted);
+}
+
 #[test]
 fn texts_in_quotation_marks(rt: HostRuntime) {
-    for (text, wanted) in QUOTED {
-        let mut out = Vec::new(rt.alloc());
-        push_quoted(&mut out, text).expect(&rt, "memory");
-        expect_eq(&rt, out.as_slice(), wanted);
+    for (text, wanted) in &QUOTED {
+        expect_quoted(&rt, rt.alloc(), text, wanted);
     }
 }
 

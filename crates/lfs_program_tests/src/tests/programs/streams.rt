@@ -41,7 +41,7 @@ fn expect_fault<S: Abort + Threads + Wait + Sync, R: Read + Drop, W: Write + Dro
 #[test]
 fn programs_over_a_reader_that_fails(rt: HostRuntime) {
     let disk = Disk::new(rt.alloc(), false);
-    for (program, name, told) in PROGRAMS {
+    for (program, name, told) in &PROGRAMS {
         for reads in 0..=INPUT.len() {
             let stdin = Failing {
                 rest: INPUT,
@@ -49,8 +49,8 @@ fn programs_over_a_reader_that_fails(rt: HostRuntime) {
                 kind: ErrorKind::Other,
             };
             let stdout = Vec::new(rt.alloc());
-            let words: &[&[u8]] = &[name];
-            let asked = (program, words, told);
+            let words: &[&[u8]] = &[*name];
+            let asked = (*program, words, *told);
             expect_fault(&rt, &disk, asked, (stdin, stdout), "read failed\n");
         }
     }
@@ -59,12 +59,12 @@ fn programs_over_a_reader_that_fails(rt: HostRuntime) {
 #[test]
 fn programs_over_a_writer_that_fails(rt: HostRuntime) {
     let disk = Disk::new(rt.alloc(), false);
-    for (program, name, told) in PROGRAMS {
+    for (program, name, told) in &PROGRAMS {
         // The first write fails; or up to nine pass, and the flush fails.
         for (writes, flushes) in [(0, true), (9, false)] {
             let stdout = Full { writes, flushes };
-            let words: &[&[u8]] = &[name];
-            let asked = (program, words, told);
+            let words: &[&[u8]] = &[*name];
+            let asked = (*program, words, *told);
             expect_fault(&rt, &disk, asked, (INPUT, stdout), "write failed\n");
         }
     }
@@ -73,10 +73,10 @@ fn programs_over_a_writer_that_fails(rt: HostRuntime) {
 #[test]
 fn help_that_can_not_be_written_is_a_fault(rt: HostRuntime) {
     let disk = Disk::new(rt.alloc(), false);
-    for (program, name, told) in PROGRAMS {
+    for (program, name, told) in &PROGRAMS {
         let stdout = Shut { is_asked: false };
-        let words: &[&[u8]] = &[name, b"--help"];
-        let asked = (program, words, told);
+        let words: &[&[u8]] = &[*name, b"--help"];
+        let asked = (*program, words, *told);
         expect_fault(&rt, &disk, asked, (INPUT, stdout), "write failed\n");
     }
 }
@@ -108,9 +108,10 @@ fn expect_status<S: Abort + Threads + Wait + Sync>(
 #[test]
 fn status_stays_where_nothing_can_be_told(rt: HostRuntime) {
     let disk = Disk::new(rt.alloc(), false);
-    for (program, name, _) in PROGRAMS {
-        for (word, stdin, status) in STATUSES {
-            expect_status(&rt, &disk, (program, &[name, word]), stdin, status);
+    for (program, name, _) in &PROGRAMS {
+        for (word, stdin, status) in &STATUSES {
+            let words: &[&[u8]] = &[*name, *word];
+            expect_status(&rt, &disk, (*program, words), stdin, *status);
         }
     }
 }

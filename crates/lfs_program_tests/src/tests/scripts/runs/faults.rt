@@ -129,19 +129,24 @@ fn threads_without_a_session(rt: HostRuntime) {
     expect_told(&rt, rt.alloc(), NO_SESSIONS, b"lfsd: serve Sessions\n");
 }
 
+/// Asserts that runs on a volume of these numbers, of a session, end in this fault.
+fn expect_format_fault<S: Abort + Threads + Wait + Sync>(
+    rt: &S,
+    alloc: Global,
+    params: Params,
+    fault: FormatFault,
+) {
+    let script = b"session 1\nsync\n".as_slice();
+    let run_fault = RunFault::Format(fault);
+    expect_unwritten(rt, alloc, &mut &*script, params, run_fault);
+    let fault = ThreadsFault::Serve(ServeFault::Format(fault));
+    expect_threads_unwritten(rt, alloc, &mut &*script, params, fault);
+}
+
 #[test]
 fn faults_of_the_format_come_before_writing(rt: HostRuntime) {
-    let alloc = rt.alloc();
-    let script = b"session 1\nsync\n".as_slice();
-    for (params, fault) in [
-        (TOO_FEW, FormatFault::TooFew),
-        (TOO_MANY, FormatFault::TooMany),
-    ] {
-        let run_fault = RunFault::Format(fault);
-        expect_unwritten(&rt, alloc, &mut &*script, params, run_fault);
-        let fault = ThreadsFault::Serve(ServeFault::Format(fault));
-        expect_threads_unwritten(&rt, alloc, &mut &*script, params, fault);
-    }
+    expect_format_fault(&rt, rt.alloc(), TOO_FEW, FormatFault::TooFew);
+    expect_format_fault(&rt, rt.alloc(), TOO_MANY, FormatFault::TooMany);
 }
 
 #[test]
