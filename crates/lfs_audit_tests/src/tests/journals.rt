@@ -133,17 +133,30 @@ fn served<R: Abort + Threads + Wait + Sync>(
     Box::new(alloc, closed.expect(rt, "a run")).expect(rt, "memory")
 }
 
+/// A checker of a fresh volume. It lies in memory of its own.
+fn fresh(rt: &impl Abort, alloc: Global) -> Box<Checker> {
+    let checker = Checker::new(alloc, SMALL.inodes, SMALL.segments);
+    Box::new(alloc, checker.expect(rt, "a checker")).expect(rt, "memory")
+}
+
+/// Judges an entry with another answer, where it may have one. Gives how many were judged.
+fn judge_other(rt: &impl Abort, alloc: Global, checker: &mut Checker, entry: &Entry) -> u64 {
+    match other(rt, alloc, entry) {
+        Some(other) => {
+            expect_eq(rt, checker.entry(&other), Err(EntryFault::Illegal));
+            1
+        }
+        None => 0,
+    }
+}
+
 /// Judges entries, each of which must be legal behind those before it, and with another answer illegal there. Gives how many
 /// were judged with another answer.
 fn judge(rt: &impl Abort, alloc: Global, entries: &[Entry]) -> u64 {
-    let checker = Checker::new(alloc, SMALL.inodes, SMALL.segments);
-    let mut checker = checker.expect(rt, "a checker");
+    let mut checker = fresh(rt, alloc);
     let mut changed = 0u64;
     for entry in entries {
-        if let Some(other) = other(rt, alloc, entry) {
-            expect_eq(rt, checker.entry(&other), Err(EntryFault::Illegal));
-            changed = changed.saturating_add(1);
-        }
+        changed = changed.saturating_add(judge_other(rt, alloc, &mut checker, entry));
         expect_eq(rt, checker.entry(entry), Ok(()));
     }
     changed

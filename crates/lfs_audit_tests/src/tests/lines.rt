@@ -70,6 +70,14 @@ fn call(rt: &impl Abort, request: Request, answer: Answer) -> Entry {
     }
 }
 
+/// Appends the entry of a line.
+fn push_read(rt: &impl Abort, alloc: Global, entries: &mut Vec<Entry>, line: &[u8]) {
+    let entry = read_entry(alloc, line).expect(rt, "an entry");
+    reads_back(&entry);
+    finds_line(&entry);
+    entries.push(entry).expect(rt, "memory");
+}
+
 #[test]
 fn each_line_is_told_again(rt: HostRuntime) {
     let mut entries = Vec::new(rt.alloc());
@@ -78,10 +86,7 @@ fn each_line_is_told_again(rt: HostRuntime) {
         let Some((line, behind)) = cut_line(rest) else {
             break;
         };
-        let entry = read_entry(rt.alloc(), line).expect(&rt, "an entry");
-        reads_back(&entry);
-        finds_line(&entry);
-        entries.push(entry).expect(&rt, "memory");
+        push_read(&rt, rt.alloc(), &mut entries, line);
         rest = behind;
     }
     let mut text = Vec::new(rt.alloc());
