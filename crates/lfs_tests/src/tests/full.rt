@@ -1,7 +1,9 @@
 //! Files of their own bytes, written until the volume is full: what was served reads as it was written, whatever the
 //! passes behind it answer.
 
-use super::{DEFAULTS, calls, expect_answers, fresh, push, push_byte, push_number, repeated};
+use super::{
+    DEFAULTS, calls, expect_answers, expect_eq, fresh, push, push_byte, push_number, repeated,
+};
 use lfs_audit::run::run_script;
 use lfs_logstore::LogStore;
 use lfs_server::pass::Pass;
@@ -127,20 +129,28 @@ fn behind_filling<'a>(rt: &impl Abort, alloc: Global, text: &'a str, served: usi
     behind_passes(text.strip_prefix(first.as_str()).expect(rt, "these lines"))
 }
 
+/// Asserts that behind the passes each file that was written reads so.
+fn expect_reads(rt: &impl Abort, alloc: Global, rest: &str, files: usize) {
+    let bytes = bytes_read(rt, alloc, files);
+    let report = rest.strip_prefix(bytes.as_str());
+    let report = report.expect(rt, "the bytes");
+    expect_eq(rt, report.starts_with("entries "), true);
+}
+
+/// Asserts what the script writes that fills the volume.
+fn expect_output(rt: &impl Abort, alloc: Global, output: &[u8], served: usize) {
+    let text = text_of(rt, output);
+    let rest = behind_filling(rt, alloc, text, served);
+    expect_reads(rt, alloc, rest, written(served));
+}
+
 #[test]
 fn script_that_fills_a_volume_loses_nothing(rt: HostRuntime) {
     let served = served_lines(&rt, rt.alloc());
+    expect_eq(&rt, written(served) >= 12, true);
     let script = full_script(&rt, rt.alloc(), served);
     let output = output_of(&rt, rt.alloc(), script.as_str());
-    let text = text_of(&rt, output.as_slice());
-    let rest = behind_filling(&rt, rt.alloc(), text, served);
-    let bytes = bytes_read(&rt, rt.alloc(), written(served));
-    assert!(rt; written(served) >= 12);
-    assert!(rt;
-        rest.strip_prefix(bytes.as_str())
-            .expect(&rt, "the bytes")
-            .starts_with("entries ")
-    );
+    expect_output(&rt, rt.alloc(), output.as_slice(), served);
 }
 
 /// Makes the line of this number, and says whether it was served; else there was no room for it.

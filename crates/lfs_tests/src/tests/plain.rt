@@ -95,14 +95,15 @@ const NOT_GRANTED: Denial = Denial {
     at: 1,
 };
 
-/// The entry of a call that was denied, as the name isn't there.
-fn entry(rt: &impl Abort, alloc: Global, call: &Call) -> Entry {
+/// The entry of a call that was denied, as the name isn't there. It lies in memory of its own, as a volume does.
+fn entry(rt: &impl Abort, alloc: Global, call: &Call) -> Box<Entry> {
     let request = call.request.try_clone(alloc).expect(rt, "memory");
-    Entry {
+    let entry = Entry {
         session: call.session,
         cred: call.cred,
         event: Event::User(request, Answer::Denied(NOT_THERE)),
-    }
+    };
+    Box::new(alloc, entry).expect(rt, "memory")
 }
 
 /// Sessions and denials, and whether the entry is that of the call in this session, denied so.
