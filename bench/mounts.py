@@ -1,11 +1,13 @@
 #!/usr/bin/env python3
 """Sets a mount of `lfs_fuse` beside libfuse's passthrough_ll over a tmpfs, which keeps no names and attributes either.
 
-mounts.py PROGRAM [--rounds N] [--names N] [--seconds N] [--write], as root, with /dev/fuse, gcc, pkg-config and Debian's
-libfuse3-dev, in whose examples passthrough_ll.c stands. PROGRAM is a built `lfs_fuse`. Both are mounted, and the same calls
-are made on them by turns, in twenty folders of N names, by a process of user 7, whose groups `lfs_fuse` learns from /proc,
-and by one of the superuser's; no round begins after the seconds. Prints a table: of the best round the calls or MiB a
-second of both, and the least processor time of the server for one. With --write it goes to docs/speed/mounts.csv.
+mounts.py PROGRAM [--rounds N] [--names N] [--seconds N] [--apart] [--write], as root, with /dev/fuse, gcc, pkg-config
+and Debian's libfuse3-dev, in whose examples passthrough_ll.c stands. PROGRAM is a built `lfs_fuse`. Both are mounted,
+and the same calls are made on them by turns, in twenty folders of N names, by a process of user 7, whose groups
+`lfs_fuse` learns from /proc, and by one of the superuser's; no round begins after the seconds. All run on one
+processor, as who calls waits for the answer; with --apart where the kernel puts them, and then a call's time is as much
+that of a processor that wakes up. Prints a table: of the best round the calls or MiB a second of both, and the least
+processor time of the server for one. With --write it goes to docs/speed/mounts.csv.
 """
 import argparse
 import os
@@ -205,8 +207,11 @@ def main():
     parser.add_argument("--rounds", type=int, default=9)
     parser.add_argument("--names", type=int, default=100)
     parser.add_argument("--seconds", type=int, default=180)
+    parser.add_argument("--apart", action="store_true")
     parser.add_argument("--write", action="store_true")
     asked = parser.parse_args()
+    if not asked.apart:
+        os.sched_setaffinity(0, {max(os.sched_getaffinity(0))})
     with tempfile.TemporaryDirectory() as room:
         os.chmod(room, 0o755)
         text = "\n".join([machine(), *compared(asked, room)]) + "\n"
