@@ -62,7 +62,9 @@ pub fn remove(parts: &mut Parts, ino: u32)
     ensures only { (key : Key) → IsLocked key parts.new.cache → IsLocked key parts.old.cache }
     ensures others { KeepsOtherRecords ino parts.old.waiting parts.new.waiting }
 {
-    set_length(parts, ino, 0);
+    if parts.record_in_use(ino).size > 0 {
+        set_length(parts, ino, 0);
+    }
     give_back(parts, ino);
 }
 
