@@ -13,8 +13,8 @@ use std::thread::Threads;
 /// The call of session 1 behind which its gate waits, under the lock, for the cleaner.
 const HELD: u32 = 2;
 
-/// How many calls share a holding of the lock at most.
-const MOST_CALLS: u32 = 16;
+/// How many calls session 1 makes: no more than may share a holding of the lock.
+const CALLS: u32 = 16;
 
 /// Stands open between the calls of session 1, and holds the cleaner's first call until the session has made three in one
 /// holding of the lock. Behind the third, and behind each other until the cleaner's call is made, it lets the cleaner come
@@ -55,7 +55,7 @@ impl<'a, R: Wait + Sync> Gate for Awaited<'a, R> {
 fn script(rt: &impl Abort, alloc: Global) -> String {
     let mut script = String::new(alloc);
     push(rt, &mut script, "session 1\n");
-    for _ in 0..MOST_CALLS {
+    for _ in 0..CALLS {
         push(rt, &mut script, "sync\n");
     }
     script
@@ -63,7 +63,7 @@ fn script(rt: &impl Abort, alloc: Global) -> String {
 
 /// Whether a holding of session 1 ended behind its third call, or one behind that, with calls left.
 fn is_cut_short(made: &Watch<'_, impl Wait>) -> bool {
-    for index in HELD..MOST_CALLS - 1 {
+    for index in HELD..CALLS - 1 {
         if made.has(1, index) {
             return true;
         }
@@ -77,7 +77,7 @@ fn serve_awaited<R: Abort + Threads + Wait + Sync>(rt: &R, alloc: Global, gate: 
     let plan = plan_of(rt, alloc, text.as_str());
     let (setup, sessions) = plan.split(alloc).expect(rt, "sessions");
     let closed = serve(rt, alloc, SMALL, setup, sessions, gate).expect(rt, "a run");
-    assert!(rt; closed.volume.journal().len() > MOST_CALLS as usize);
+    assert!(rt; closed.volume.journal().len() > CALLS as usize);
 }
 
 #[test]
@@ -88,5 +88,5 @@ fn session_gives_up_the_lock_to_a_cleaner_that_waits(rt: HostRuntime) {
     };
     serve_awaited(&rt, rt.alloc(), &gate);
     gate.held.assert_unfailed(&rt);
-    assert!(&rt; gate.made.has(1, MOST_CALLS - 1) && is_cut_short(&gate.made));
+    assert!(&rt; gate.made.has(1, CALLS - 1) && is_cut_short(&gate.made));
 }
