@@ -4,12 +4,12 @@
 A name between backticks that looks like a crate, a file, an item, a clause, a wrong body, a script or a test must stand
 in the repository; where the text says of which crate it is, in that crate. The crates of crates.txt, README's table and
 the map of docs/ARCHITECTURE.md must be the same, and a crate must lead to what it uses. Each wrong body must be named
-and replace a text that stands once, and each one that is named be there. Links must lead somewhere, no line may name a
-place of one machine, the tables of docs/TRUST.md must be those that scripts/reading-list.py makes, docs/SPEC.md is what
-scripts/spec-page.py makes, the manual pages have the options that the programs take, the tutorial shows its scripts as
-the gate runs them, the counts of docs/TESTING.md and docs/GATE.md are those that scripts/count-tests.py makes, and
-README.md with the pages of docs/ that are written by hand stays under 160 KiB. No line of a definition or a proof has
-above 150 columns (scripts/wrap-proofs.py).
+and replace a text that stands once, and each one that is named be there. README.md names as trusted the toolchain's
+crates that ours use. Links must lead somewhere, no line may name a place of one machine, the tables of docs/TRUST.md
+must be those that scripts/reading-list.py makes, docs/SPEC.md is what scripts/spec-page.py makes, the manual pages have
+the options that the programs take, the tutorial shows its scripts as the gate runs them, the counts of docs/TESTING.md
+and docs/GATE.md are those that scripts/count-tests.py makes, and README.md with the pages of docs/ that are written by
+hand stays under 160 KiB. No line of a definition or a proof has above 150 columns (scripts/wrap-proofs.py).
 
 Prints FILE:LINE: WHAT for each problem and ends with status 1, else one line.
 """
@@ -234,6 +234,18 @@ def check_edits(told):
                         told(path, number, f"no wrong body `{found[1]}` in {where}")
 
 
+def check_trusted(told):
+    """README.md names as trusted each crate of the toolchain that crates.txt has one of ours use, and no other."""
+    used = set()
+    for line in (TOP / "crates.txt").read_text().splitlines():
+        if ":" in line and not line.startswith("#"):
+            used |= {name for name in line.split(":", 1)[1].split() if name.isidentifier() and name not in CRATES}
+    text = (TOP / "README.md").read_text()
+    named = set(CODE.findall(text.split("- The toolchain's crates ", 1)[-1].split("\n- ", 1)[0]))
+    for name in sorted(used ^ named):
+        told(TOP / "README.md", 1, f"`{name}` is {'used' if name in used else 'not used'}, and {'not ' if name in used else ''}named as trusted")
+
+
 def uses():
     """The crates that each crate uses, by crates.txt."""
     found = {}
@@ -358,6 +370,7 @@ def main():
         check_page(path, told)
     check_edits(told)
     check_crates(told)
+    check_trusted(told)
     check_tutorial(told)
     check_words(told)
     check_counts(told)
