@@ -4,8 +4,8 @@
 A name between backticks that looks like a crate, a file, an item, a clause, a wrong body, a script or a test must stand
 in the repository; where the text says of which crate it is, in that crate. The crates of crates.txt, README's table and
 the map of docs/ARCHITECTURE.md must be the same, and a crate must lead to what it uses. Each wrong body must be named
-and replace a text that stands once, and each one that is named be there. README.md names as trusted the toolchain's
-crates that ours use. Links must lead somewhere, no line may name a place of one machine, the tables of docs/TRUST.md
+and replace a text that stands once, and each one that is named be there. A README says in which crate the tests of its
+tables stand. README.md names as trusted the toolchain's crates that ours use. Links must lead somewhere, no line may name a place of one machine, the tables of docs/TRUST.md
 must be those that scripts/reading-list.py makes, docs/SPEC.md is what scripts/spec-page.py makes, the manual pages have
 the options that the programs take, the tutorial shows its scripts as the gate runs them, the counts of docs/TESTING.md
 and docs/GATE.md are those that scripts/count-tests.py makes, and README.md with the pages of docs/ that are written by
@@ -220,7 +220,7 @@ def check_edits(told):
             told(path, 1, f"wrong body `{edit}` is named nowhere")
         column = None
         for number, line in enumerate(path.read_text().splitlines() if path.exists() else [], 1):
-            cells = [cell.strip() for cell in re.split(r"(?<!\\)\|", line)[1:-1]] if line.startswith("|") else None
+            cells = cells_of(line) if line.startswith("|") else None
             if cells is None:
                 column = None
             elif column is None:
@@ -232,6 +232,33 @@ def check_edits(told):
                     where = last[-1] if last else where
                     if HYPHENED.fullmatch(found[1]) and found[1] not in edits_of(where) and "of the " not in cells[column]:
                         told(path, number, f"no wrong body `{found[1]}` in {where}")
+
+
+def cells_of(line):
+    return [cell.strip() for cell in re.split(r"(?<!\\)\|", line)[1:-1]]
+
+
+def check_tests(told):
+    """A README says where the tests and the scripts of its tables stand: it names the crate, or they are its own."""
+    stand = {}
+    for path in (TOP / "crates").glob("*/src/**/*.rt"):
+        for name in re.findall(r"#\[test\]\s*(?:#\[[^\]]*\]\s*)*fn (\w+)", path.read_text()):
+            stand.setdefault(name, set()).add(path.relative_to(TOP).parts[1])
+    for path in (TOP / "crates").glob("*/data/*.lfs"):
+        stand.setdefault(path.stem, set()).add(path.relative_to(TOP).parts[1])
+    for path in sorted((TOP / "crates").glob("*/README.md")):
+        text = path.read_text()
+        said = {path.parent.name} | set(re.findall(r"`(lfs_\w+_tests|lfs_tests)`", text))
+        column = None
+        for number, line in enumerate(text.splitlines(), 1):
+            if not line.startswith("|"):
+                column = None
+            elif column is None:
+                column = cells_of(line).index("Tests") if "Tests" in cells_of(line) else -1
+            elif 0 <= column < len(cells_of(line)):
+                for name in CODE.findall(cells_of(line)[column]):
+                    if name in stand and not stand[name] & said:
+                        told(path, number, f"`{name}` stands in {', '.join(sorted(stand[name]))}, which isn't said")
 
 
 def check_trusted(told):
@@ -371,6 +398,7 @@ def main():
     check_edits(told)
     check_crates(told)
     check_trusted(told)
+    check_tests(told)
     check_tutorial(told)
     check_words(told)
     check_counts(told)
