@@ -1,15 +1,16 @@
 #!/usr/bin/env python3
-"""Says where README.md, docs/ and the crates' READMEs name what isn't there.
+"""Says where README.md, docs/ and the READMEs of crates, examples and the bench name what isn't there.
 
 A name between backticks that looks like a crate, a file, an item, a clause, a wrong body, a script or a test must stand
 in the repository; where the text says of which crate it is, in that crate. The crates of crates.txt, README's table and
 the map of docs/ARCHITECTURE.md must be the same, and a crate must lead to what it uses. Each wrong body must be named
 and replace a text that stands once, and each one that is named be there. A README says in which crate the tests of its
-tables stand. README.md names as trusted the toolchain's crates that ours use. Links must lead somewhere, no line may name a place of one machine, the tables of docs/TRUST.md
-must be those that scripts/reading-list.py makes, docs/SPEC.md is what scripts/spec-page.py makes, the manual pages have
-the options that the programs take, the tutorial shows its scripts as the gate runs them, the counts of docs/TESTING.md
-and docs/GATE.md are those that scripts/count-tests.py makes, and README.md with the pages of docs/ that are written by
-hand stays under 160 KiB. No line of a definition or a proof has above 150 columns (scripts/wrap-proofs.py).
+tables stand. README.md names as trusted the toolchain's crates that ours use. Links must lead somewhere, no line may
+name a place of one machine, the tables of docs/TRUST.md must be those that scripts/reading-list.py makes, docs/SPEC.md
+is what scripts/spec-page.py makes, the manual pages have the options that the programs take, the tutorial shows its
+scripts as the gate runs them, the counts of docs/TESTING.md and docs/GATE.md are those that scripts/count-tests.py
+makes, and README.md with the pages of docs/ that are written by hand stays under 160 KiB. No line of a definition or a
+proof has above 150 columns (scripts/wrap-proofs.py).
 
 Prints FILE:LINE: WHAT for each problem and ends with status 1, else one line.
 """
@@ -33,12 +34,13 @@ SHOWN = re.compile(r"    (\S.*?)(?: {2,}([0-8] .*))?$")
 # a place of one machine, which nobody else has
 PLACE = re.compile(r"(?<![\w.])/(?:work|opt|tmp|root|usr|Users)/")
 # what belongs to the toolchain, Rust or the field, and stands in no file of ours
-OTHERS = set("bazel cargo clang perf just rg grep usize isize vec panic assert omega grind simp".split())
+OTHERS = set("bazel cargo clang perf rustc valgrind just rg grep usize isize vec panic assert omega grind simp".split())
 
 
 def pages():
     """The files that are read, README.md first."""
-    return [TOP / "README.md", *sorted((TOP / "docs").glob("*.md")), *sorted((TOP / "crates").glob("*/*.md"))]
+    beside = [TOP / "bench/README.md", *sorted((TOP / "examples").rglob("*.md"))]
+    return [TOP / "README.md", *sorted((TOP / "docs").glob("*.md")), *sorted((TOP / "crates").glob("*/*.md")), *beside]
 
 
 @lru_cache(maxsize=None)
