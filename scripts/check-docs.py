@@ -4,13 +4,14 @@
 A name between backticks that looks like a crate, a file, an item, a clause, a wrong body, a script or a test must stand
 in the repository; where the text says of which crate it is, in that crate. The crates of crates.txt, README's table and
 the map of docs/ARCHITECTURE.md must be the same, and a crate must lead to what it uses. Each wrong body must be named
-and replace a text that stands once, and each one that is named be there. A README says in which crate the tests of its
-tables stand. README.md names as trusted the toolchain's crates that ours use. Links must lead somewhere, no line may
-name a place of one machine, the tables of docs/TRUST.md must be those that scripts/reading-list.py makes, docs/SPEC.md
-is what scripts/spec-page.py makes, the manual pages have the options that the programs take, the tutorial shows its
-scripts as the gate runs them, the counts of docs/TESTING.md and docs/GATE.md are those that scripts/count-tests.py
-makes, and README.md with the pages of docs/ that are written by hand stays under 160 KiB. No line of a definition or a
-proof has above 150 columns (scripts/wrap-proofs.py).
+and replace a text that stands once, and each one that is named be there. The functions of a README's tables are its
+crate's, or those of one that the row names, and it says in which crate the tests stand. README.md names as trusted the
+toolchain's crates that ours use. Links must lead somewhere, no line may name a place of one machine, the tables of
+docs/TRUST.md must be those that scripts/reading-list.py makes, docs/SPEC.md is what scripts/spec-page.py makes, the
+manual pages have the options that the programs take, the tutorial shows its scripts as the gate runs them, the counts of
+docs/TESTING.md and docs/GATE.md are those that scripts/count-tests.py makes, and README.md with the pages of docs/ that
+are written by hand stays under 160 KiB. No line of a definition or a proof has above 150 columns
+(scripts/wrap-proofs.py).
 
 Prints FILE:LINE: WHAT for each problem and ends with status 1, else one line.
 """
@@ -263,6 +264,24 @@ def check_tests(told):
                         told(path, number, f"`{name}` stands in {', '.join(sorted(stand[name]))}, which isn't said")
 
 
+def check_calls(told):
+    """The functions in a README's tables are its crate's, or those of a crate that the row names."""
+    for path in sorted((TOP / "crates").glob("*/README.md")):
+        column = None
+        for number, line in enumerate(path.read_text().splitlines(), 1):
+            cells = cells_of(line)
+            if not line.startswith("|"):
+                column = None
+            elif column is None:
+                column = next((cells.index(head) for head in ("Call", "Functions", "Function") if head in cells), -1)
+            elif 0 <= column < len(cells):
+                crates = {path.parent.name} | {name for name in re.findall(r"`(lfs_\w+)`", line) if name in CRATES}
+                words = [word for name in CODE.findall(cells[column]) if ITEM.fullmatch(name) for word in re.split(r"::|\.", name)]
+                for word in words:
+                    if word[0].islower() and not any(word in defined_in(crate) for crate in crates):
+                        told(path, number, f"`{word}` is no function of {', '.join(sorted(crates))}")
+
+
 def check_trusted(told):
     """README.md names as trusted each crate of the toolchain that crates.txt has one of ours use, and no other."""
     used = set()
@@ -401,6 +420,7 @@ def main():
     check_crates(told)
     check_trusted(told)
     check_tests(told)
+    check_calls(told)
     check_tutorial(told)
     check_words(told)
     check_counts(told)
