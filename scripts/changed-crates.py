@@ -21,7 +21,7 @@ def main():
     since = sys.argv[1] if len(sys.argv) > 1 else "HEAD"
     files = git("diff", "--name-only", since) + git("ls-files", "--others", "--exclude-standard")
     # a README is not proved, and neither is what is beside a crate's text
-    found = [re.match(r"crates/(\w+)/(?:src|specs|proofs|must-fail|data|std(?:in|out)|args)", file) for file in files]
+    found = [re.match(r"crates/(\w+)/(?:src|specs|proofs|must-fail|data|std(?:in|out)|args|status)", file) for file in files]
     changed = {match[1] for match in found if match} & set(uses)
     order, seen = [], set()
 

@@ -1,15 +1,17 @@
 #!/usr/bin/env python3
-"""Says where README.md, docs/ and the crates' READMEs name what isn't there.
+"""Says where README.md, docs/ and the READMEs of crates, examples and the bench name what isn't there.
 
 A name between backticks that looks like a crate, a file, an item, a clause, a wrong body, a script or a test must stand
 in the repository; where the text says of which crate it is, in that crate. The crates of crates.txt, README's table and
 the map of docs/ARCHITECTURE.md must be the same, and a crate must lead to what it uses. Each wrong body must be named
-and replace a text that stands once, and each one that is named be there. Links must lead somewhere, no line may name a
-place of one machine, the tables of docs/TRUST.md must be those that scripts/reading-list.py makes, docs/SPEC.md is what
-scripts/spec-page.py makes, the manual pages have the options that the programs take, the tutorial shows its scripts as
-the gate runs them, the counts of docs/TESTING.md and docs/GATE.md are those that scripts/count-tests.py makes, and
-README.md with the pages of docs/ that are written by hand stays under 160 KiB. No line of a definition or a proof has
-above 150 columns (scripts/wrap-proofs.py).
+and replace a text that stands once, and each one that is named be there. The functions of a README's tables are its
+crate's, or those of one that the row names, and it says in which crate the tests stand. README.md names as trusted the
+toolchain's crates that ours use. Links must lead somewhere, no line may name a place of one machine, the tables of
+docs/TRUST.md must be those that scripts/reading-list.py makes, docs/SPEC.md is what scripts/spec-page.py makes, the
+manual pages have the options that the programs take, the tutorial shows its scripts as the gate runs them, the counts of
+docs/TESTING.md and docs/GATE.md are those that scripts/count-tests.py makes, and README.md with the pages of docs/ that
+are written by hand stays under 160 KiB. No line of a definition or a proof has above 150 columns
+(scripts/wrap-proofs.py).
 
 Prints FILE:LINE: WHAT for each problem and ends with status 1, else one line.
 """
@@ -33,12 +35,13 @@ SHOWN = re.compile(r"    (\S.*?)(?: {2,}([0-8] .*))?$")
 # a place of one machine, which nobody else has
 PLACE = re.compile(r"(?<![\w.])/(?:work|opt|tmp|root|usr|Users)/")
 # what belongs to the toolchain, Rust or the field, and stands in no file of ours
-OTHERS = set("bazel cargo clang perf just rg grep usize isize vec panic assert omega grind simp".split())
+OTHERS = set("bazel cargo clang perf rustc valgrind just rg grep usize isize vec panic assert omega grind simp".split())
 
 
 def pages():
     """The files that are read, README.md first."""
-    return [TOP / "README.md", *sorted((TOP / "docs").glob("*.md")), *sorted((TOP / "crates").glob("*/*.md"))]
+    beside = [TOP / "bench/README.md", *sorted((TOP / "examples").rglob("*.md"))]
+    return [TOP / "README.md", *sorted((TOP / "docs").glob("*.md")), *sorted((TOP / "crates").glob("*/*.md")), *beside]
 
 
 @lru_cache(maxsize=None)
@@ -220,7 +223,7 @@ def check_edits(told):
             told(path, 1, f"wrong body `{edit}` is named nowhere")
         column = None
         for number, line in enumerate(path.read_text().splitlines() if path.exists() else [], 1):
-            cells = [cell.strip() for cell in re.split(r"(?<!\\)\|", line)[1:-1]] if line.startswith("|") else None
+            cells = cells_of(line) if line.startswith("|") else None
             if cells is None:
                 column = None
             elif column is None:
@@ -232,6 +235,63 @@ def check_edits(told):
                     where = last[-1] if last else where
                     if HYPHENED.fullmatch(found[1]) and found[1] not in edits_of(where) and "of the " not in cells[column]:
                         told(path, number, f"no wrong body `{found[1]}` in {where}")
+
+
+def cells_of(line):
+    return [cell.strip() for cell in re.split(r"(?<!\\)\|", line)[1:-1]]
+
+
+def check_tests(told):
+    """A README says where the tests and the scripts of its tables stand: it names the crate, or they are its own."""
+    stand = {}
+    for path in (TOP / "crates").glob("*/src/**/*.rt"):
+        for name in re.findall(r"#\[test\]\s*(?:#\[[^\]]*\]\s*)*fn (\w+)", path.read_text()):
+            stand.setdefault(name, set()).add(path.relative_to(TOP).parts[1])
+    for path in (TOP / "crates").glob("*/data/*.lfs"):
+        stand.setdefault(path.stem, set()).add(path.relative_to(TOP).parts[1])
+    for path in sorted((TOP / "crates").glob("*/README.md")):
+        text = path.read_text()
+        said = {path.parent.name} | set(re.findall(r"`(lfs_\w+_tests|lfs_tests)`", text))
+        column = None
+        for number, line in enumerate(text.splitlines(), 1):
+            if not line.startswith("|"):
+                column = None
+            elif column is None:
+                column = cells_of(line).index("Tests") if "Tests" in cells_of(line) else -1
+            elif 0 <= column < len(cells_of(line)):
+                for name in CODE.findall(cells_of(line)[column]):
+                    if name in stand and not stand[name] & said:
+                        told(path, number, f"`{name}` stands in {', '.join(sorted(stand[name]))}, which isn't said")
+
+
+def check_calls(told):
+    """The functions in a README's tables are its crate's, or those of a crate that the row names."""
+    for path in sorted((TOP / "crates").glob("*/README.md")):
+        column = None
+        for number, line in enumerate(path.read_text().splitlines(), 1):
+            cells = cells_of(line)
+            if not line.startswith("|"):
+                column = None
+            elif column is None:
+                column = next((cells.index(head) for head in ("Call", "Functions", "Function") if head in cells), -1)
+            elif 0 <= column < len(cells):
+                crates = {path.parent.name} | {name for name in re.findall(r"`(lfs_\w+)`", line) if name in CRATES}
+                words = [word for name in CODE.findall(cells[column]) if ITEM.fullmatch(name) for word in re.split(r"::|\.", name)]
+                for word in words:
+                    if word[0].islower() and not any(word in defined_in(crate) for crate in crates):
+                        told(path, number, f"`{word}` is no function of {', '.join(sorted(crates))}")
+
+
+def check_trusted(told):
+    """README.md names as trusted each crate of the toolchain that crates.txt has one of ours use, and no other."""
+    used = set()
+    for line in (TOP / "crates.txt").read_text().splitlines():
+        if ":" in line and not line.startswith("#"):
+            used |= {name for name in line.split(":", 1)[1].split() if name.isidentifier() and name not in CRATES}
+    text = (TOP / "README.md").read_text()
+    named = set(CODE.findall(text.split("- The toolchain's crates ", 1)[-1].split("\n- ", 1)[0]))
+    for name in sorted(used ^ named):
+        told(TOP / "README.md", 1, f"`{name}` is {'used' if name in used else 'not used'}, and {'not ' if name in used else ''}named as trusted")
 
 
 def uses():
@@ -358,6 +418,9 @@ def main():
         check_page(path, told)
     check_edits(told)
     check_crates(told)
+    check_trusted(told)
+    check_tests(told)
+    check_calls(told)
     check_tutorial(told)
     check_words(told)
     check_counts(told)
