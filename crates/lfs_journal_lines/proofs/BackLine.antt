@@ -1,8 +1,7 @@
 -- The line of an entry is read as that entry: `entry_back`, for the law `reads_back`. The line's words are the session
 -- and caller, a bar, the call, a bar and the answer; none is empty or has a space, so the line is split into just these
 -- (`line_back`), and no word of the first two fields is a bar, so it's cut where it was joined (`cut_back`). Each field
--- is then read back by its own lemma (CallerBack, BackCalls, BackAnswers); a verb that is `cleaner` or a bar would
--- break `verb_alone`.
+-- is then read back by its own lemma (CallerBack, BackCalls, BackAnswers); a verb that is a bar would break `verb_bar`.
 use Rattle.std.proofs.Common.{◌≡◌, ℕ, suc, ◌^◌, ◌<◌, ◌≤◌, Bool, true, false, List, [], ◌∷◌, ◌++◌, length, codes, Ok}
 use Rattle.std.proofs.Common.{refl, ap, ◌∙◌, inl, inr, arith, append_assoc, length-append}
 use Rattle.std.proofs.Math.Seq.{drop-append-add, take-append_seam}

@@ -1,5 +1,6 @@
 -- When the calls of a message come to the same for every caller of a user, whatever his groups are: `moded` and `owned`
--- for attributes, `row_alike` for a row, and `reads_alike`, `writes_alike`, `removes_alike` and `moves_alike` for calls.
+-- for attributes, `row_alike` for a row, and `stats_alike`, `reads_alike`, `writes_alike`, `unlinks_alike`, `rmdirs_alike`
+-- and `moves_alike` for calls.
 -- The rules ask a caller's groups only where they ask what a mode grants him, and there between the group's bit and the
 -- others'. So a call's first failing test is the same where the walks end alike (`after_way`) and each test that asks a
 -- mode is met alike; all other tests ask his user alone. Behind a first path the walk of a Rename's second one is the
