@@ -1,6 +1,7 @@
 //! The entries of a block, and whether it is a directory block.
 
 ghost use Rattle.std.specs.Prelude.{◌≡◌, ℕ, ◌≤◌, ◌↔◌, List, [], All, None, IsTrue, MatchOption, length};
+ghost use Rattle.std.specs.Str.{bytes_eq};
 ghost use Rattle.lfs_types.specs.Naming.{name_fault};
 ghost use Rattle.lfs_dirs.specs.Directory.{IsDirectoryBlock, number_in};
 ghost use Rattle.lfs_dirs.specs.Reading.{StandsBehind, StandsFirst, entries_of};
@@ -104,7 +105,7 @@ pub(crate) fn behind<'a>(block: &'a Block, name: &[u8]) -> Option<&'a [u8]>
 {
     let mut rest: &[u8] = block;
     while let Some((_, found, others)) = first_entry(rest) {
-        if found == name {
+        if is_same(found, name) {
             return Some(others);
         }
         rest = others;
@@ -116,8 +117,16 @@ pub(crate) fn behind<'a>(block: &'a Block, name: &[u8]) -> Option<&'a [u8]>
 fn number_among(mut entries: BlockEntries<'_>, name: &[u8]) -> Option<u32>
     ensures { result ≡ number_in name.now entries.entry }
 {
-    let (number, _) = entries.find(|entry| entry.1 == name)?;
+    let (number, _) = entries.find(|entry| is_same(entry.1, name))?;
     Some(number)
+}
+
+/// Whether two names are the same. Names that are made one after the other often differ in their last bytes alone, so
+/// these are compared first.
+fn is_same(found: &[u8], name: &[u8]) -> bool
+    ensures { result ≡ bytes_eq found.now name.now }
+{
+    found.len() == name.len() && found.last() == name.last() && found == name
 }
 
 /// Whether the bytes are a name.
