@@ -1,0 +1,86 @@
+-- What changes of a durable store come to that were made (`came`), what it keeps behind them (`came_kept`), and its state
+-- (`came_applies`).
+use Rattle.std.proofs.Common.{◌≡◌, ◌⊎◌, List, All, Ok, sym, ap, subst, inl, inr, arith}
+use Rattle.lfs_types.specs.StoreStates.{Applies, StoreState}
+use Rattle.lfs_types.specs.declared.store.Change.{Change}
+use Rattle.lfs_types.specs.declared.store.Reserve.{Reserve}
+use Rattle.lfs_segments.specs.Memory.{room_of}
+use Rattle.lfs_staging.specs.Changing.{StaysInLog}
+use Rattle.lfs_parts.specs.declared.parts.Parts.{Parts}
+use Rattle.lfs_parts.specs.Store.{IsFlushed}
+use Rattle.lfs_segwrite.specs.Applying.{IsInReach, MakesChanges}
+use Rattle.lfs_logstore.specs.Answering as log
+use Rattle.lfs_logstore.specs.States.{state_of}
+use Rattle.lfs_durable.proofs.KeptLemmas.{writes_can_be_found}
+use Rattle.lfs_durable_store.specs.Answering.{ComesTo, MakesWay, SettlesIfPast}
+use Rattle.lfs_durable_store.specs.Fitting.{FitsWith}
+use Rattle.lfs_durable_store.specs.Keeping.{Durably, IsKept}
+use Rattle.lfs_durable_store.proofs.CallLemmas.{settled_state, written_applies}
+use Rattle.lfs_durable_store.proofs.FitLemmas.{made_fits, made_stays}
+use Rattle.lfs_durable_store.proofs.KeepLemmas.{kept_since, kept_written}
+
+module _ (changes : List Change) (by : Reserve) (old before : Durably) (p : Parts) (new : Durably)
+    (reach : All IsInReach changes) (kept : IsKept before) (way : MakesWay changes old before)
+    (comes : log.ComesTo before.store changes by (Ok tt) p) (behind : SettlesIfPast (record { store = p; base = before.base }) new)
+  where
+    makes : MakesChanges by changes before.store p
+    makes = comes.makes
+
+    ready : FitsWith changes before.store ⊎ IsFlushed before.store
+    ready = elim way.ready [
+      | inl fits ↦ inl fits
+      | inr done ↦ inr done.0
+    ]
+
+    stays : StaysInLog before.store p
+    stays = made_stays changes by before.store p makes ready
+
+    pub came_kept : IsKept new
+    came_kept =
+        let found = writes_can_be_found before.store p makes.log kept.found in
+        let left = ap room_of stays.memory in
+        elim behind.either [
+          | inl nothing ↦
+              let fits = nothing.0 in
+              subst IsKept (sym nothing.1) (kept_since before kept p stays.memory found (omega arith))
+          | inr wrote ↦ subst IsKept (sym wrote.1.base) (kept_written p new.store found wrote.1.written)
+        ]
+
+    pub came : ComesTo old changes by (Ok tt) new
+    came = record {
+      before = before;
+      first = way.first;
+      staged = p;
+      comes = comes;
+      stays = stays;
+      behind = elim behind.either [
+        | inl nothing ↦ inl nothing.1
+        | inr wrote ↦ elim way.ready [
+          | inl fits ↦
+              let few = made_fits changes by before.store p makes fits reach in
+              let short = wrote.0 in
+              absurd (omega arith)
+          | inr done ↦ inr (record {
+            flushed = done.0;
+            own = done.1;
+            short = wrote.0;
+            settles = record { written = wrote.1.written; base = wrote.1.base };
+          })
+        ]
+      ];
+      refused = tt;
+    }
+
+    pub came_applies : Applies (state_of before.store) changes (Ok tt) (state_of p)
+        → Applies (state_of old.store) changes (Ok tt) (state_of new.store)
+    came_applies applies =
+        let same : state_of before.store ≡ state_of old.store = elim way.first [
+          | inl nothing ↦ ap (λ (d : Durably). state_of d.store) nothing
+          | inr wrote ↦ settled_state old before wrote
+        ] in
+        let from = subst (λ (s : StoreState). Applies s changes (Ok tt) (state_of p)) same applies in
+        elim behind.either [
+          | inl nothing ↦ subst (λ (d : Durably). Applies (state_of old.store) changes (Ok tt) (state_of d.store))
+              (sym nothing.1) from
+          | inr wrote ↦ written_applies (state_of old.store) changes p new.store wrote.1.written from
+        ]

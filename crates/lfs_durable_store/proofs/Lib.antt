@@ -1,0 +1,6 @@
+pub mod ApplyLemmas
+pub mod CallLemmas
+pub mod CrashLemmas
+pub mod FitLemmas
+pub mod KeepLemmas
+pub mod RunLemmas

@@ -1,0 +1,10 @@
+use Rattle.lfs_durable_store.proofs.CallLemmas.{marked_found}
+use Rattle.lfs_durable_store.proofs.KeepLemmas.{kept_own}
+use Rattle.lfs_durable_store.proofs.cleaning.DurableStoreCleanedStore.markv.Goals as goal
+
+pub invariant_of-self : goal.invariant_of-self
+invariant_of-self c =
+    let given = c.markv-marked.ensures.given in
+    let new = c.markv-marked.new.self in
+    let found = marked_found c.self.inside.store new c.args.marks.now c.markv-marked.result given c.self.invariant.found in
+    kept_own new c.base_of.result.value c.base_of.ensures.base found c.base_of.ensures.store given.flushed

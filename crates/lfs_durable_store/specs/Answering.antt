@@ -1,0 +1,66 @@
+-- What calls of a durable store come to, and what becomes of its base.
+use Rattle.std.specs.Prelude.{◌≡◌, ◌⊎◌, ◌<◌, List, Result, OnErr}
+use Rattle.lfs_types.specs.declared.store.Change.{Change}
+use Rattle.lfs_types.specs.declared.store.Reserve.{Reserve}
+use Rattle.lfs_types.specs.declared.store.StoreRefusal.{StoreRefusal}
+use Rattle.lfs_segments.specs.Memory.{room_of}
+use Rattle.lfs_staging.specs.Changing.{StaysInLog}
+use Rattle.lfs_parts.specs.declared.parts.Parts.{Parts}
+use Rattle.lfs_parts.specs.Filling.{SameButClean}
+use Rattle.lfs_parts.specs.Files.{content_of}
+use Rattle.lfs_parts.specs.Store.{IsFlushed}
+use Rattle.lfs_segwrite.specs.Applying.{WritesWaiting, waiting_blocks}
+use Rattle.lfs_logstore.specs.Answering as log
+use Rattle.lfs_durable_store.specs.Fitting.{Fits, FitsWith}
+use Rattle.lfs_durable_store.specs.Keeping.{Durably, settled}
+
+-- Clean blocks may have come into the cache, or have gone. The base stays.
+pub record FillsFrames (old new : Durably) : Type 0 where
+  pub still : SameButClean old.store new.store
+  pub base : new.base ≡ old.base
+
+-- What waited was written, and the store is its own base.
+pub record Settles (old new : Durably) : Type 0 where
+  pub written : WritesWaiting old.store new.store
+  pub base : new ≡ settled new.store
+
+-- So it was in what the active segment had left: no segment was opened.
+pub record SettlesInPlace (old new : Durably) : Type 0 where
+  pub settles : Settles old new
+  pub clean : new.store.log.clean ≡ old.store.log.clean
+
+-- What waits didn't fit the active segment, and was written at once, in a segment that was opened. It was staged over a
+-- store in which nothing waited.
+pub record SettlesBehind (before : Durably) (staged : Parts) (new : Durably) : Type 0 where
+  pub flushed : IsFlushed before.store
+  pub own : before ≡ settled before.store
+  pub short : room_of staged.log.memory < waiting_blocks staged
+  pub settles : Settles (record { store = staged; base = before.store }) new
+
+-- Changes on somebody's behalf came to this. What waited was written first, or nothing was done. Then they came to what they
+-- come to over a log, and nothing was written. Then what waits was written, or nothing was done.
+pub record ComesTo (old : Durably) (changes : List Change) (by : Reserve) (result : Result (Unit {0}) StoreRefusal)
+    (new : Durably) : Type 0 where
+  pub before : Durably
+  pub first : (before ≡ old) ⊎ SettlesInPlace old before
+  pub staged : Parts
+  pub comes : log.ComesTo before.store changes by result staged
+  pub stays : StaysInLog before.store staged
+  pub behind : (new ≡ record { store = staged; base = before.base }) ⊎ SettlesBehind before staged new
+  pub refused : OnErr result (new ≡ before)
+
+-- The base contains what it contained, or what the store contained before the call, or what it contains now.
+abbrev pub MovesBase : Durably → Durably → Type 0
+MovesBase old new =
+    (content_of new.base ≡ content_of old.base)
+    ⊎ ((content_of new.base ≡ content_of old.store) ⊎ (content_of new.base ≡ content_of new.store))
+
+-- Where with changes what waits might not have fitted the active segment, it was written first.
+pub record MakesWay (changes : List Change) (old new : Durably) : Type 0 where
+  pub first : (new ≡ old) ⊎ SettlesInPlace old new
+  pub ready : FitsWith changes new.store ⊎ (IsFlushed new.store × (new ≡ settled new.store))
+
+-- Where what waited didn't fit the active segment, it was written.
+pub record SettlesIfPast (old new : Durably) : Type 0 where
+  pub either : (Fits old.store × (new ≡ old))
+      ⊎ ((room_of old.store.log.memory < waiting_blocks old.store) × Settles old new)

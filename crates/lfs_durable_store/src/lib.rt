@@ -1,0 +1,12 @@
+//! A log store of which a crash, at any moment, leaves what it contained at some moment no earlier than the last Sync: a
+//! segment is opened only where nothing waits from before.
+#![tactic(auto)]
+
+mod cleaning;
+mod files;
+mod fitting;
+mod laws;
+mod store;
+
+pub use laws::{behind_is_later, finds_prefix, survives_later};
+pub use store::DurableStore;
