@@ -1,6 +1,6 @@
 //! Directories in a store, block by block: a name is looked up, names are listed, room is found, a name is taken out.
 
-ghost use Rattle.std.specs.Prelude.{◌≡◌, ◌+◌, ◌≤◌, IsSome, IsSomeAnd, length, take, drop, ℕ, [], ◌∷◌, ◌%◌, ◌<◌, IfSome, Some, None, is_none, MatchOption, ◌↔◌, ◌/◌, IsTrue, ◌++◌, IfOk, map, replicate};
+ghost use Rattle.std.specs.Prelude.{◌≡◌, ◌+◌, ◌≤◌, IsSome, IsSomeAnd, length, take, drop, ℕ, [], ◌∷◌, ◌%◌, ◌<◌, IfSome, Some, None, is_none, MatchOption, ◌↔◌, ◌/◌, IsTrue, false, ◌++◌, IfOk, map, replicate};
 ghost use Rattle.std.specs.FinMap.{get};
 ghost use Rattle.lfs_types.specs.declared.block.TheConstants.{BLOCK_SIZE};
 ghost use Rattle.lfs_types.specs.Stored.{bytes_of};
@@ -15,7 +15,8 @@ ghost use Rattle.lfs_calls.specs.Makes.{CanEnter, IsRoom, IsRoomIn, StandsIn, wi
 ghost use Rattle.lfs_calls.specs.Removes.{IsTaking, ListsName};
 
 use crate::cached_store::CachedStore;
-use lfs_dirs::{add, added, entries, remove, removed};
+use crate::walking::Reached;
+use lfs_dirs::{add, entries, remove, removed};
 use lfs_known::Hint;
 use lfs_types::block::{BLOCK_SIZE, Block};
 use lfs_types::limits::FILE_BYTES;
@@ -37,7 +38,7 @@ pub(crate) struct DirBlock {
 
 impl DirBlock {
     /// A block to be read into.
-    fn empty() -> DirBlock
+    pub(crate) fn empty() -> DirBlock
         ensures { result ≡ record { off = 0; block = replicate BLOCK_SIZE 0 } }
     {
         DirBlock {
@@ -262,46 +263,48 @@ pub fn is_empty_directory<F: FileStore>(store: &mut CachedStore<F>, dir: u32, si
     true
 }
 
-/// The first block of a directory that has room for a new entry, with that entry, else a new block at the end; None
-/// where the directory has all the blocks that it may have. The block `taken`, if there is one, is read in place of
-/// the stored one. Stored blocks that are known to have no room are passed over.
+/// Makes `room` the first block of a directory that has room for a new entry, with that entry, else a new block at the
+/// end, and says whether there is one: none where the directory has all the blocks that it may have. The block `taken`,
+/// if there is one, is read in place of the stored one. Stored blocks that are known to have no room are passed over.
 pub(crate) fn find_room<F: FileStore>(
     store: &mut CachedStore<F>,
-    dir: u32,
-    size: u64,
+    dir: &Reached,
     taken: Option<&DirBlock>,
     listed: NewEntry<'_>,
-) -> Option<DirBlock>
-    requires { CanEnter (F.state store.old).content dir size taken listed.name.now listed.number }
-    ensures room { MatchOption result
-        (FitsNowhere (with_block (bytes_of (F.state store.old).content dir) taken.entry)
-        None listed.entry.name.now)
-        (λ room. (k : ℕ) × IsRoom
-        (with_block (bytes_of (F.state store.old).content dir) taken.entry)
-        listed.entry.number listed.entry.name.now room k) }
+    room: &mut DirBlock,
+) -> bool
+    requires { CanEnter (F.state store.old).content dir.now.number dir.now.attrs.size taken
+        listed.name.now listed.number }
+    ensures room { IsTrue result → (k : ℕ) × IsRoom
+        (with_block (bytes_of (F.state store.old).content dir.now.number) taken.entry)
+        listed.entry.number listed.entry.name.now room.new k }
+    ensures full { result ≡ false → FitsNowhere
+        (with_block (bytes_of (F.state store.old).content dir.now.number) taken.entry)
+        None listed.entry.name.now }
     ensures state { F.state store.new ≡ F.state store.old }
 {
     let NewEntry { name, number } = listed;
+    let size = dir.attrs.size;
     let block_size = BLOCK_SIZE as u64;
-    let first = first_to_try(store, dir, name);
-    if let Some(room) = taken_room(taken, first, name, number) {
-        return Some(room);
+    let first = first_to_try(store, dir.number, name);
+    if taken_room(taken, first, name, number, room) {
+        return true;
     }
-    let mut room = DirBlock::empty();
     for k in first..size / block_size {
         room.off = block_size * k;
-        see_block(store, dir, room.off, taken, &mut room.block);
+        see_block(store, dir.number, room.off, taken, &mut room.block);
         if add(&mut room.block, name, number) {
-            keep_hint(store, dir, taken, k, name);
-            return Some(room);
+            keep_hint(store, dir.number, taken, k, name);
+            return true;
         }
     }
     if size == FILE_BYTES {
-        return None;
+        return false;
     }
-    keep_hint(store, dir, taken, size / block_size, name);
-    let block = lone_entry(name, number);
-    Some(DirBlock { off: size, block })
+    keep_hint(store, dir.number, taken, size / block_size, name);
+    room.off = size;
+    lone_entry(name, number, &mut room.block);
+    true
 }
 
 /// The index of a block of a directory before which a name fits in no stored one: that of the directory's hint, where
@@ -316,27 +319,31 @@ fn first_to_try<F: FileStore>(store: &CachedStore<F>, dir: u32, name: &Name) -> 
     }
 }
 
-/// The block that is read in place of a stored one, if it stands before that of index `first` and a name fits, with an
-/// entry of the name more.
-fn taken_room(taken: Option<&DirBlock>, first: u64, name: &Name, number: u32) -> Option<DirBlock>
+/// Makes `room` the block that is read in place of a stored one, with an entry of a name more, and says whether it
+/// stands before that of index `first` and the name fits.
+fn taken_room(
+    taken: Option<&DirBlock>,
+    first: u64,
+    name: &Name,
+    number: u32,
+    room: &mut DirBlock,
+) -> bool
     requires above { 0 < number }
-    requires free { IfSome taken (λ room. IsDirectoryBlock room.now.block
-        (entries_of room.now.block)
-        × (number_in name.now (entries_of room.now.block) ≡ None)) }
-    ensures { MatchOption result
-        (IfSome taken.entry (λ room. room.now.off / BLOCK_SIZE < first
-        → BLOCK_SIZE < used_of (entries_of room.now.block) + 5 + length name.now))
-        (λ found. IsSomeAnd taken.entry (λ room. IsRoomIn room.now first number name.now found)) }
+    requires free { IfSome taken (λ seen. IsDirectoryBlock seen.now.block
+        (entries_of seen.now.block)
+        × (number_in name.now (entries_of seen.now.block) ≡ None)) }
+    ensures room { IsTrue result → IsSomeAnd taken.entry
+        (λ seen. IsRoomIn seen.now first number name.now room.new) }
+    ensures full { result ≡ false → IfSome taken.entry (λ seen. seen.now.off / BLOCK_SIZE < first
+        → BLOCK_SIZE < used_of (entries_of seen.now.block) + 5 + length name.now) }
 {
-    let room = taken?;
-    if room.index() >= first {
-        return None;
+    match taken {
+        Some(seen) if seen.index() < first => {
+            *room = *seen;
+            add(&mut room.block, name, number)
+        }
+        _ => false,
     }
-    let block = added(&room.block, name, number)?;
-    Some(DirBlock {
-        off: room.off,
-        block,
-    })
 }
 
 /// Keeps in mind that a name fits in none of the first `block` blocks of a directory, where no block is read in place
@@ -377,29 +384,8 @@ pub(crate) fn keep_room<F: FileStore>(
     }
 }
 
-/// The block of a directory that begins at byte `off`: that in `taken` if it begins there, else the stored one.
-pub(crate) fn seen_block<F: FileStore>(
-    store: &mut CachedStore<F>,
-    dir: u32,
-    off: u64,
-    taken: Option<&DirBlock>,
-) -> Block
-    requires used { IsSome (get (F.state store.old).content dir) }
-    requires aligned { off % BLOCK_SIZE ≡ 0 }
-    requires within { off + BLOCK_SIZE ≤ length (bytes_of (F.state store.old).content dir) }
-    requires taken { IfSome taken
-        (λ room. StandsIn (bytes_of (F.state store.old).content dir) room.now) }
-    ensures block { result ≡ take BLOCK_SIZE
-        (drop off (with_block (bytes_of (F.state store.old).content dir) taken.entry)) }
-    ensures state { F.state store.new ≡ F.state store.old }
-{
-    let mut block = [0; BLOCK_SIZE];
-    see_block(store, dir, off, taken, &mut block);
-    block
-}
-
 /// Reads the block of a directory that begins at byte `off`: that in `taken` if it begins there, else the stored one.
-fn see_block<F: FileStore>(
+pub(crate) fn see_block<F: FileStore>(
     store: &mut CachedStore<F>,
     dir: u32,
     off: u64,
@@ -421,57 +407,58 @@ fn see_block<F: FileStore>(
     }
 }
 
-/// The block that lists one name alone.
-fn lone_entry(name: &Name, number: u32) -> Block
+/// Has a block list one name alone.
+fn lone_entry(name: &Name, number: u32, block: &mut Block)
     requires { 0 < number }
-    ensures block { IsDirectoryBlock result ((number, name.now) ∷ []) }
-    ensures listed { entries_of result ≡ (number, name.now) ∷ [] }
+    ensures block { IsDirectoryBlock block.new ((number, name.now) ∷ []) }
+    ensures listed { entries_of block.new ≡ (number, name.now) ∷ [] }
 {
     prove!(name.as_bytes().len() <= NAME_MAX);
-    let empty = [0; BLOCK_SIZE];
-    match added(&empty, name, number) {
-        Some(block) => block,
-        // Never: a name fits an empty block.
-        None => unreachable!(),
-    }
+    *block = [0; BLOCK_SIZE];
+    // A name fits an empty block.
+    add(block, name, number);
 }
 
-/// The block of a directory that lists a name, without the name, and where it goes.
+/// Makes `room` the block of a directory that lists a name, without the name.
 pub(crate) fn take_name<F: FileStore>(
     store: &mut CachedStore<F>,
     dir: u32,
     size: u64,
     name: &Name,
-) -> DirBlock
+    room: &mut DirBlock,
+)
     requires { ListsName (F.state store.old).content dir size name.now }
-    ensures room { (k : ℕ) × IsTaking (bytes_of (F.state store.old).content dir) name.now result k }
+    ensures room { (k : ℕ)
+        × IsTaking (bytes_of (F.state store.old).content dir) name.now room.new k }
     ensures state { F.state store.new ≡ F.state store.old }
 {
-    let mut room = DirBlock::empty();
-    if take_hinted(store, dir, size, name, &mut room) {
-        return room;
+    if take_hinted(store, dir, size, name, room) {
+        return;
     }
-    take_listed(store, dir, size, name)
+    take_listed(store, dir, size, name, room);
 }
 
-/// The block of a directory that lists a name, without the name, and where it goes, by its blocks. It stands apart, so
-/// that the way of a name that stands where the hint says is short.
+/// Makes `room` the block of a directory that lists a name, without the name, by its blocks. It stands apart, so that
+/// the way of a name that stands where the hint says is short.
 #[inline(never)]
 fn take_listed<F: FileStore>(
     store: &mut CachedStore<F>,
     dir: u32,
     size: u64,
     name: &Name,
-) -> DirBlock
+    room: &mut DirBlock,
+)
     requires { ListsName (F.state store.old).content dir size name.now }
-    ensures room { (k : ℕ) × IsTaking (bytes_of (F.state store.old).content dir) name.now result k }
+    ensures room { (k : ℕ)
+        × IsTaking (bytes_of (F.state store.old).content dir) name.now room.new k }
     ensures state { F.state store.new ≡ F.state store.old }
 {
     let mut blocks = DirBlocks::new(dir, size);
     while let Some(stored) = blocks.next_of(store, name) {
         if let Some(block) = removed(&stored.block, name) {
             let off = stored.off;
-            return DirBlock { off, block };
+            *room = DirBlock { off, block };
+            return;
         }
     }
     // Never: it is listed (`ListsName`), as is required.

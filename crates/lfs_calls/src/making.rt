@@ -190,9 +190,10 @@ fn make<F: FileStore>(
         return Err(CallFault::Refused(Resource::NoInodes));
     };
     let listed = NewEntry { name, number };
-    let Some(room) = find_room(store, dir.number, dir.attrs.size, None, listed) else {
+    let mut room = DirBlock::empty();
+    if !find_room(store, &dir, None, listed, &mut room) {
         return Err(CallFault::Refused(Resource::DirectoryFull));
-    };
+    }
     let attrs = Attrs {
         kind,
         uid: cred.uid(),

@@ -13,7 +13,7 @@ ghost use Rattle.lfs_calls.specs.Removes.{HangsAs, IsChildless, IsRemovable, IsR
 
 use crate::cached_store::{CachedStore, Naming};
 use crate::call_fault::CallFault;
-use crate::directory::{is_empty_directory, take_name};
+use crate::directory::{DirBlock, is_empty_directory, take_name};
 use crate::walking::{Reached, component, last_name, reach, step};
 use lfs_checks::asking::ask;
 use lfs_checks::names::{may_remove, may_unlink};
@@ -83,7 +83,8 @@ fn take_row<F: FileStore>(
         result store.new }
 {
     let Reached { number, attrs } = removal.dir;
-    let room = take_name(store, number, attrs.size, name);
+    let mut room = DirBlock::empty();
+    take_name(store, number, attrs.size, name, &mut room);
     let changes = [
         Change::Put {
             ino: number,

@@ -1,6 +1,6 @@
 //! The call that gives a row another name.
 
-ghost use Rattle.std.specs.Prelude.{◌≡◌, ◌≤◌, ◌<◌, ◌+◌, ◌/◌, ℕ, [], ◌∷◌, Some, None, true, false, length, Ok, IfErr, IfSome, IsSome, IsSomeAnd, OnOk, MatchOption};
+ghost use Rattle.std.specs.Prelude.{◌≡◌, ◌≤◌, ◌<◌, ◌+◌, ◌/◌, ℕ, [], ◌∷◌, Some, None, true, false, length, Ok, IfErr, IfSome, IsSome, IsSomeAnd, IsTrue, OnOk};
 ghost use Rattle.std.specs.FinMap.{get};
 ghost use Rattle.lfs_types.specs.declared.path.TheConstants.{PATH_MAX};
 ghost use Rattle.lfs_types.specs.declared.block.TheConstants.{BLOCK_SIZE};
@@ -24,7 +24,7 @@ ghost use Rattle.lfs_calls.specs.Removes.{IsRemoval};
 use crate::arriving::{Arrival, judge_arrival, judge_there};
 use crate::cached_store::{CachedStore, Moving};
 use crate::call_fault::CallFault;
-use crate::directory::{DirBlock, NewEntry, find_room, keep_room, seen_block, take_name};
+use crate::directory::{DirBlock, NewEntry, find_room, keep_room, see_block, take_name};
 use crate::removing::{Removal, judge_remove};
 use crate::walking::{Reached, component, last_name, parents_of, step};
 use lfs_checks::names::may_move;
@@ -221,35 +221,44 @@ fn judge_way<F: FileStore>(
     Ok(())
 }
 
-/// The blocks that list a row under its new name and no more under the old one; None where the new name fits in no
-/// block of its directory. Where the row `gone` has that name, it gives way.
+/// Fills the blocks that list a row under its new name and no more under the old one, and says whether there are such
+/// ones: none where the new name fits in no block of its directory. Where the row `places.gone` has that name, it gives
+/// way.
 fn find_places<F: FileStore>(
     store: &mut CachedStore<F>,
     planned: &Move,
-    gone: Option<u32>,
     names: NamePair<'_>,
-) -> Option<Places>
+    places: &mut Places,
+) -> bool
     requires goes { (w : World) × (IsVolume (F.state store.old) w
-        × GoesTo (F.state store.old).content w.rows planned.now names.old.now names.new.now gone) }
-    ensures places { MatchOption result
-        (HasNoRoom (F.state store.old).content planned.now names.entry.old.now
-        names.entry.new.now gone)
-        (ArePlaces (F.state store.old).content planned.now names.entry.old.now
-        names.entry.new.now gone) }
+        × GoesTo (F.state store.old).content w.rows planned.now names.old.now names.new.now
+        places.old.gone) }
+    ensures places { IsTrue result → ArePlaces (F.state store.old).content planned.now
+        names.entry.old.now names.entry.new.now places.old.gone places.new }
+    ensures full { result ≡ false → HasNoRoom (F.state store.old).content planned.now
+        names.entry.old.now names.entry.new.now places.old.gone }
     ensures state { F.state store.new ≡ F.state store.old }
 {
-    let Move { removal, dir, .. } = *planned;
-    let taken = take_name(store, removal.dir.number, removal.dir.attrs.size, names.old);
-    let seen = (removal.dir.number == dir.number).then_some(&taken);
+    let Removal { dir, file } = planned.removal;
+    take_name(
+        store,
+        dir.number,
+        dir.attrs.size,
+        names.old,
+        &mut places.taken,
+    );
+    let seen = (dir.number == planned.dir.number).then_some(&places.taken);
     let listed = NewEntry {
         name: names.new,
-        number: removal.file.number,
+        number: file.number,
     };
-    let room = match gone {
-        None => find_room(store, dir.number, dir.attrs.size, seen, listed)?,
-        Some(_) => swap_number(store, dir.number, dir.attrs.size, seen, listed),
-    };
-    Some(Places { taken, room, gone })
+    match places.gone {
+        None => find_room(store, &planned.dir, seen, listed, &mut places.room),
+        Some(_) => {
+            swap_number(store, &planned.dir, seen, listed, &mut places.room);
+            true
+        }
+    }
 }
 
 /// Writes two blocks of directories, one after the other, and removes the file that gives way, if there is one; where
@@ -306,57 +315,62 @@ fn put_blocks<F: FileStore>(
     }
 }
 
-/// The block of a directory that lists a name, with another number for it, and where it goes. The block `taken`, if
-/// there is one, is read in place of the stored one, and first. Stored blocks in which the name is known not to stand
-/// are passed over.
+/// Makes `room` the block of a directory that lists a name, with another number for it. The block `taken`, if there is
+/// one, is read in place of the stored one, and first. Stored blocks in which the name is known not to stand are passed
+/// over.
 fn swap_number<F: FileStore>(
     store: &mut CachedStore<F>,
-    dir: u32,
-    size: u64,
+    dir: &Reached,
     taken: Option<&DirBlock>,
     listed: NewEntry<'_>,
-) -> DirBlock
-    requires { CanSwap (F.state store.old).content dir size taken listed.name.now listed.number }
+    room: &mut DirBlock,
+)
+    requires { CanSwap (F.state store.old).content dir.now.number dir.now.attrs.size taken
+        listed.name.now listed.number }
     ensures room { (k : ℕ) × IsSwap
-        (with_block (bytes_of (F.state store.old).content dir) taken.entry) listed.entry.name.now
-        listed.entry.number result k }
+        (with_block (bytes_of (F.state store.old).content dir.now.number) taken.entry)
+        listed.entry.name.now listed.entry.number room.new k }
     ensures state { F.state store.new ≡ F.state store.old }
 {
     let NewEntry { name, number } = listed;
-    if let Some(room) = swap_taken(taken, name, number) {
-        return room;
+    if swap_taken(taken, name, number, room) {
+        return;
     }
+    let size = dir.attrs.size;
     let block_size = BLOCK_SIZE as u64;
-    let mut k = store.next_block(dir, name, 0);
+    let mut k = store.next_block(dir.number, name, 0);
     while k < size / block_size {
-        let off = block_size * k;
-        let block = seen_block(store, dir, off, taken);
-        if find(&block, name).is_some() {
-            let block = replaced(&block, name, number);
-            return DirBlock { off, block };
+        room.off = block_size * k;
+        see_block(store, dir.number, room.off, taken, &mut room.block);
+        if find(&room.block, name).is_some() {
+            room.block = replaced(&room.block, name, number);
+            return;
         }
-        k = store.next_block(dir, name, k + 1);
+        k = store.next_block(dir.number, name, k + 1);
     }
     // Never: by `CanSwap`.
     unreachable!()
 }
 
-/// The block that is read in place of a stored one, with another number for a name, if it lists the name.
-fn swap_taken(taken: Option<&DirBlock>, name: &Name, number: u32) -> Option<DirBlock>
+/// Makes `room` the block that is read in place of a stored one, with another number for a name, and says whether it
+/// lists the name.
+fn swap_taken(taken: Option<&DirBlock>, name: &Name, number: u32, room: &mut DirBlock) -> bool
     requires above { 0 < number }
     requires block { IfSome taken
-        (λ room. IsDirectoryBlock room.now.block (entries_of room.now.block)) }
-    ensures { MatchOption result
-        (IfSome taken.entry (λ room. number_in name.now (entries_of room.now.block) ≡ None))
-        (λ found. IsSomeAnd taken.entry (λ room. IsSwapIn room.now name.now number found)) }
+        (λ seen. IsDirectoryBlock seen.now.block (entries_of seen.now.block)) }
+    ensures room { IsTrue result → IsSomeAnd taken.entry
+        (λ seen. IsSwapIn seen.now name.now number room.new) }
+    ensures absent { result ≡ false → IfSome taken.entry
+        (λ seen. number_in name.now (entries_of seen.now.block) ≡ None) }
 {
-    let room = taken?;
-    find(&room.block, name)?;
-    let block = replaced(&room.block, name, number);
-    Some(DirBlock {
-        off: room.off,
-        block,
-    })
+    match taken {
+        Some(seen) if find(&seen.block, name).is_some() => {
+            room.off = seen.off;
+            room.block = replaced(&seen.block, name, number);
+            true
+        }
+        _ => false,
+    }
 }
 
 /// Gives a file or a directory another name, in the same directory or in another. A file that has the name gives way to
@@ -426,9 +440,14 @@ fn move_row<F: FileStore>(
         names.entry.new.now gone)
         said store.new) }
 {
-    let Some(places) = find_places(store, planned, gone, names) else {
-        return Err(CallFault::Refused(Resource::DirectoryFull));
+    let mut places = Places {
+        taken: DirBlock::empty(),
+        room: DirBlock::empty(),
+        gone,
     };
+    if !find_places(store, planned, names, &mut places) {
+        return Err(CallFault::Refused(Resource::DirectoryFull));
+    }
     let moving = Moving {
         old_dir: planned.removal.dir.number,
         old: names.old,

@@ -36,11 +36,11 @@ verb_word (User kind) = request_word kind
 verb_word (Cleaner kind) = cleaner_word kind
 verb_word Pass = codes "pass"
 
--- every verb
+-- every verb, those of most lines first
 abbrev pub verbs : List Verb
 verbs =
-    Session ∷ As ∷ User Stat ∷ User Read ∷ User Write ∷ User Names ∷ User SetLength ∷ User Create ∷ User Mkdir
-    ∷ User Unlink ∷ User Rmdir ∷ User Rename ∷ User Chmod ∷ User Chown ∷ User Chflags ∷ User SetLevel ∷ User Sync
+    User Write ∷ User Read ∷ User Stat ∷ User Create ∷ User Unlink ∷ User Rename ∷ As ∷ User Names ∷ User SetLength
+    ∷ User Mkdir ∷ User Rmdir ∷ User Chmod ∷ User Chown ∷ User Chflags ∷ User SetLevel ∷ User Sync ∷ Session
     ∷ Cleaner Ifile ∷ Cleaner Infos ∷ Cleaner Bmapv ∷ Cleaner Markv ∷ Cleaner Segclean ∷ Cleaner Gain
     ∷ Pass ∷ []
 

@@ -56,25 +56,25 @@ pub enum Verb {
     Pass,
 }
 
-/// Every verb.
+/// Every verb, those of most lines first: a word is compared with one after the other.
 const VERBS: [Verb; 24] = [
-    Verb::Session,
-    Verb::As,
-    Verb::User(RequestKind::Stat),
-    Verb::User(RequestKind::Read),
     Verb::User(RequestKind::Write),
+    Verb::User(RequestKind::Read),
+    Verb::User(RequestKind::Stat),
+    Verb::User(RequestKind::Create),
+    Verb::User(RequestKind::Unlink),
+    Verb::User(RequestKind::Rename),
+    Verb::As,
     Verb::User(RequestKind::List),
     Verb::User(RequestKind::SetLength),
-    Verb::User(RequestKind::Create),
     Verb::User(RequestKind::Mkdir),
-    Verb::User(RequestKind::Unlink),
     Verb::User(RequestKind::Rmdir),
-    Verb::User(RequestKind::Rename),
     Verb::User(RequestKind::Chmod),
     Verb::User(RequestKind::Chown),
     Verb::User(RequestKind::Chflags),
     Verb::User(RequestKind::SetLevel),
     Verb::User(RequestKind::Sync),
+    Verb::Session,
     Verb::Cleaner(CleanerKind::Ifile),
     Verb::Cleaner(CleanerKind::Infos),
     Verb::Cleaner(CleanerKind::Bmapv),

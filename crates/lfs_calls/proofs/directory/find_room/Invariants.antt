@@ -10,7 +10,7 @@ use Rattle.lfs_calls.proofs.directory.find_room.Given as goal
 abbrev pub invariant-loop-k : goal.invariant-loop-k
 invariant-loop-k g l = record {
   full : (j : ℕ) → j < l.k → 512 < used_of
-      (entries_of (block_at (with_block (bytes_of (g.F.FileStore.state l.fn.store).content l.dir) l.taken) j)) + 5
+      (entries_of (block_at (with_block (bytes_of (g.F.FileStore.state l.fn.store).content l.dir.number) l.taken) j)) + 5
       + length l.name;
   state : g.F.FileStore.state l.store ≡ g.F.FileStore.state l.fn.store;
 }

@@ -85,8 +85,8 @@ pub put_new-requires-clause-finds : goal.put_new-requires-clause-finds
 put_new-requires-clause-finds g c after makes =
     let k = (goal.at.put_new-requires-clause-finds g c).In-Some in
     let t = c.requires in
-    let found = c.in-Some-find_room.ensures.room in
-    let room = c.in-Some-find_room.room in
+    let found = c.find_room.ensures.room c.if-not-find_room.false in
+    let room = c.find_room.new.room in
     let same = same_content c.find_room.ensures.state ∙ same_content c.judge_make.ensures.state in
     subst (λ x. FindsNew x after c.in_ok-dir.dir.number c.last_name-name.result.now (Some c.in-Some.number)
     (room.off / 512)) (sym same)
@@ -117,14 +117,14 @@ put_new-requires-clause-can g c =
     let k = (goal.at.put_new-requires-clause-can g c).In-Some in
     let t = c.requires in
     let l = least g k in
-    let found = c.in-Some-find_room.ensures.room in
-    subst (λ (s : StoreState). CanMake s c.in-Some.number c.in_ok-dir.dir.number c.in-Some-find_room.room)
+    let found = c.find_room.ensures.room c.if-not-find_room.false in
+    subst (λ (s : StoreState). CanMake s c.in-Some.number c.in_ok-dir.dir.number c.find_room.new.room)
     (sym (c.find_room.ensures.state ∙ c.judge_make.ensures.state))
     (record {
       above = l.0;
       within = l.1;
       unused = l.2;
-      block = room_ready t.1.shows (parent g k t.0 t.1) (room_is g k c.in-Some-find_room.room found.0 found.1);
+      block = room_ready t.1.shows (parent g k t.0 t.1) (room_is g k c.find_room.new.room found.0 found.1);
     })
 
 pub returns-in_err-dir-clause-call : goal.returns-in_err-dir-clause-call
@@ -148,15 +148,15 @@ returns-in_default-clause-call g c level = lacking level c.judge_make.ensures.st
     make_no_inodes (g.F.FileStore.state c.args.store.now) w c.args.cred.now c.args.path.now c.args.mode allowed
     c.args.kind (all_used before w v.shows numbers used))
 
-pub returns-in_default-find_room-clause-call : goal.returns-in_default-find_room-clause-call
-returns-in_default-find_room-clause-call g c level =
+pub returns-then-not-find_room-clause-call : goal.returns-then-not-find_room-clause-call
+returns-then-not-find_room-clause-call g c level =
     lacking level (c.find_room.ensures.state ∙ c.judge_make.ensures.state) DirectoryFull (λ w v at_level.
-    let k = (goal.at.returns-in_default-find_room-clause-call g c).In-Some in
+    let k = (goal.at.returns-then-not-find_room-clause-call g c).In-Some in
     let is = parent g k w v in
     let full = subst (λ x. FitsNowhere (bytes_of x c.in_ok-dir.dir.number) None (last c.args.path.now))
     (same_content c.judge_make.ensures.state)
     (subst (λ name. FitsNowhere (bytes_of (g.F.FileStore.state c.judge_make.new.store).content c.in_ok-dir.dir.number)
-    None name) (name_is g k) c.in_default-find_room.ensures.room) in
+    None name) (name_is g k) (c.find_room.ensures.full c.if-not-find_room.true)) in
     make_full (g.F.FileStore.state c.args.store.now) w c.args.cred.now c.args.path.now c.args.mode (judged_so g k w v).0
     (numbered g k w v) c.args.kind
     (crowded_in v.shows is full (short g k))
@@ -169,10 +169,10 @@ returns-in_err-put_new-clause-call g c level =
     (make_changing c.args.path.now c.args.mode c.args.kind) (λ w v at_level.
     let k = (goal.at.returns-in_err-put_new-clause-call g c).In-Some in
     let is = parent g k w v in
-    let found = c.in-Some-find_room.ensures.room in
+    let found = c.find_room.ensures.room c.if-not-find_room.false in
     make_refused (g.F.FileStore.state c.args.store.now) w c.args.cred.now c.args.path.now c.args.mode
     (judged_so g k w v).0 (numbered g k w v)
-    (roomy v.shows is (room_is g k c.in-Some-find_room.room found.0 found.1)) c.args.kind c.in_err-put_new.field-0.0
+    (roomy v.shows is (room_is g k c.find_room.new.room found.0 found.1)) c.args.kind c.in_err-put_new.field-0.0
     (subst (λ s. MayRefuse s c.in_err-put_new.field-0.0) (c.find_room.ensures.state
     ∙ c.judge_make.ensures.state) c.in_err-put_new.ensures.changes.refused)) c.in_err-put_new.ensures.changes)
 
@@ -182,21 +182,21 @@ returns-clause-call g c level = done_so level (c.find_room.ensures.state ∙ c.j
     (λ w v at_level.
     let k = (goal.at.returns-clause-call g c).In-Some in
     let is = parent g k w v in
-    let found = c.in-Some-find_room.ensures.room in
+    let found = c.find_room.ensures.room c.if-not-find_room.false in
     make_done (g.F.FileStore.state c.args.store.now) w c.args.cred.now c.args.path.now c.args.mode (judged_so g k w v).0
     (numbered g k w v)
-    (roomy v.shows is (room_is g k c.in-Some-find_room.room found.0 found.1)) c.args.kind)
+    (roomy v.shows is (room_is g k c.find_room.new.room found.0 found.1)) c.args.kind)
     (λ w v. record {
       shows =
           let k = (goal.at.returns-clause-call g c).In-Some in
           let is = parent g k w v in
-          let found = c.in-Some-find_room.ensures.room in
+          let found = c.find_room.ensures.room c.if-not-find_room.false in
           let numbers = (g.F.FileStore.state c.args.store.now).shape.numbers in
           subst (Shows (g.F.FileStore.state c.put_new.new.store).content)
           (sym (make_after (g.F.FileStore.state c.args.store.now) w c.args.cred.now c.args.path.now c.args.mode
           c.args.kind))
           (shows_after v.shows is c.args.cred.now v.tree numbers c.in-Some.number (least g k) c.args.kind c.args.mode
-          (room_is g k c.in-Some-find_room.room found.0 found.1)
+          (room_is g k c.find_room.new.room found.0 found.1)
           (g.F.FileStore.state c.find_room.new.store).content (g.F.FileStore.state c.put_new.new.store).content
           ((same_content c.find_room.ensures.state) ∙ (same_content c.judge_make.ensures.state))
           _ (ap (λ n. record {
@@ -228,8 +228,8 @@ returns-clause-call g c level = done_so level (c.find_room.ensures.state ∙ c.j
     (λ w v.
     let k = (goal.at.returns-clause-call g c).In-Some in
     let is = parent g k w v in
-    let found = c.in-Some-find_room.ensures.room in
-    let room = c.in-Some-find_room.room in
+    let found = c.find_room.ensures.room c.if-not-find_room.false in
+    let room = c.find_room.new.room in
     make_entries _ _ w.rows c.args.path.now c.args.mode c.args.kind
     (enters_first v.shows is (room_is g k room found.0 found.1) (g.F.FileStore.state c.find_room.new.store).content
     (g.F.FileStore.state c.put_new.new.store).content
@@ -245,8 +245,8 @@ returns-in_err-dir-clause-asked g c =
 pub returns-in_default-clause-asked : goal.returns-in_default-clause-asked
 returns-in_default-clause-asked g c = on_change (request_for c.args.kind c.args.path.now c.args.mode) tt
 
-pub returns-in_default-find_room-clause-asked : goal.returns-in_default-find_room-clause-asked
-returns-in_default-find_room-clause-asked g c = on_change (request_for c.args.kind c.args.path.now c.args.mode) tt
+pub returns-then-not-find_room-clause-asked : goal.returns-then-not-find_room-clause-asked
+returns-then-not-find_room-clause-asked g c = on_change (request_for c.args.kind c.args.path.now c.args.mode) tt
 
 pub returns-in_err-put_new-clause-asked : goal.returns-in_err-put_new-clause-asked
 returns-in_err-put_new-clause-asked g c =
@@ -256,13 +256,13 @@ returns-in_err-put_new-clause-asked g c =
     (c.find_room.ensures.state ∙ c.judge_make.ensures.state) c.of-by.ensures (λ s made w v.
     let k = (goal.at.returns-in_err-put_new-clause-asked g c).In-Some in
     let is = parent g k w v in
-    let found = c.in-Some-find_room.ensures.room in
+    let found = c.find_room.ensures.room c.if-not-find_room.false in
     let numbers = (g.F.FileStore.state c.args.store.now).shape.numbers in
     record {
       shows = subst (Shows s.content) (sym (make_after
           (g.F.FileStore.state c.args.store.now) w c.args.cred.now c.args.path.now c.args.mode c.args.kind))
           (shows_after v.shows is c.args.cred.now v.tree numbers c.in-Some.number (least g k) c.args.kind c.args.mode
-          (room_is g k c.in-Some-find_room.room found.0 found.1)
+          (room_is g k c.find_room.new.room found.0 found.1)
           (g.F.FileStore.state c.find_room.new.store).content s.content (same_content c.find_room.ensures.state
           ∙ same_content c.judge_make.ensures.state)
           _ (ap (λ n. record {
@@ -295,13 +295,13 @@ returns-clause-asked g c =
     (c.find_room.ensures.state ∙ c.judge_make.ensures.state) c.of-by.ensures (λ s made w v.
     let k = (goal.at.returns-clause-asked g c).In-Some in
     let is = parent g k w v in
-    let found = c.in-Some-find_room.ensures.room in
+    let found = c.find_room.ensures.room c.if-not-find_room.false in
     let numbers = (g.F.FileStore.state c.args.store.now).shape.numbers in
     record {
       shows = subst (Shows s.content) (sym (make_after
           (g.F.FileStore.state c.args.store.now) w c.args.cred.now c.args.path.now c.args.mode c.args.kind))
           (shows_after v.shows is c.args.cred.now v.tree numbers c.in-Some.number (least g k) c.args.kind c.args.mode
-          (room_is g k c.in-Some-find_room.room found.0 found.1)
+          (room_is g k c.find_room.new.room found.0 found.1)
           (g.F.FileStore.state c.find_room.new.store).content s.content (same_content c.find_room.ensures.state
           ∙ same_content c.judge_make.ensures.state)
           _ (ap (λ n. record {

@@ -12,31 +12,31 @@ use Rattle.lfs_calls.proofs.AskedLemmas.{asks_list}
 use Rattle.lfs_calls.proofs.CallLemmas.{still}
 use Rattle.lfs_calls.proofs.TakeLemmas.{taking_listed, can_take, loses_name, takes_file}
 use Rattle.lfs_calls.proofs.removing.take_row.Goals as goal
-use Rattle.lfs_calls.proofs.removing.take_row.Goals.{After-apply_naming, After-take_name-room}
+use Rattle.lfs_calls.proofs.removing.take_row.Goals.{After-apply_naming, After-take_name}
 
 -- the row, as the store shows it after its directory was read
-at_take : (g : _) (c : After-take_name-room g) → (w : World)
-    × (IsVolume (g.F.FileStore.state c.take_name-room.new.store) w
-    × HangsAs (g.F.FileStore.state c.take_name-room.new.store).content w.rows c.args.removal.now c.args.name.now)
+at_take : (g : _) (c : After-take_name g) → (w : World)
+    × (IsVolume (g.F.FileStore.state c.take_name.new.store) w
+    × HangsAs (g.F.FileStore.state c.take_name.new.store).content w.rows c.args.removal.now c.args.name.now)
 at_take g c =
     let t = c.requires.world in (
       t.0,
       (
-        still c.take_name-room.ensures.state t.1.0,
+        still c.take_name.ensures.state t.1.0,
         subst (λ x. HangsAs x t.0.rows c.args.removal.now c.args.name.now)
-            (sym (same_content c.take_name-room.ensures.state)) t.1.1,
+            (sym (same_content c.take_name.ensures.state)) t.1.1,
       ),
     )
 
 -- the block without the name
-taken : (g : _) (c : After-take_name-room g)
-    → IsTaking (bytes_of (g.F.FileStore.state c.take_name-room.new.store).content c.args.removal.now.dir.number)
-    c.args.name.now c.take_name-room.result c.take_name-room.ensures.room.0
-taken g c = subst (λ x. IsTaking (bytes_of x c.args.removal.now.dir.number) c.args.name.now c.take_name-room.result
-    c.take_name-room.ensures.room.0) (sym (same_content c.take_name-room.ensures.state)) c.take_name-room.ensures.room.1
+taken : (g : _) (c : After-take_name g)
+    → IsTaking (bytes_of (g.F.FileStore.state c.take_name.new.store).content c.args.removal.now.dir.number)
+    c.args.name.now c.take_name.new.room c.take_name.ensures.room.0
+taken g c = subst (λ x. IsTaking (bytes_of x c.args.removal.now.dir.number) c.args.name.now c.take_name.new.room
+    c.take_name.ensures.room.0) (sym (same_content c.take_name.ensures.state)) c.take_name.ensures.room.1
 
-pub take_name-room-requires : goal.take_name-room-requires
-take_name-room-requires g c =
+pub take_name-requires : goal.take_name-requires
+take_name-requires g c =
     let t = c.requires.world in
     lists_name t.1.0.shows c.args.removal.now.dir.number c.args.removal.now.dir.attrs t.1.1.shown_dir t.1.1.directory
     c.args.name.now
@@ -45,19 +45,19 @@ take_name-room-requires g c =
 
 pub apply_naming-requires-clause-can : goal.apply_naming-requires-clause-can
 apply_naming-requires-clause-can g c =
-    let k = (goal.at.apply_naming-requires-clause-can g c).After-take_name-room in
+    let k = (goal.at.apply_naming-requires-clause-can g c).After-take_name in
     let t = at_take g k in
-    can_take (g.F.FileStore.state c.take_name-room.new.store).content t.0 t.1.0.shows t.1.0.tree c.args.removal.now
-    c.args.name.now t.1.1 c.take_name-room.result c.take_name-room.ensures.room.0 (taken g k) _ _ refl
+    can_take (g.F.FileStore.state c.take_name.new.store).content t.0 t.1.0.shows t.1.0.tree c.args.removal.now
+    c.args.name.now t.1.1 c.take_name.new.room c.take_name.ensures.room.0 (taken g k) _ _ refl
 
 pub apply_naming-requires-clause-finds : goal.apply_naming-requires-clause-finds
 unfolding at_take
 apply_naming-requires-clause-finds g c =
-    let k = (goal.at.apply_naming-requires-clause-finds g c).After-take_name-room in
+    let k = (goal.at.apply_naming-requires-clause-finds g c).After-take_name in
     let t = at_take g k in
-    let before = (g.F.FileStore.state c.take_name-room.new.store).content in
-    let room = c.take_name-room.result in
-    let block = c.take_name-room.ensures.room.0 in
+    let before = (g.F.FileStore.state c.take_name.new.store).content in
+    let room = c.take_name.new.room in
+    let block = c.take_name.ensures.room.0 in
     loses_name before t.0 t.1.0.shows t.1.0.tree c.args.removal.now c.args.name.now t.1.1 room block
     (taken g k) c.requires.world.1.2 _
     (takes_file before t.0 t.1.0.shows t.1.0.tree c.args.removal.now c.args.name.now t.1.1 room block
@@ -68,24 +68,24 @@ onerr : (g : _) (c : After-apply_naming g)
     → OnErr c.apply_naming.result ((g.F.FileStore.state c.apply_naming.new.self).content
     ≡ (g.F.FileStore.state c.args.store.now).content)
 onerr g c = subst (λ (x : Content). OnErr c.apply_naming.result ((g.F.FileStore.state c.apply_naming.new.self).content
-    ≡ x)) (same_content c.take_name-room.ensures.state) c.apply_naming.ensures.applies.err
+    ≡ x)) (same_content c.take_name.ensures.state) c.apply_naming.ensures.applies.err
 
 pub returns-clause-changes : goal.returns-clause-changes
 returns-clause-changes g c =
-    let k = (goal.at.returns-clause-changes g c).After-take_name-room in
+    let k = (goal.at.returns-clause-changes g c).After-take_name in
     let t = at_take g k in
-    let same = c.take_name-room.ensures.state in
+    let same = c.take_name.ensures.state in
     record {
       ok = IfOk-weaker c.apply_naming.result _ _ (λ _ h. (
-        c.take_name-room.result,
-        c.take_name-room.ensures.room.0,
+        c.take_name.new.room,
+        c.take_name.ensures.room.0,
         (
-          c.take_name-room.ensures.room.1,
+          c.take_name.ensures.room.1,
           subst (λ x. TakesFile x (g.F.FileStore.state c.apply_naming.new.self).content c.args.removal.now.file.number
-              c.args.removal.now.dir.number c.take_name-room.result.off c.take_name-room.result.block)
+              c.args.removal.now.dir.number c.take_name.new.room.off c.take_name.new.room.block)
               (same_content same)
-              (takes_file (g.F.FileStore.state c.take_name-room.new.store).content t.0 t.1.0.shows t.1.0.tree
-              c.args.removal.now c.args.name.now t.1.1 c.take_name-room.result c.take_name-room.ensures.room.0
+              (takes_file (g.F.FileStore.state c.take_name.new.store).content t.0 t.1.0.shows t.1.0.tree
+              c.args.removal.now c.args.name.now t.1.1 c.take_name.new.room c.take_name.ensures.room.0
               (taken g k) (g.F.FileStore.state c.apply_naming.new.self).content h),
         ),
       ))
@@ -99,14 +99,14 @@ returns-clause-changes g c =
 pub returns-clause-asked : goal.returns-clause-asked
 returns-clause-asked g c =
     let t = c.requires.world in
-    let same = c.take_name-room.ensures.state in
+    let same = c.take_name.ensures.state in
     asks_list g.F.FileStore.state g.F.FileStore.made refl same c.apply_naming.ensures.made (
-      c.take_name-room.result,
-      c.take_name-room.ensures.room.0,
+      c.take_name.new.room,
+      c.take_name.ensures.room.0,
       (
-        c.take_name-room.ensures.room.1,
+        c.take_name.ensures.room.1,
         takes_file (g.F.FileStore.state c.args.store.now).content t.0 t.1.0.shows t.1.0.tree c.args.removal.now
-            c.args.name.now t.1.1 c.take_name-room.result c.take_name-room.ensures.room.0
-            c.take_name-room.ensures.room.1 _ refl,
+            c.args.name.now t.1.1 c.take_name.new.room c.take_name.ensures.room.0
+            c.take_name.ensures.room.1 _ refl,
       ),
     )
