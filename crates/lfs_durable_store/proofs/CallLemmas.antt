@@ -6,6 +6,7 @@ use Rattle.lfs_types.specs.declared.cleaner.CleanFault.{CleanFault}
 use Rattle.lfs_types.specs.declared.store.Change.{Change}
 use Rattle.lfs_types.specs.declared.store.Reserve.{Reserve}
 use Rattle.lfs_types.specs.declared.store.StoreRefusal.{StoreRefusal}
+use Rattle.lfs_staging.proofs.StagedLemmas.{stays-refl}
 use Rattle.lfs_parts.specs.declared.parts.Parts.{Parts}
 use Rattle.lfs_parts.specs.Files.{content_of}
 use Rattle.lfs_parts.specs.Store.{IsStore}
@@ -20,7 +21,7 @@ use Rattle.lfs_durable.specs.Kept.{CanBeFound}
 use Rattle.lfs_durable.proofs.KeptLemmas.{moves_can_be_found, same_can_be_found, writes_can_be_found}
 use Rattle.lfs_durable_store.specs.Answering.{ComesTo, MovesBase, Settles, SettlesInPlace}
 use Rattle.lfs_durable_store.specs.Keeping.{Durably, IsKept, settled}
-use Rattle.lfs_durable_store.specs.Surviving.{BehindIsLater}
+use Rattle.lfs_durable_store.specs.Surviving.{BehindIsLater, MarkIsLater}
 use Rattle.lfs_durable_store.proofs.KeepLemmas.{kept_reclaimed, kept_written}
 use Rattle.lfs_ifile.specs.Tables.{Tables}
 
@@ -80,6 +81,19 @@ behind_is_later old new changes by result c n k behind counted midway =
       stays = c.stays;
       midway = midway;
     }
+
+pub mark_is_later : MarkIsLater
+mark_is_later old new marks count m n k counted midway = record {
+  before = m.between;
+  store = m.written.store;
+  flushed = m.written.flushed;
+  found = writes_can_be_found old.store m.between m.written.log k.found;
+  counted = counted;
+  content = m.written.content;
+  staged = m.between;
+  stays = stays-refl m.between;
+  midway = midway;
+}
 
 -- ---- states
 pub written_shape : (p q : Parts) → WritesWaiting p q → (state_of q).shape ≡ (state_of p).shape
