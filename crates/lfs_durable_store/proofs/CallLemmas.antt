@@ -34,13 +34,13 @@ module _ (old new : Durably) (changes : List Change) (by : Reserve) (result : Re
   -- the base before the changes
   before_base : content_of new.base ≡ content_of c.before.base → MovesBase old new
   before_base same = elim c.first [
-    | inl nothing ↦ inl (same ∙ ap (λ (d : Durably). content_of d.base) nothing)
-    | inr wrote ↦ inr (inl (same ∙ own_base c.before wrote.settles.base ∙ wrote.settles.written.content))
+    | inl nothing ↦ inl (same ∙ ap (λ (d : Durably). content_of d.base) nothing.1)
+    | inr wrote ↦ inr (inl (same ∙ own_base c.before wrote.1.settles.base ∙ wrote.1.settles.written.content))
   ]
 
   pub came_base : MovesBase old new
   came_base = elim c.behind [
-    | inl nothing ↦ before_base (ap (λ (d : Durably). content_of d.base) nothing)
+    | inl nothing ↦ before_base (ap (λ (d : Durably). content_of d.base) nothing.1)
     | inr wrote ↦ inr (inr (own_base new wrote.settles.base))
   ]
 
@@ -62,12 +62,12 @@ in_place old new k s = record {
 pub behind_is_later : BehindIsLater
 behind_is_later old new changes by result c n k behind counted midway =
     let kept : IsKept c.before = elim c.first [
-      | inl nothing ↦ subst IsKept (sym nothing) k
-      | inr wrote ↦ settled_kept old c.before k wrote.settles
+      | inl nothing ↦ subst IsKept (sym nothing.1) k
+      | inr wrote ↦ settled_kept old c.before k wrote.1.settles
     ] in
     let content : content_of c.before.store ≡ content_of old.store = elim c.first [
-      | inl nothing ↦ ap (λ (d : Durably). content_of d.store) nothing
-      | inr wrote ↦ wrote.settles.written.content
+      | inl nothing ↦ ap (λ (d : Durably). content_of d.store) nothing.1
+      | inr wrote ↦ wrote.1.settles.written.content
     ] in
     let serial = ap (λ (m : SegmentMemory). m.serial) (sym c.stays.memory) ∙ counted.serial in
     record {
