@@ -12,7 +12,7 @@ use Rattle.lfs_segwrite.specs.Applying.{IsInReach, MakesChanges}
 use Rattle.lfs_logstore.specs.Answering as log
 use Rattle.lfs_logstore.specs.States.{state_of}
 use Rattle.lfs_durable.proofs.KeptLemmas.{writes_can_be_found}
-use Rattle.lfs_durable_store.specs.Answering.{ComesTo, MakesWay, SettlesIfPast}
+use Rattle.lfs_durable_store.specs.Answering.{ComesTo, SettlesIfPast, WritesFirst}
 use Rattle.lfs_durable_store.specs.Fitting.{FitsWith}
 use Rattle.lfs_durable_store.specs.Keeping.{Durably, IsKept}
 use Rattle.lfs_durable_store.proofs.CallLemmas.{settled_state, written_applies}
@@ -20,20 +20,20 @@ use Rattle.lfs_durable_store.proofs.FitLemmas.{made_fits, made_stays}
 use Rattle.lfs_durable_store.proofs.KeepLemmas.{kept_since, kept_written}
 
 module _ (changes : List Change) (by : Reserve) (old before : Durably) (p : Parts) (new : Durably)
-    (reach : All IsInReach changes) (kept : IsKept before) (way : MakesWay changes old before)
+    (reach : All IsInReach changes) (kept : IsKept before) (way : WritesFirst changes old before)
     (comes : log.ComesTo before.store changes by (Ok tt) p) (behind : SettlesIfPast (record { store = p; base = before.base }) new)
   where
     makes : MakesChanges by changes before.store p
     makes = comes.makes
 
     ready : FitsWith changes before.store ⊎ IsFlushed before.store
-    ready = elim way.ready [
-      | inl fits ↦ inl fits
-      | inr done ↦ inr done.0
+    ready = elim way [
+      | inl nothing ↦ inl (subst (λ (d : Durably). FitsWith changes d.store) (sym nothing.1) nothing.0)
+      | inr wrote ↦ inr wrote.1.settles.written.flushed
     ]
 
     stays : StaysInLog before.store p
-    stays = made_stays changes by before.store p makes ready
+    stays = made_stays changes by before.store p makes reach ready
 
     pub came_kept : IsKept new
     came_kept =
@@ -49,22 +49,23 @@ module _ (changes : List Change) (by : Reserve) (old before : Durably) (p : Part
     pub came : ComesTo old changes by (Ok tt) new
     came = record {
       before = before;
-      first = way.first;
+      first = way;
       staged = p;
       comes = comes;
       stays = stays;
       behind = elim behind.either [
-        | inl nothing ↦ inl nothing.1
-        | inr wrote ↦ elim way.ready [
-          | inl fits ↦
-              let few = made_fits changes by before.store p makes fits reach in
-              let short = wrote.0 in
+        | inl nothing ↦ inl nothing
+        | inr past ↦ elim way [
+          | inl nothing ↦
+              let fit = subst (λ (d : Durably). FitsWith changes d.store) (sym nothing.1) nothing.0 in
+              let few = made_fits changes by before.store p makes reach fit in
+              let short = past.0 in
               absurd (omega arith)
-          | inr done ↦ inr (record {
-            flushed = done.0;
-            own = done.1;
-            short = wrote.0;
-            settles = record { written = wrote.1.written; base = wrote.1.base };
+          | inr wrote ↦ inr (record {
+            flushed = wrote.1.settles.written.flushed;
+            own = wrote.1.settles.base;
+            short = past.0;
+            settles = record { written = past.1.written; base = past.1.base };
           })
         ]
       ];
@@ -74,13 +75,13 @@ module _ (changes : List Change) (by : Reserve) (old before : Durably) (p : Part
     pub came_applies : Applies (state_of before.store) changes (Ok tt) (state_of p)
         → Applies (state_of old.store) changes (Ok tt) (state_of new.store)
     came_applies applies =
-        let same : state_of before.store ≡ state_of old.store = elim way.first [
-          | inl nothing ↦ ap (λ (d : Durably). state_of d.store) nothing
-          | inr wrote ↦ settled_state old before wrote
+        let same : state_of before.store ≡ state_of old.store = elim way [
+          | inl nothing ↦ ap (λ (d : Durably). state_of d.store) nothing.1
+          | inr wrote ↦ settled_state old before wrote.1
         ] in
         let from = subst (λ (s : StoreState). Applies s changes (Ok tt) (state_of p)) same applies in
         elim behind.either [
-          | inl nothing ↦ subst (λ (d : Durably). Applies (state_of old.store) changes (Ok tt) (state_of d.store))
-              (sym nothing.1) from
+          | inl nothing ↦
+              subst (λ (d : Durably). Applies (state_of old.store) changes (Ok tt) (state_of d.store)) (sym nothing.1) from
           | inr wrote ↦ written_applies (state_of old.store) changes p new.store wrote.1.written from
         ]

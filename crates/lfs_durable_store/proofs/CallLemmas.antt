@@ -6,6 +6,7 @@ use Rattle.lfs_types.specs.declared.cleaner.CleanFault.{CleanFault}
 use Rattle.lfs_types.specs.declared.store.Change.{Change}
 use Rattle.lfs_types.specs.declared.store.Reserve.{Reserve}
 use Rattle.lfs_types.specs.declared.store.StoreRefusal.{StoreRefusal}
+use Rattle.lfs_staging.proofs.StagedLemmas.{stays-refl}
 use Rattle.lfs_parts.specs.declared.parts.Parts.{Parts}
 use Rattle.lfs_parts.specs.Files.{content_of}
 use Rattle.lfs_parts.specs.Store.{IsStore}
@@ -20,7 +21,7 @@ use Rattle.lfs_durable.specs.Kept.{CanBeFound}
 use Rattle.lfs_durable.proofs.KeptLemmas.{moves_can_be_found, same_can_be_found, writes_can_be_found}
 use Rattle.lfs_durable_store.specs.Answering.{ComesTo, MovesBase, Settles, SettlesInPlace}
 use Rattle.lfs_durable_store.specs.Keeping.{Durably, IsKept, settled}
-use Rattle.lfs_durable_store.specs.Surviving.{BehindIsLater}
+use Rattle.lfs_durable_store.specs.Surviving.{BehindIsLater, MarkIsLater}
 use Rattle.lfs_durable_store.proofs.KeepLemmas.{kept_reclaimed, kept_written}
 use Rattle.lfs_ifile.specs.Tables.{Tables}
 
@@ -33,13 +34,13 @@ module _ (old new : Durably) (changes : List Change) (by : Reserve) (result : Re
   -- the base before the changes
   before_base : content_of new.base ≡ content_of c.before.base → MovesBase old new
   before_base same = elim c.first [
-    | inl nothing ↦ inl (same ∙ ap (λ (d : Durably). content_of d.base) nothing)
-    | inr wrote ↦ inr (inl (same ∙ own_base c.before wrote.settles.base ∙ wrote.settles.written.content))
+    | inl nothing ↦ inl (same ∙ ap (λ (d : Durably). content_of d.base) nothing.1)
+    | inr wrote ↦ inr (inl (same ∙ own_base c.before wrote.1.settles.base ∙ wrote.1.settles.written.content))
   ]
 
   pub came_base : MovesBase old new
   came_base = elim c.behind [
-    | inl nothing ↦ before_base (ap (λ (d : Durably). content_of d.base) nothing)
+    | inl nothing ↦ before_base (ap (λ (d : Durably). content_of d.base) nothing.1)
     | inr wrote ↦ inr (inr (own_base new wrote.settles.base))
   ]
 
@@ -61,12 +62,12 @@ in_place old new k s = record {
 pub behind_is_later : BehindIsLater
 behind_is_later old new changes by result c n k behind counted midway =
     let kept : IsKept c.before = elim c.first [
-      | inl nothing ↦ subst IsKept (sym nothing) k
-      | inr wrote ↦ settled_kept old c.before k wrote.settles
+      | inl nothing ↦ subst IsKept (sym nothing.1) k
+      | inr wrote ↦ settled_kept old c.before k wrote.1.settles
     ] in
     let content : content_of c.before.store ≡ content_of old.store = elim c.first [
-      | inl nothing ↦ ap (λ (d : Durably). content_of d.store) nothing
-      | inr wrote ↦ wrote.settles.written.content
+      | inl nothing ↦ ap (λ (d : Durably). content_of d.store) nothing.1
+      | inr wrote ↦ wrote.1.settles.written.content
     ] in
     let serial = ap (λ (m : SegmentMemory). m.serial) (sym c.stays.memory) ∙ counted.serial in
     record {
@@ -80,6 +81,19 @@ behind_is_later old new changes by result c n k behind counted midway =
       stays = c.stays;
       midway = midway;
     }
+
+pub mark_is_later : MarkIsLater
+mark_is_later old new marks count m n k counted midway = record {
+  before = m.between;
+  store = m.written.store;
+  flushed = m.written.flushed;
+  found = writes_can_be_found old.store m.between m.written.log k.found;
+  counted = counted;
+  content = m.written.content;
+  staged = m.between;
+  stays = stays-refl m.between;
+  midway = midway;
+}
 
 -- ---- states
 pub written_shape : (p q : Parts) → WritesWaiting p q → (state_of q).shape ≡ (state_of p).shape

@@ -22,7 +22,7 @@ use Rattle.lfs_staging.specs.Putting.{frames_of_put}
 use Rattle.lfs_parts.specs.declared.parts.Parts.{Parts}
 use Rattle.lfs_parts.specs.declared.records.TheConstants.{WAITING_LIMIT}
 use Rattle.lfs_parts.specs.Store.{IsFlushed}
-use Rattle.lfs_segwrite.specs.Applying.{IsInReach, MakesChanges, StagesAll, blocks_for, frames_of_all, peak_of, peak_of_all}
+use Rattle.lfs_segwrite.specs.Applying.{IsInReach, MakesChanges, StagesAll, blocks_for, frames_of_all, passes_limits, peak_of, peak_of_all}
 use Rattle.lfs_segwrite.specs.Applying.{waiting_blocks}
 use Rattle.lfs_segwrite.specs.Collecting.{inode_blocks}
 use Rattle.lfs_segwrite.proofs.BoundLemmas.{blocks_more, records_most}
@@ -96,6 +96,21 @@ peak_most (change ∷ changes) reach =
 pub waiting_is : (p : Parts) → waiting_blocks p ≡ blocks_for (length p.cache.locked) (length p.waiting)
 waiting_is p = ap (λ n. if n == 0 then 0 else n + 1) (entries_of-length p)
 
+-- nothing takes no block
+blocks_few : (frames records : ℕ) → blocks_for frames records ≤ frames + inode_blocks records + 1
+blocks_few frames records = let n = frames + inode_blocks records in elim (cases_eq n 0) [
+  | inl none ↦ let is = cond-true {A = ℕ} _ 0 (n + 1) (eq-eqb n 0 none) in omega arith
+  | inr some ↦ let is = cond-false {A = ℕ} _ 0 (n + 1) (ne_eqb n 0 some) in omega arith
+]
+
+-- no more waits than may
+few_wait : (changes : List Change) (p : Parts) → FitsWith changes p → All IsInReach changes → passes_limits p changes ≡ false
+few_wait changes p f reach =
+    let peak = peak_most changes reach in
+    let frames = f.frames in
+    let few : nat_lt LOCKED_LIMIT (length p.cache.locked + peak_of_all changes) ≡ false = le-ltb _ _ (omega arith) in
+    ap (λ (b : Bool). b || nat_lt WAITING_LIMIT (length p.waiting + length changes)) few ∙ le-ltb _ _ f.records
+
 pub staged_fits : (changes : List Change) (p q : Parts) → FitsWith changes p → All IsInReach changes → StagesAll changes p q
     → Fits q
 staged_fits changes p q f reach staged =
@@ -103,6 +118,7 @@ staged_fits changes p q f reach staged =
     let records = records_most changes in
     let more_frames = staged.frames_more in
     let more_records = staged.records_more in
+    let most = blocks_few (length p.cache.locked + frames_of_all_at_most changes) (length p.waiting + length changes) in
     let blocks = blocks_more (length q.cache.locked) (length p.cache.locked + frames_of_all_at_most changes)
     (length q.waiting) (length p.waiting + length changes) (omega arith) (omega arith) in
     let is = waiting_is q in
@@ -110,37 +126,19 @@ staged_fits changes p q f reach staged =
     let fits = f.fits in
     omega arith
 
-module _ (changes : List Change) (by : Reserve) (p q : Parts) (makes : MakesChanges by changes p q) where
+module _ (changes : List Change) (by : Reserve) (p q : Parts) (makes : MakesChanges by changes p q)
+    (reach : All IsInReach changes) where
   -- nothing was written as changes were made
   pub made_stays : FitsWith changes p ⊎ IsFlushed p → StaysInLog p q
-  made_stays (inl f) = makes.delayed f.within
+  made_stays (inl f) = makes.delayed (few_wait changes p f reach)
   made_stays (inr done) =
       let none : length p.cache.locked ≡ 0 = ap length done.no_frame in
       let no_record : length p.waiting ≡ 0 = ap (λ (vs : List Inode). length vs) done.no_record in
       makes.few none (omega arith)
 
-  pub made_fits : FitsWith changes p → All IsInReach changes → Fits q
-  made_fits f reach = elim makes.way.either [
+  pub made_fits : FitsWith changes p → Fits q
+  made_fits f = elim makes.way.either [
     | inl nothing ↦ staged_fits changes p q f reach
         (subst (λ (o : Parts). StagesAll changes o q) nothing.1 makes.stages)
-    | inr wrote ↦ absurd (false≢true (sym f.within ∙ wrote.0))
+    | inr wrote ↦ absurd (false≢true (sym (few_wait changes p f reach) ∙ wrote.0))
   ]
-
--- ---- reckoned
-pub fits_with : (changes : List Change) (p : Parts) → All IsInReach changes
-    → length p.cache.locked + frames_of_all_at_most changes ≤ 24 → length p.waiting + length changes ≤ 64
-    → length p.cache.locked + frames_of_all_at_most changes + inode_blocks (length p.waiting + length changes) + 1
-    ≤ room_of p.log.memory
-    → FitsWith changes p
-fits_with changes p reach frames records blocks =
-    let peak = peak_most changes reach in
-    let few_frames : nat_lt LOCKED_LIMIT (length p.cache.locked + peak_of_all changes) ≡ false = le-ltb _ _ (omega arith) in
-    let few_records : nat_lt WAITING_LIMIT (length p.waiting + length changes) ≡ false = le-ltb _ _ (omega arith) in
-    let n = length p.cache.locked + frames_of_all_at_most changes + inode_blocks (length p.waiting + length changes) in
-    record {
-      within = ap (λ (b : Bool). b || nat_lt WAITING_LIMIT (length p.waiting + length changes)) few_frames ∙ few_records;
-      fits = elim (cases_eq n 0) [
-        | inl none ↦ let is = cond-true {A = ℕ} _ 0 (n + 1) (eq-eqb n 0 none) in omega arith
-        | inr some ↦ let is = cond-false {A = ℕ} _ 0 (n + 1) (ne_eqb n 0 some) in omega arith
-      ];
-    }

@@ -37,16 +37,22 @@ pub record SettlesBehind (before : Durably) (staged : Parts) (new : Durably) : T
   pub short : room_of staged.log.memory < waiting_blocks staged
   pub settles : Settles (record { store = staged; base = before.store }) new
 
+-- What waited was written first exactly where with changes it might not have fitted the active segment; else nothing was
+-- done.
+abbrev pub WritesFirst : List Change → Durably → Durably → Type 0
+WritesFirst changes old new =
+    (FitsWith changes old.store × (new ≡ old)) ⊎ ((FitsWith changes old.store → ⊥) × SettlesInPlace old new)
+
 -- Changes on somebody's behalf came to this. What waited was written first, or nothing was done. Then they came to what they
--- come to over a log, and nothing was written. Then what waits was written, or nothing was done.
+-- come to over a log, and nothing was written. Then what waits was written exactly where it doesn't fit the active segment.
 pub record ComesTo (old : Durably) (changes : List Change) (by : Reserve) (result : Result (Unit {0}) StoreRefusal)
     (new : Durably) : Type 0 where
   pub before : Durably
-  pub first : (before ≡ old) ⊎ SettlesInPlace old before
+  pub first : WritesFirst changes old before
   pub staged : Parts
   pub comes : log.ComesTo before.store changes by result staged
   pub stays : StaysInLog before.store staged
-  pub behind : (new ≡ record { store = staged; base = before.base }) ⊎ SettlesBehind before staged new
+  pub behind : (Fits staged × (new ≡ record { store = staged; base = before.base })) ⊎ SettlesBehind before staged new
   pub refused : OnErr result (new ≡ before)
 
 -- The base contains what it contained, or what the store contained before the call, or what it contains now.
@@ -54,11 +60,6 @@ abbrev pub MovesBase : Durably → Durably → Type 0
 MovesBase old new =
     (content_of new.base ≡ content_of old.base)
     ⊎ ((content_of new.base ≡ content_of old.store) ⊎ (content_of new.base ≡ content_of new.store))
-
--- Where with changes what waits might not have fitted the active segment, it was written first.
-pub record MakesWay (changes : List Change) (old new : Durably) : Type 0 where
-  pub first : (new ≡ old) ⊎ SettlesInPlace old new
-  pub ready : FitsWith changes new.store ⊎ (IsFlushed new.store × (new ≡ settled new.store))
 
 -- Where what waited didn't fit the active segment, it was written.
 pub record SettlesIfPast (old new : Durably) : Type 0 where

@@ -1,5 +1,6 @@
 -- What a crash leaves of a durable store.
-use Rattle.std.specs.Prelude.{◌≡◌, ◌⊎◌, List, Result}
+use Rattle.std.specs.Prelude.{◌≡◌, ◌⊎◌, ℕ, List, Result}
+use Rattle.lfs_types.specs.declared.cleaner.BlockInfo.{BlockInfo}
 use Rattle.lfs_types.specs.declared.store.Change.{Change}
 use Rattle.lfs_types.specs.declared.store.Reserve.{Reserve}
 use Rattle.lfs_types.specs.declared.store.StoreRefusal.{StoreRefusal}
@@ -8,6 +9,7 @@ use Rattle.lfs_staging.specs.Changing.{StaysInLog}
 use Rattle.lfs_parts.specs.declared.parts.Parts.{Parts}
 use Rattle.lfs_parts.specs.Files.{content_of}
 use Rattle.lfs_parts.specs.Store.{IsFlushed, IsStore}
+use Rattle.lfs_segwrite.specs.Finishing.{MarksAgain}
 use Rattle.lfs_durable.specs.Contents.{IsMadeOf}
 use Rattle.lfs_durable.specs.Crashes.{IsInFlush, IsMidway}
 use Rattle.lfs_durable.specs.Kept.{CanBeFound}
@@ -54,3 +56,8 @@ abbrev pub BehindIsLater : Type 0
 BehindIsLater = (old new : Durably) (changes : List Change) (by : Reserve) (result : Result (Unit {0}) StoreRefusal)
     (c : ComesTo old changes by result new) (n : SegmentMemory) → IsKept old → SettlesBehind c.before c.staged new
     → IsCounted c.staged → IsMidway c.staged n → IsInLaterFlush old n
+
+-- So is the flush of blocks that are written again, from the store on in which nothing waits any more.
+abbrev pub MarkIsLater : Type 0
+MarkIsLater = (old : Durably) (new : Parts) (marks : List BlockInfo) (count : ℕ) (m : MarksAgain marks count old.store new)
+    (n : SegmentMemory) → IsKept old → IsCounted m.between → IsMidway m.between n → IsInLaterFlush old n

@@ -6,7 +6,7 @@ ghost use Rattle.lfs_types.specs.Changes.{CanApply};
 ghost use Rattle.lfs_types.specs.StoreStates.{Applies};
 ghost use Rattle.lfs_types.specs.Stored.{Reads, bytes_of, slice_of};
 ghost use Rattle.lfs_parts.specs.Store.{IsFlushed};
-ghost use Rattle.lfs_durable_store.specs.Answering.{ComesTo, FillsFrames, MakesWay, MovesBase, SettlesIfPast, SettlesInPlace};
+ghost use Rattle.lfs_durable_store.specs.Answering.{ComesTo, FillsFrames, MovesBase, SettlesIfPast, SettlesInPlace, WritesFirst};
 ghost use Rattle.lfs_durable_store.specs.Keeping.{durable_state};
 
 use crate::fitting::{fits, fits_with};
@@ -21,7 +21,7 @@ impl DurableStore {
     fn make_way(&mut self, changes: &[Change<'_>])
         requires { CanApply (durable_state self.old).shape.numbers changes.now
             (durable_state self.old).content }
-        ensures { MakesWay changes.now self.old self.new }
+        ensures { WritesFirst changes.now self.old self.new }
     {
         if !fits_with(self.store.parts(), changes) {
             settle(&mut self.store, &mut self.base);

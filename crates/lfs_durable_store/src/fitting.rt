@@ -59,14 +59,11 @@ pub(crate) fn fits_with(parts: &Parts, changes: &[Change<'_>]) -> bool
     requires store { IsStore parts.now }
     requires reach { All IsInReach changes.now }
     requires few { length changes.now ≤ 4 }
-    ensures { IsTrue result → FitsWith changes.now parts.now }
+    ensures { IsTrue result ↔ FitsWith changes.now parts.now }
 {
     let frames = parts.cache.locked_count() + frames_of_all_at_most(changes);
-    if frames > LOCKED_LIMIT {
-        return false;
-    }
     let records = parts.waiting.len() + changes.len();
-    if records > WAITING_LIMIT {
+    if frames > LOCKED_LIMIT || records > WAITING_LIMIT {
         return false;
     }
     frames + records.div_ceil(4) + 1 <= parts.log.room() as usize

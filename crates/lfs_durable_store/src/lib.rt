@@ -8,5 +8,5 @@ mod fitting;
 mod laws;
 mod store;
 
-pub use laws::{behind_is_later, finds_prefix, survives_later};
+pub use laws::{behind_is_later, finds_prefix, mark_is_later, survives_later};
 pub use store::DurableStore;

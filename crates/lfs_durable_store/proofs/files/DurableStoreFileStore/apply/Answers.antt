@@ -1,6 +1,6 @@
 use Rattle.std.proofs.Common.{sym, subst}
 use Rattle.lfs_segwrite.proofs.BoundLemmas.{all_in_reach}
-use Rattle.lfs_durable_store.specs.Answering.{MakesWay}
+use Rattle.lfs_durable_store.specs.Answering.{WritesFirst}
 use Rattle.lfs_durable_store.specs.Keeping.{Durably}
 use Rattle.lfs_durable_store.proofs.ApplyLemmas.{came, came_applies, came_kept}
 use Rattle.lfs_durable_store.proofs.files.DurableStoreFileStore.apply.Goals as goal
@@ -12,8 +12,8 @@ before c = record { store = c.self.inside.store; base = c.self.inside.base.value
 abbrev new : goal.After-settle_if_past → Durably
 new c = record { store = c.settle_if_past.new.store; base = c.settle_if_past.new.base.value }
 
-way : (c : goal.After-settle_if_past) → MakesWay c.args.changes.now c.args.self.now (before c)
-way c = subst (MakesWay c.args.changes.now c.args.self.now) (sym c.self.view_is) c.make_way.ensures
+way : (c : goal.After-settle_if_past) → WritesFirst c.args.changes.now c.args.self.now (before c)
+way c = subst (WritesFirst c.args.changes.now c.args.self.now) (sym c.self.view_is) c.make_way.ensures
 
 pub invariant_of-self-2 : goal.invariant_of-self-2
 invariant_of-self-2 c = came_kept c.args.changes.now c.args.by c.args.self.now (before c) c.apply.new.self (new c)
