@@ -35,6 +35,10 @@ file_at_slot files (Some slot) = slice_index_or files slot None
 abbrev pub IsFree : List (Option OpenFile) → ℕ → Type 0
 IsFree files slot = (slot < length files) × (slice_index_or files slot None ≡ None)
 
+-- a file is in each slot
+abbrev pub AllAreTaken : List (Option OpenFile) → Type 0
+AllAreTaken files = (slot : ℕ) → IsFree files slot → ⊥
+
 -- no file is open
 abbrev pub NoneIsOpen : List (Option OpenFile) → Type 0
 NoneIsOpen files = (slot : ℕ) → slice_index_or files slot None ≡ None

@@ -196,14 +196,15 @@ IsWanting Lacks end errno.ENOSPC = Lacks
 IsWanting Lacks end errno.ENOMEM = ⊤
 IsWanting Lacks end error = ⊥
 
--- so many bytes are written up to a place, or none
+-- so many bytes are written up to a place, and there is room for them, or none
 abbrev pub TellsWritten : Type 0 → ℕ → ℕ → Told → Type 0
-TellsWritten Lacks count end (told.Written written) = (written ≡ count) × (end ≤ file_max)
+TellsWritten Lacks count end (told.Written written) =
+    (written ≡ count) × (end ≤ file_max) × (0 < written → Lacks → ⊥)
 TellsWritten Lacks count end (told.Error error) = IsWanting Lacks end error
 TellsWritten Lacks count end reply = ⊥
 
--- these are the attributes behind a change to so many bytes, or none is made
+-- these are the attributes behind a change to so many bytes, for which there is room, or none is made
 abbrev pub TellsCut : Type 0 → Attr → ℕ → Told → Type 0
-TellsCut Lacks attr end (told.Attr given) = (given ≡ attr) × (end ≤ file_max)
+TellsCut Lacks attr end (told.Attr given) = (given ≡ attr) × (end ≤ file_max) × (Lacks → ⊥)
 TellsCut Lacks attr end (told.Error error) = IsWanting Lacks end error
 TellsCut Lacks attr end reply = ⊥

@@ -1,9 +1,9 @@
 //! Files that are open. Of one that is removed its bytes and attributes are kept until it is closed.
 
-ghost use Rattle.std.specs.Prelude.{◌≡◌, ◌≢◌, ℕ, ◌-◌, ◌<◌, IfOk, IfSome, IsSome, None, Some, length, option_copied, slice_index_or, slice_set};
+ghost use Rattle.std.specs.Prelude.{◌≡◌, ◌≢◌, ℕ, ◌-◌, ◌<◌, IfNone, IfOk, IfSome, IsSome, None, Some, length, option_copied, slice_index_or, slice_set, vec_len};
 ghost use Rattle.lfs_fuse_wire.specs.Views.{view};
 ghost use Rattle.lfs_fuse_calls.specs.Asked.{reads, writes};
-ghost use Rattle.lfs_opens.specs.Opens.{AreLeft, AreKeptWhereDone, AreUnkept, IsFree, NoneIsOpen, closed_at, file_at_slot, first_kept, first_to_write, handle_of, is_open_to, kept_of, kept_to, lack_of, node_of, opened_in, opened_on, opener_of, slot_of, unkept, with_kept, with_seen};
+ghost use Rattle.lfs_opens.specs.Opens.{AllAreTaken, AreLeft, AreKeptWhereDone, AreUnkept, IsFree, NoneIsOpen, closed_at, file_at_slot, first_kept, first_to_write, handle_of, is_open_to, kept_of, kept_to, lack_of, node_of, opened_in, opened_on, opener_of, slot_of, unkept, with_kept, with_seen};
 ghost use Rattle.lfs_opens.specs.Rewritten.{bytes_kept, size_of};
 
 use crate::head::Head;
@@ -20,10 +20,11 @@ const SLOTS: usize = 128;
 /// The most bytes that are kept of all files: no volume holds more.
 const MOST: usize = 33_554_432;
 
-/// The files that are open, each in a slot. A handle tells its slot.
+/// The files that are open, each in one of 128 slots. A handle tells its slot.
 #[derive(Drop)]
 pub struct Opens {
     pub(crate) files: Vec<Option<OpenFile>>,
+    ghost sized: { vec_len files ≡ 128 },
 }
 
 /// The slot of a handle, if it has one.
@@ -341,12 +342,13 @@ impl Opens {
         }
     }
 
-    /// A slot in which no file is.
+    /// A slot in which no file is; None only where all are taken.
     fn free(&self) -> Option<usize>
         ensures free { IfSome result (IsFree self.now.files.items) }
         ensures few { IfSome result (λ slot. slot < 256) }
+        ensures full { IfNone result (AllAreTaken self.now.files.items) }
     {
-        for slot in 0..self.files.len().min(SLOTS) {
+        for slot in 0..SLOTS {
             if self.files[slot].is_none() {
                 return Some(slot);
             }
@@ -358,6 +360,7 @@ impl Opens {
     fn open(&mut self, node: u64, access: AccessMode, cred: &Cred) -> Option<usize>
         ensures free { IfSome result (IsFree self.old.files.items) }
         ensures few { IfSome result (λ slot. slot < 256) }
+        ensures full { IfNone result (AllAreTaken self.old.files.items) }
         ensures files { self.new.files.items
             ≡ opened_in result (Some node) access cred.now self.old.files.items }
     {
@@ -427,6 +430,10 @@ impl Opens {
         ensures free { IfSome result (λ slot. IsFree self.old.files.items slot
             × IsSome (opened_on (view message.now) head.now.node told.now)) }
         ensures few { IfSome result (λ slot. slot < 256) }
+        // What it opened gets no slot only where all are taken.
+        ensures full { IfNone result
+            (IsSome (opened_on (view message.now) head.now.node told.now)
+            → AllAreTaken self.old.files.items) }
         ensures files { AreLeft (view message.now) head.now.node head.now.cred told.now left result
             self.old.files.items self.new.files.items }
     {

@@ -331,7 +331,8 @@ fn more_of(file: &Option<OpenFile>, node: u64, more: usize) -> usize
 
 /// The same of all files, counted up to the largest number.
 fn growth_of(files: &[Option<OpenFile>], node: u64, more: usize) -> usize
-    ensures { result ≤ growth_of node more files.now }
+    ensures most { result ≤ growth_of node more files.now }
+    ensures all { result ≤ 33554432 → growth_of node more files.now ≤ result }
 {
     let mut rest = files;
     let mut growth: usize = 0;
@@ -435,6 +436,8 @@ impl Opens {
             self.old.files.items self.new.files.items) }
         ensures same { OnErr result (AreSame self.old.files.items self.new.files.items) }
         ensures fits { OnOk result (end_of (view message.now) size ≤ file_max) }
+        ensures room { OnOk result
+            (LacksRoom (view message.now) head.now.node size self.old.files.items → ⊥) }
         ensures error { IfErr result (IsWanting
             (LacksRoom (view message.now) head.now.node size self.old.files.items)
             (end_of (view message.now) size)) }
@@ -443,7 +446,7 @@ impl Opens {
             return Err(Errno::EFBIG);
         };
         let more = end.saturating_sub(size) as usize;
-        if more > 0 && growth_of(self.files.as_slice(), head.node, more) > self.room() {
+        if growth_of(self.files.as_slice(), head.node, more) > self.room() {
             return Err(Errno::ENOSPC);
         }
         if !self.make_room(head.node, message) {

@@ -16,7 +16,8 @@ use Rattle.lfs_recovery.specs.Logs.{AreLogs, IsLogged, joined, log_place}
 use Rattle.lfs_recovery.specs.Newest.{IsNewest}
 use Rattle.lfs_recovery.proofs.LogLemmas.{longest_one}
 use Rattle.lfs_reach.specs.Reach.{Reaches}
-use Rattle.lfs_rescue.specs.Recovering.{AreAt, AreKept, EndsBehind, IsBehind, IsKept, IsLastOf, IsRecovered, later}
+use Rattle.lfs_rescue.specs.Recovering.{AreAt, AreGivenBack, AreKept, EndsBehind, HasEnd, HaveVersions, IsBehind, IsKept}
+use Rattle.lfs_rescue.specs.Recovering.{IsLastOf, IsRecovered, later}
 
 -- ---- logs
 
@@ -98,6 +99,8 @@ pub record IsJudged (m : SegmentMemory) (l : LogParts) (ps : List PartialSegment
   pub numbers : AreAt l places marks
   pub ends : EndsBehind last l.memory
   pub segments : l.memory.segments ≡ m.segments
+  pub versions : HaveVersions l places
+  pub given_back : AreGivenBack l
   pub kept : AreKept m l.memory
 
 pub is_recovered : (m : SegmentMemory) (l : LogParts) (ps : List PartialSegment) (last : PartialSegment)
@@ -115,7 +118,19 @@ is_recovered m l ps last marks places j = record {
   counted = j.counted;
   ends = j.ends;
   segments = j.segments;
+  versions = j.versions;
+  given_back = j.given_back;
   kept = j.kept;
+}
+
+-- the last of all partial segments is the newest
+pub has_end : (m : SegmentMemory) (ps : List PartialSegment) (last : PartialSegment) → AreLogs m ps
+    → IsLastOf ps (Some last) → last.serial < 4294967295 → HasEnd m
+has_end m ps last logs is counted = record {
+  last = last;
+  logged = listed_logged m ps last logs is.0;
+  latest = λ p logged. is.1 p (logged_listed m ps p logs logged);
+  counted = counted;
 }
 
 -- ---- one block

@@ -12,6 +12,7 @@ use Rattle.lfs_parts.specs.Files.{content_of}
 use Rattle.lfs_logstore.specs.States.{state_of}
 use Rattle.lfs_calls.specs.Volumes.{HasWorld}
 use Rattle.lfs_fsck.specs.Stored.{IsStored, flushed}
+use Rattle.lfs_image.specs.Image.{IsLabelled}
 use Rattle.lfs_durable.specs.Crashes.{IsCrashOf}
 use Rattle.lfs_durable.specs.Names.{IsDurable}
 use Rattle.lfs_checking.specs.Files.{HasImage}
@@ -74,12 +75,13 @@ fault_words Memory = Some (codes "no memory")
 abbrev pub IsFaultLine : RecoverFault → List ℕ → Type 0
 IsFaultLine fault text = IfSome (fault_words fault) (λ words. text ≡ codes "fault: " ++ (words ++ codes "\n"))
 
--- a volume is found in bytes, whose names show a tree, with all that a store contained whose bytes these are, and of which
--- this is told; and a file got its image, where one is asked for
+-- a volume is found in bytes, whose block 0 is its label and whose names show a tree, with all that a store contained
+-- whose bytes these are, and of which this is told; and a file got its image, where one is asked for
 pub record IsFound {F S : Type 0} (contents : F → Option (List ℕ)) (save : Option S) (bytes text : List ℕ) : Type 0 where
   pub log : LogParts
   pub found : IsFoundIn bytes log
   pub stored : IsStored log
+  pub labelled : IsLabelled log
   pub world : HasWorld (state_of (flushed log))
   pub content : FindsAllIn bytes (flushed log)
   pub told : text ≡ well_text log

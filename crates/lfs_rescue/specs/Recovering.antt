@@ -1,5 +1,5 @@
 -- What is found of a volume in its blocks.
-use Rattle.std.specs.Prelude.{◌≡◌, ℕ, ◌+◌, ◌*◌, ◌/◌, ◌<◌, ◌≤◌, ◌↔◌, Bool, true, false, List, Option, Some, None, IsSome}
+use Rattle.std.specs.Prelude.{◌≡◌, ◌≢◌, ℕ, ◌+◌, ◌*◌, ◌/◌, ◌<◌, ◌≤◌, ◌↔◌, Bool, true, false, List, Option, Some, None, IsSome}
 use Rattle.std.specs.Prelude.{⊤, nat_lt, if◌then◌else◌, length, slice_index_or}
 use Rattle.std.specs.List.{Contains}
 use Rattle.lfs_types.specs.declared.limits.TheConstants.{SEGMENT_BLOCKS}
@@ -7,8 +7,9 @@ use Rattle.lfs_types.specs.Blocks.{zero_block}
 use Rattle.lfs_types.specs.Ranges.{most_inodes}
 use Rattle.lfs_segments.specs.Memory.{SegmentMemory, block_at, next_address}
 use Rattle.lfs_ifile.specs.declared.inode.InodePlace.{InodePlace}
-use Rattle.lfs_ifile.specs.Tables.{place_of}
-use Rattle.lfs_log.specs.Parts.{LogParts}
+use Rattle.lfs_ifile.specs.declared.segment.SegState.TheVariants.{Clean}
+use Rattle.lfs_ifile.specs.Tables.{place_of, row_of}
+use Rattle.lfs_log.specs.Parts.{LogParts, live_of, state_of}
 use Rattle.lfs_recovery.specs.declared.places.PartialSegment.{PartialSegment}
 use Rattle.lfs_recovery.specs.declared.places.RecordPlace.{RecordPlace}
 use Rattle.lfs_recovery.specs.Logs.{IsLogged}
@@ -26,6 +27,11 @@ HasNewest None newest = ⊤
 HasNewest (Some place) None = ⊥
 HasNewest (Some place) (Some newest) =
     (place.addr ≡ newest.address) × ((place.slot ≡ newest.slot) × (place.version ≡ newest.version))
+
+-- the version of a newest record, 0 where there is none
+abbrev pub newest_version : Option RecordPlace → ℕ
+newest_version None = 0
+newest_version (Some newest) = newest.version
 
 -- an address stands behind the end of the log
 abbrev pub IsBehind : SegmentMemory → ℕ → Type 0
@@ -45,6 +51,11 @@ abbrev pub GoesOn : Option ℕ → ℕ → Type 0
 GoesOn None last = ⊥
 GoesOn (Some serial) last = serial ≡ last + 1
 
+-- A segment is clean exactly where none of its bytes are live; the active one never is.
+abbrev pub IsGivenBack : LogParts → ℕ → Type 0
+IsGivenBack l segment = segment ≢ l.memory.active
+    → (state_of l.tables segment ≡ Clean) ↔ (live_of l.tables segment ≡ 0)
+
 -- a log ends behind a partial segment, whose segment is the active one, and its next summary gets the serial behind that
 pub record EndsBehind (last : PartialSegment) (m : SegmentMemory) : Type 0 where
   pub active : m.active ≡ last.address / SEGMENT_BLOCKS
@@ -54,18 +65,22 @@ pub record EndsBehind (last : PartialSegment) (m : SegmentMemory) : Type 0 where
 -- A log is what a memory of blocks tells. Of each number there is one newest record; a number is in use exactly where
 -- names lead to it from the root on, and then has its newest record. The log ends behind the partial segment of the
 -- highest serial, which isn't the last serial that there is, goes on with the serial behind that, and all other blocks
--- are the memory's.
+-- are the memory's. Each other segment in which nothing is live is clean, and a number that is free keeps the version of
+-- its newest record, which it goes on from when it is given out again.
 pub record IsRecovered (m : SegmentMemory) (l : LogParts) : Type 0 where
   pub places : List (Option RecordPlace)
   pub newest : (n : ℕ) → n < most_inodes → IsNewest m n (slice_index_or places n None)
   pub named : (n : ℕ) → n < length l.tables.rows → IsSome (place_of l.tables n) ↔ Reaches m places n
   pub placed : (n : ℕ) → n < length l.tables.rows → HasNewest (place_of l.tables n) (slice_index_or places n None)
+  pub versions : (n : ℕ) → n < length l.tables.rows
+      → (row_of l.tables n).version ≡ newest_version (slice_index_or places n None)
   pub last : PartialSegment
   pub logged : IsLogged m last
   pub latest : (p : PartialSegment) → IsLogged m p → p.serial ≤ last.serial
   pub counted : last.serial < last_serial
   pub ends : EndsBehind last l.memory
   pub segments : l.memory.segments ≡ m.segments
+  pub given_back : (segment : ℕ) → segment < l.memory.segments → IsGivenBack l segment
   pub kept : (address : ℕ) → address < m.segments * SEGMENT_BLOCKS → IsKept m l.memory address
 
 -- Two memories tell the same: their logs have the same partial segments, and each number has the same newest record. So
@@ -74,24 +89,32 @@ pub record TellsTheSame (old new : SegmentMemory) : Type 0 where
   pub logged : (p : PartialSegment) → IsLogged new p ↔ IsLogged old p
   pub newest : (n : ℕ) (r : Option RecordPlace) → IsNewest new n r ↔ IsNewest old n r
 
--- what a fault says of a memory: Empty, that no log has a partial segment; LastSerial, that one has the last serial
+-- a log has a partial segment, and none has the last serial: so there is one of the highest serial, which is the newest
+pub record HasEnd (m : SegmentMemory) : Type 0 where
+  pub last : PartialSegment
+  pub logged : IsLogged m last
+  pub latest : (p : PartialSegment) → IsLogged m p → p.serial ≤ last.serial
+  pub counted : last.serial < last_serial
+
+-- What a fault says of a memory: Empty, that no log has a partial segment; LastSerial, that one has the last serial; the
+-- others, that neither is so. Want of memory says nothing.
 abbrev pub IsRecoverFaultOf : SegmentMemory → RecoverFault → Type 0
 IsRecoverFaultOf m Empty = (p : PartialSegment) → IsLogged m p → ⊥
-IsRecoverFaultOf m (Volume fault) = ⊤
-IsRecoverFaultOf m (Number number) = ⊤
-IsRecoverFaultOf m End = ⊤
-IsRecoverFaultOf m Serial = ⊤
-IsRecoverFaultOf m (Block address) = ⊤
+IsRecoverFaultOf m (Volume fault) = HasEnd m
+IsRecoverFaultOf m (Number number) = HasEnd m
+IsRecoverFaultOf m End = HasEnd m
+IsRecoverFaultOf m Serial = HasEnd m
+IsRecoverFaultOf m (Block address) = HasEnd m
 IsRecoverFaultOf m LastSerial = (p : PartialSegment) × (IsLogged m p × (p.serial ≡ last_serial))
 IsRecoverFaultOf m Length = ⊥
-IsRecoverFaultOf m Segments = ⊤
+IsRecoverFaultOf m Segments = HasEnd m
 IsRecoverFaultOf m Memory = ⊤
 
 -- ---- for the functions within
 
 -- a fault of the volume that was made
 abbrev pub IsOther : RecoverFault → Type 0
-IsOther fault = (m : SegmentMemory) → IsRecoverFaultOf m fault
+IsOther fault = (m : SegmentMemory) → HasEnd m → IsRecoverFaultOf m fault
 
 -- a number is in use exactly where it is marked, and then has its newest record
 abbrev pub StandsAt : Option InodePlace → Option RecordPlace → Bool → Type 0
@@ -100,6 +123,13 @@ StandsAt place newest marked = (IsSome place ↔ (marked ≡ true)) × HasNewest
 abbrev pub AreAt : LogParts → List (Option RecordPlace) → List Bool → Type 0
 AreAt l places marks = (n : ℕ) → n < length l.tables.rows
     → StandsAt (place_of l.tables n) (slice_index_or places n None) (slice_index_or marks n false)
+
+abbrev pub HaveVersions : LogParts → List (Option RecordPlace) → Type 0
+HaveVersions l places = (n : ℕ) → n < length l.tables.rows
+    → (row_of l.tables n).version ≡ newest_version (slice_index_or places n None)
+
+abbrev pub AreGivenBack : LogParts → Type 0
+AreGivenBack l = (segment : ℕ) → segment < l.memory.segments → IsGivenBack l segment
 
 abbrev pub AreKept : SegmentMemory → SegmentMemory → Type 0
 AreKept old new = (address : ℕ) → address < old.segments * SEGMENT_BLOCKS → IsKept old new address

@@ -5,6 +5,7 @@ ghost use Rattle.lfs_types.specs.Ranges.{least_frames, least_segments, most_fram
 ghost use Rattle.lfs_calls.specs.Volumes.{HasWorld};
 ghost use Rattle.lfs_logstore.specs.States.{state_of};
 ghost use Rattle.lfs_fsck.specs.Stored.{IsStored, stored};
+ghost use Rattle.lfs_image.specs.Image.{IsLabelled};
 ghost use Rattle.lfs_rescue.specs.Blocks.{FindsAllIn, IsBlocksFaultOf, IsFoundIn, IsMemoryOf};
 
 use crate::fault::RecoverFault;
@@ -33,6 +34,7 @@ pub fn recover_blocks(
     requires at_least { least_frames ≤ frames }
     requires at_most { frames ≤ most_frames }
     ensures found { IfOk result (λ store. IsFoundIn bytes.now store.log) }
+    ensures labelled { IfOk result (λ store. IsLabelled store.log) }
     ensures stored { IfOk result (λ store. IsStored store.log) }
     ensures flushed { IfOk result (λ store. store ≡ stored frames store.log) }
     ensures world { IfOk result (λ store. HasWorld (state_of store)) }

@@ -40,7 +40,7 @@ pub enum RecoverFault {
     LastSerial,
     /// The bytes are not those of 6 to 1,024 whole segments.
     Length,
-    /// That volume has another number of segments.
+    /// That volume has another number of segments, or one that is not clean exactly where nothing in it is live.
     Segments,
     /// A growth was refused.
     Memory,

@@ -19,6 +19,7 @@ use Rattle.lfs_segwrite.specs.Collecting.{entries_of}
 use Rattle.lfs_segwrite.proofs.CollectingLemmas.{entries_of-length}
 use Rattle.lfs_segwrite.specs.Gaining.{IsGainful, NoneIsGainful, live_infos, space}
 use Rattle.lfs_logstore.specs.Gaining.{GainsRoom, GainsSpace}
+use Rattle.lfs_share.specs.Answering.{WritesThenCleans}
 use Rattle.lfs_share.specs.Share.{IsWithinShare, KeepsOne, LacksShare, taken}
 use Rattle.lfs_share.proofs.LiveLemmas.{live_weighs}
 use Rattle.lfs_share.proofs.TakenLemmas.{live_few}
@@ -47,6 +48,16 @@ worth p segment store inside dirty some few =
       dirty = dirty;
       worth = (omega arith, inr (some, omega arith));
     }
+
+-- ---- what is done where segments were few
+-- Where fewer than three segments are clean now, fewer were once what waited was written: so anything may have followed.
+pub still_idle : (old between new : Parts) → WritesThenCleans old between → between.log.clean < 3
+    → WritesThenCleans old new
+still_idle old between new w few = record {
+  written = w.written;
+  writes = w.writes;
+  idle = λ enough. let same = ap (λ (p : Parts). p.log.clean) (w.idle enough) in absurd (omega arith);
+}
 
 -- ---- the live bytes of all, where each dirty one has more than these
 -- Of the first n segments: so much is live at least, but for those that are clean and, behind it, the active one.

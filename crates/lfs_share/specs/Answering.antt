@@ -5,7 +5,7 @@ use Rattle.lfs_types.specs.declared.store.Change.{Change}
 use Rattle.lfs_types.specs.declared.store.Reserve.{Reserve}
 use Rattle.lfs_types.specs.declared.store.StoreRefusal.{StoreRefusal}
 use Rattle.lfs_types.specs.declared.store.StoreRefusal.TheVariants.{NoSpace}
-use Rattle.lfs_segwrite.specs.Applying.{MakesChanges}
+use Rattle.lfs_segwrite.specs.Applying.{MakesChanges, WritesWaiting}
 use Rattle.lfs_parts.specs.declared.parts.Parts.{Parts}
 use Rattle.lfs_parts.specs.Store.{IsFlushed}
 use Rattle.lfs_logstore.specs.States.{state_of}
@@ -20,6 +20,12 @@ with_share s = record s { shape = record s.shape { has_share = true } }
 -- the state of the log store, but growth past a share is refused
 abbrev pub shared_state : Parts → StoreState
 shared_state p = with_share (state_of p)
+
+-- What waited was written, and where three segments were clean then, nothing else was done.
+pub record WritesThenCleans (old new : Parts) : Type 0 where
+  pub written : Parts
+  pub writes : WritesWaiting old written
+  pub idle : ENOUGH ≤ written.log.clean → new ≡ written
 
 -- Three segments are clean. Where they were already, nothing was done; else what waited was written, and segments were
 -- cleaned.

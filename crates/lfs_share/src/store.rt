@@ -6,7 +6,7 @@ ghost use Rattle.lfs_parts.specs.Opening.{IsOpening, IsTooFew, IsTooMany};
 ghost use Rattle.lfs_parts.specs.Store.{IsFlushed};
 ghost use Rattle.lfs_segwrite.specs.Applying.{MakesChanges};
 ghost use Rattle.lfs_logstore.specs.States.{opening_state, state_of};
-ghost use Rattle.lfs_share.specs.Answering.{MakesRoom, shared_state, with_share};
+ghost use Rattle.lfs_share.specs.Answering.{MakesRoom, WritesThenCleans, shared_state, with_share};
 ghost use Rattle.lfs_share.specs.Share.{IsWithinShare, KeepsOne, share_of, taken};
 
 use crate::growing::taken;
@@ -140,9 +140,10 @@ impl SharedStore {
         Some(SharedStore { store, most })
     }
 
-    /// Writes what waits, and cleans segments until three are clean.
+    /// Writes what waits, and cleans segments until three are clean: none, where they are already.
     pub fn restore(&mut self)
         ensures clean { ENOUGH ≤ (shared_state self.new).clean }
+        ensures idle { WritesThenCleans self.old self.new }
         ensures flushed { IsFlushed self.new }
         ensures content { (shared_state self.new).content ≡ (shared_state self.old).content }
         ensures shape { (shared_state self.new).shape ≡ (shared_state self.old).shape }

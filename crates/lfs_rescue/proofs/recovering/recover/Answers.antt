@@ -7,10 +7,10 @@ use Rattle.lfs_fsck.specs.Stored.{stored}
 use Rattle.lfs_recovery.specs.declared.places.PartialSegment.{PartialSegment}
 use Rattle.lfs_recovery.specs.declared.places.RecordPlace.{RecordPlace}
 use Rattle.lfs_reach.specs.Reach.{Reaches}
-use Rattle.lfs_rescue.specs.Recovering.{AreAt, IsLastOf, IsRecovered, IsRecoverFaultOf}
+use Rattle.lfs_rescue.specs.Recovering.{AreAt, HaveVersions, IsLastOf, IsRecovered, IsRecoverFaultOf}
 use Rattle.lfs_rescue.proofs.AgainLemmas.{recovered_same}
 use Rattle.lfs_rescue.proofs.ContentLemmas.{finds_all}
-use Rattle.lfs_rescue.proofs.RecoverLemmas.{is_recovered, listed_logged, logged_listed}
+use Rattle.lfs_rescue.proofs.RecoverLemmas.{has_end, is_recovered, listed_logged, logged_listed}
 use Rattle.lfs_rescue.proofs.recovering.recover.Goals as goal
 
 pub returns-clause-recovered : goal.returns-clause-recovered
@@ -39,6 +39,9 @@ returns-clause-recovered c =
         serial = c.in_ok-judge.ensures.serial;
       };
       segments = c.in_ok-judge.ensures.segments;
+      given_back = c.in_ok-judge.ensures.uses;
+      versions = subst (λ (xs : List (Option RecordPlace)). HaveVersions log xs) c.deref-6.ensures.value
+          c.in_ok-judge.ensures.versions;
       kept = c.in_ok-judge.ensures.kept;
     }))
 
@@ -80,12 +83,18 @@ pub returns-in_err-store-clause-fault : goal.returns-in_err-store-clause-fault
 returns-in_err-store-clause-fault c =
     let m = c.args.memory.now in
     let p = err_from_is_err_and c.from_residual-in_err-store.result c.from_residual-in_err-store.ensures.1 in
+    let end = has_end m c.in_ok-partials.partials.items c.in-Some.last c.in_ok-partials.ensures.logs
+    (subst (λ (xs : List PartialSegment). IsLastOf xs (Some c.in-Some.last)) c.deref.ensures.value c.in-Some.ensures)
+    (c.is_used_up.ensures.counted c.if-is_used_up.false) in
     subst (λ r. IfErr r (IsRecoverFaultOf m)) (sym p.1)
-    (subst (IsRecoverFaultOf m) (sym p.2) (c.in_err-store.ensures.fault m))
+    (subst (IsRecoverFaultOf m) (sym p.2) (c.in_err-store.ensures.fault m end))
 
 pub returns-in_err-judge-clause-fault : goal.returns-in_err-judge-clause-fault
 returns-in_err-judge-clause-fault c =
     let m = c.args.memory.now in
     let p = err_from_is_err_and c.from_residual-in_err-judge.result c.from_residual-in_err-judge.ensures.1 in
+    let end = has_end m c.in_ok-partials.partials.items c.in-Some.last c.in_ok-partials.ensures.logs
+    (subst (λ (xs : List PartialSegment). IsLastOf xs (Some c.in-Some.last)) c.deref.ensures.value c.in-Some.ensures)
+    (c.is_used_up.ensures.counted c.if-is_used_up.false) in
     subst (λ r. IfErr r (IsRecoverFaultOf m)) (sym p.1)
-    (subst (IsRecoverFaultOf m) (sym p.2) (c.in_err-judge.ensures.fault m))
+    (subst (IsRecoverFaultOf m) (sym p.2) (c.in_err-judge.ensures.fault m end))

@@ -19,6 +19,7 @@ returns-in_ok-text-in-Ok-clause-told g c =
       log = c.in-Ok.store.log;
       found = is.found;
       stored = is.stored;
+      labelled = is.labelled;
       world = subst (λ (p : Parts). HasWorld (state_of p)) is.flushed is.world;
       content = subst (λ (p : Parts). FindsAllIn c.args.bytes.now p) is.flushed is.content;
       told = c.in_ok-text-in-Ok.ensures ∙ ap (λ (p : Parts). codes "ok\n" ++ space_text p) is.flushed;

@@ -2,6 +2,7 @@ use Rattle.std.proofs.Common.{◌≡◌, ◌+◌, ◌-◌, ◌*◌, ◌<◌}
 use Rattle.lfs_segwrite.specs.Gaining.{space}
 use Rattle.lfs_parts.specs.Store.{IsFlushed}
 use Rattle.lfs_logstore.specs.States.{state_of}
+use Rattle.lfs_share.specs.Answering.{WritesThenCleans}
 use Rattle.lfs_share.specs.Share.{KeepsOne}
 use Rattle.lfs_share.proofs.restoring.restore.Given as goal
 
@@ -11,6 +12,7 @@ invariant-loop-store l = record {
   content : (state_of l.store).content ≡ (state_of l.fn.store).content;
   shape : (state_of l.store).shape ≡ (state_of l.fn.store).shape;
   kept : KeepsOne l.fn.store → 0 < l.store.log.clean;
+  idle : WritesThenCleans l.fn.store l.store;
 }
 
 -- each gain adds to the space
