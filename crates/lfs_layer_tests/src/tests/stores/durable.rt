@@ -102,20 +102,19 @@ fn fill(rt: &impl Abort, store: &mut DurableStore) -> u32 {
     ino
 }
 
-/// Puts 8 blocks into a file. Gives whether a segment was opened: then what waited before was written before, and nothing
+/// Puts 8 blocks into a file. Asserts that where a segment was opened what waited before was written before, and nothing
 /// waits now.
-fn put_on(rt: &impl Abort, store: &mut DurableStore, ino: u32, block: u8) -> bool {
+fn put_on(rt: &impl Abort, store: &mut DurableStore, ino: u32, block: u8) {
     let before = look(store);
     put(rt, store, ino, block, &[2; 4_096]);
     let after = look(store);
     if after.active == before.active {
-        return false;
+        return;
     }
     let written = if before.waits { 2 } else { 1 };
     let next = before.serial.and_then(|serial| serial.checked_add(written));
     expect_eq(rt, after.serial, next);
     expect_eq(rt, after.waits, false);
-    true
 }
 
 #[test]
@@ -128,13 +127,13 @@ fn no_segment_is_opened_while_something_waits_from_before(rt: HostRuntime) {
     expect_eq(&rt, store.segclean(1), Ok(()));
     // The removal waits still, and segment 1 may be opened from here on.
     expect_eq(&rt, look(&store).waits, true);
-    let mut opened = 0;
     for block in 0..12 {
-        if put_on(&rt, &mut store, second, 8 * block) {
-            opened += 1;
-        }
+        put_on(&rt, &mut store, second, 8 * block);
     }
-    expect_eq(&rt, opened, 2);
+    // It was, and then segment 3: it is dirty.
+    expect_eq(&rt, look(&store).active, 3);
+    let mut infos = InfoList::empty();
+    expect_eq(&rt, store.infos(1, &mut infos), Ok(()));
 }
 
 /// Asserts that the first block of a file has these bytes alone.
