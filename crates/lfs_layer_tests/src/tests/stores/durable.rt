@@ -1,13 +1,16 @@
 //! A durable store of 6 segments: a file's removal waits while a segment of its blocks is made clean.
 
-use crate::tests::expect_eq;
+use crate::tests::{expect_bytes, expect_eq};
+use lfs_checking::standing::ChecksLog;
 use lfs_durable_store::DurableStore;
 use lfs_types::attrs::{Attrs, Kind};
 use lfs_types::cleaned::CleanedStore;
 use lfs_types::cleaner::{CleanFault, InfoList, MarkList};
 use lfs_types::file_flags::FileFlags;
+use lfs_types::level::Level;
 use lfs_types::mode::Mode;
 use lfs_types::store::{Change, FileStore, Params, Reserve};
+use lfs_view::shows::ShowsLog;
 use std::alloc::Global;
 use std::process::Abort;
 
@@ -160,4 +163,19 @@ fn the_cleaner_makes_room(rt: HostRuntime) {
     expect_eq(&rt, store.clean_segments() > clean, true);
     expect_first(&rt, &mut store, ino, 1);
     expect_eq(&rt, store.ifile_bytes().is_ok(), true);
+}
+
+#[test]
+fn a_durable_store_shows_its_log(rt: HostRuntime) {
+    let store = fresh(&rt, rt.alloc());
+    // The root's record alone is live.
+    let space =
+        b"segments 5 clean of 6\nbytes 128 live\nnumbers 1 used of 16\nwaiting 0 blocks 0 records\n";
+    let mut text = Vec::new(rt.alloc());
+    store.push_space(&mut text).expect(&rt, "memory");
+    expect_bytes(&rt, &text, space);
+    let well =
+        b"ok\nsegments 5 clean of 6\nbytes 128 live\nnumbers 1 used of 16\nwaiting 0 blocks 0 records\n";
+    let told = store.check(rt.alloc(), Level::Insecure);
+    expect_bytes(&rt, &told.expect(&rt, "memory"), well);
 }
