@@ -60,7 +60,7 @@ in_place old new k s = record {
 }
 
 pub behind_is_later : BehindIsLater
-behind_is_later old new changes by result c n k behind counted midway =
+behind_is_later old new changes by result c n k behind counted cut =
     let kept : IsKept c.before = elim c.first [
       | inl nothing ↦ subst IsKept (sym nothing.1) k
       | inr wrote ↦ settled_kept old c.before k wrote.1.settles
@@ -79,11 +79,11 @@ behind_is_later old new changes by result c n k behind counted midway =
       content = content;
       staged = c.staged;
       stays = c.stays;
-      midway = midway;
+      cut = cut;
     }
 
 pub mark_is_later : MarkIsLater
-mark_is_later old new marks count m n k counted midway = record {
+mark_is_later old new marks count m n k counted cut = record {
   before = m.between;
   store = m.written.store;
   flushed = m.written.flushed;
@@ -92,7 +92,7 @@ mark_is_later old new marks count m n k counted midway = record {
   content = m.written.content;
   staged = m.between;
   stays = stays-refl m.between;
-  midway = midway;
+  cut = cut;
 }
 
 -- ---- states

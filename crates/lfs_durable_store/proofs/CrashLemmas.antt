@@ -32,6 +32,9 @@ survives s k n found counted shown cut on =
 pub survives_later : SurvivesLater
 survives_later s n found shown l on =
     let durable = flushed_is_durable l.before l.counted.next l.found l.store l.flushed l.counted.serial l.counted.bound in
-    let crash = staged_crashes l.before l.staged n durable l.stays l.midway in
+    let crash : IsCrashOf l.before n = elim l.cut [
+      | inl rest ↦ at_rest l.before n (rest ∙ l.stays.memory)
+      | inr midway ↦ staged_crashes l.before l.staged n durable l.stays midway
+    ] in
     let shows = subst (λ (c : Content). Shows c shown.world) (sym l.content) shown.shows in
     finds_after_crash l.before found shown.world n durable shows shown.tree crash on.made on.store on.flushed ∙ l.content

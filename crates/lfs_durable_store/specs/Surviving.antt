@@ -21,8 +21,13 @@ use Rattle.lfs_durable_store.specs.Keeping.{Durably, IsKept}
 abbrev pub IsCutShort : Durably → SegmentMemory → Type 0
 IsCutShort s n = (n ≡ s.store.log.memory) ⊎ IsInFlush s.store.log.memory n
 
--- The blocks between any two block writes of a later flush of the same call. It writes what was staged over a log store in
--- which nothing waited: one that could be found, had serials left, and contained what the store contained before the call.
+-- the blocks of a log store at rest, or between any two block writes of a flush, for which a segment may be opened
+abbrev pub IsCutAt : Parts → SegmentMemory → Type 0
+IsCutAt p n = (n ≡ p.log.memory) ⊎ IsMidway p n
+
+-- The blocks before a later flush of the same call, or between any two block writes of it. It writes what was staged over a
+-- log store in which nothing waited: one that could be found, had serials left, and contained what the store contained
+-- before the call.
 pub record IsInLaterFlush (s : Durably) (n : SegmentMemory) : Type 0 where
   pub before : Parts
   pub store : IsStore before
@@ -32,7 +37,7 @@ pub record IsInLaterFlush (s : Durably) (n : SegmentMemory) : Type 0 where
   pub content : content_of before ≡ content_of s.store
   pub staged : Parts
   pub stays : StaysInLog before staged
-  pub midway : IsMidway staged n
+  pub cut : IsCutAt staged n
 
 -- a store that was made of what is found in these blocks
 pub record IsFoundIn (n : SegmentMemory) (found : Parts) : Type 0 where
@@ -46,7 +51,7 @@ abbrev pub Survives : Durably → Type 0
 Survives s = (n : SegmentMemory) (found : Parts) → IsCounted s.store → ShowsTree s.base → IsCutShort s n
     → IsFoundIn n found → content_of found ≡ content_of s.base
 
--- What is found behind a crash in a later flush of a call contains what the store contained before the call.
+-- What is found behind a crash before or in a later flush of a call contains what the store contained before the call.
 abbrev pub SurvivesLater : Type 0
 SurvivesLater = (s : Durably) (n : SegmentMemory) (found : Parts) → ShowsTree s.store → IsInLaterFlush s n
     → IsFoundIn n found → content_of found ≡ content_of s.store
@@ -55,9 +60,9 @@ SurvivesLater = (s : Durably) (n : SegmentMemory) (found : Parts) → ShowsTree 
 abbrev pub BehindIsLater : Type 0
 BehindIsLater = (old new : Durably) (changes : List Change) (by : Reserve) (result : Result (Unit {0}) StoreRefusal)
     (c : ComesTo old changes by result new) (n : SegmentMemory) → IsKept old → SettlesBehind c.before c.staged new
-    → IsCounted c.staged → IsMidway c.staged n → IsInLaterFlush old n
+    → IsCounted c.staged → IsCutAt c.staged n → IsInLaterFlush old n
 
 -- So is the flush of blocks that are written again, from the store on in which nothing waits any more.
 abbrev pub MarkIsLater : Type 0
 MarkIsLater = (old : Durably) (new : Parts) (marks : List BlockInfo) (count : ℕ) (m : MarksAgain marks count old.store new)
-    (n : SegmentMemory) → IsKept old → IsCounted m.between → IsMidway m.between n → IsInLaterFlush old n
+    (n : SegmentMemory) → IsKept old → IsCounted m.between → IsCutAt m.between n → IsInLaterFlush old n

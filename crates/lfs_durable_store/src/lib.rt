@@ -6,6 +6,7 @@ mod cleaning;
 mod files;
 mod fitting;
 mod laws;
+mod showing;
 mod store;
 
 pub use laws::{behind_is_later, finds_prefix, mark_is_later, survives_later};

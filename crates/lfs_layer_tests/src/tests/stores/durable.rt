@@ -1,13 +1,16 @@
 //! A durable store of 6 segments: a file's removal waits while a segment of its blocks is made clean.
 
-use crate::tests::expect_eq;
+use crate::tests::{expect_bytes, expect_eq};
+use lfs_checking::standing::ChecksLog;
 use lfs_durable_store::DurableStore;
 use lfs_types::attrs::{Attrs, Kind};
 use lfs_types::cleaned::CleanedStore;
 use lfs_types::cleaner::{CleanFault, InfoList, MarkList};
 use lfs_types::file_flags::FileFlags;
+use lfs_types::level::Level;
 use lfs_types::mode::Mode;
 use lfs_types::store::{Change, FileStore, Params, Reserve};
+use lfs_view::shows::ShowsLog;
 use std::alloc::Global;
 use std::process::Abort;
 
@@ -102,20 +105,19 @@ fn fill(rt: &impl Abort, store: &mut DurableStore) -> u32 {
     ino
 }
 
-/// Puts 8 blocks into a file. Gives whether a segment was opened: then what waited before was written before, and nothing
+/// Puts 8 blocks into a file. Asserts that where a segment was opened what waited before was written before, and nothing
 /// waits now.
-fn put_on(rt: &impl Abort, store: &mut DurableStore, ino: u32, block: u8) -> bool {
+fn put_on(rt: &impl Abort, store: &mut DurableStore, ino: u32, block: u8) {
     let before = look(store);
     put(rt, store, ino, block, &[2; 4_096]);
     let after = look(store);
     if after.active == before.active {
-        return false;
+        return;
     }
     let written = if before.waits { 2 } else { 1 };
     let next = before.serial.and_then(|serial| serial.checked_add(written));
     expect_eq(rt, after.serial, next);
     expect_eq(rt, after.waits, false);
-    true
 }
 
 #[test]
@@ -128,13 +130,13 @@ fn no_segment_is_opened_while_something_waits_from_before(rt: HostRuntime) {
     expect_eq(&rt, store.segclean(1), Ok(()));
     // The removal waits still, and segment 1 may be opened from here on.
     expect_eq(&rt, look(&store).waits, true);
-    let mut opened = 0;
     for block in 0..12 {
-        if put_on(&rt, &mut store, second, 8 * block) {
-            opened += 1;
-        }
+        put_on(&rt, &mut store, second, 8 * block);
     }
-    expect_eq(&rt, opened, 2);
+    // It was, and then segment 3: it is dirty.
+    expect_eq(&rt, look(&store).active, 3);
+    let mut infos = InfoList::empty();
+    expect_eq(&rt, store.infos(1, &mut infos), Ok(()));
 }
 
 /// Asserts that the first block of a file has these bytes alone.
@@ -161,4 +163,19 @@ fn the_cleaner_makes_room(rt: HostRuntime) {
     expect_eq(&rt, store.clean_segments() > clean, true);
     expect_first(&rt, &mut store, ino, 1);
     expect_eq(&rt, store.ifile_bytes().is_ok(), true);
+}
+
+#[test]
+fn a_durable_store_shows_its_log(rt: HostRuntime) {
+    let store = fresh(&rt, rt.alloc());
+    // The root's record alone is live.
+    let space =
+        b"segments 5 clean of 6\nbytes 128 live\nnumbers 1 used of 16\nwaiting 0 blocks 0 records\n";
+    let mut text = Vec::new(rt.alloc());
+    store.push_space(&mut text).expect(&rt, "memory");
+    expect_bytes(&rt, &text, space);
+    let well =
+        b"ok\nsegments 5 clean of 6\nbytes 128 live\nnumbers 1 used of 16\nwaiting 0 blocks 0 records\n";
+    let told = store.check(rt.alloc(), Level::Insecure);
+    expect_bytes(&rt, &told.expect(&rt, "memory"), well);
 }
