@@ -1,17 +1,17 @@
 -- Where the entries of a block end: before the zeros at its end, as a name has no zero (`used_is`, for `used`, which looks
 -- for them from the end). A block is its entries' bytes and zeros, and so are the bytes that are left when zeros are taken
 -- off its end as long as one stands there; of two such lists neither is the longer (`zeros_begin`).
-use Rattle.std.proofs.Common.{◌≡◌, ◌≢◌, ℕ, ◌+◌, ◌-◌, ◌<◌, ◌==◌, true, false, List, [], ◌∷◌, ◌++◌, length}
+use Rattle.std.proofs.Common.{◌≡◌, ◌≢◌, ℕ, zero, suc, ◌+◌, ◌-◌, ◌<◌, ◌≤◌, ◌==◌, true, false, List, [], ◌∷◌, ◌++◌, length}
 use Rattle.std.proofs.Common.{drop, take, get_or, replicate, None, sym, ap, ◌∙◌, arith, length-append, append_assoc}
-use Rattle.std.proofs.lemmas.List.{append-nil, get_or-replicate, get_or_append_left, length-replicate, take-append-drop}
+use Rattle.std.proofs.lemmas.List.{append-nil, get_or-replicate, get_or_append_left, get_or_past, length-drop, length-replicate}
+use Rattle.std.proofs.lemmas.List.{take-append-drop}
+use Rattle.std.proofs.lemmas.Nat.{be_bytes_8}
 use Rattle.std.proofs.lemmas.List.{replicate-append-replicate}
 use Rattle.std.proofs.lemmas.Grind.{common_steps}
 use Rattle.std.proofs.lemmas.List.Folds.{list_any_at}
 use Rattle.std.proofs.Math.Seq.{get_or-append_right}
-use Rattle.std.proofs.lemmas.Slice.Eq.{bytes_eq-Decides}
 use Rattle.std.specs.List.{list_any}
-use Rattle.std.specs.Prelude.{bytes_eq}
-use Rattle.std.specs.Int.{w32, to_be_bytes}
+use Rattle.std.specs.Int.{w32, w64, from_be_bytes, to_be_bytes}
 use Rattle.lfs_types.specs.Naming.{name_fault}
 use Rattle.lfs_dirs.specs.Directory.{Entry, entry_bytes, used_of, AreEntries, IsDirectoryBlock, IsEntry}
 use Rattle.lfs_dirs.proofs.Laws.{bytes_of, length-bytes_of, length-name, Spells-bytes}
@@ -36,13 +36,32 @@ front_shorter bytes front rest k f is = (
       ∙ ap (λ bs. rest ++ bs) (replicate-append-replicate k f.0 0),
 )
 
--- bytes that end in a group
-pub group_off : (front rest group : List ℕ) → bytes_eq (drop (length front - length group) front) group ≡ true
-    → rest ≡ take (length front - length group) front → front ≡ rest ++ group
-group_off front rest group same is =
-    sym (take-append-drop (length front - length group) front)
-    ∙ ap (λ bs. bs ++ drop (length front - length group) front) (sym is)
-    ∙ ap (λ bs. rest ++ bs) ((bytes_eq-Decides _ group).0 same)
+-- bytes that spell 0 are below 256
+eight_small : (group : List ℕ) → length group ≡ 8 → from_be_bytes w64 group ≡ 0 → (i : ℕ) → get_or group i 0 < 256
+eight_small group long none zero = omega (arith, none)
+eight_small group long none (suc zero) = omega (arith, none)
+eight_small group long none (suc (suc zero)) = omega (arith, none)
+eight_small group long none (suc (suc (suc zero))) = omega (arith, none)
+eight_small group long none (suc (suc (suc (suc zero)))) = omega (arith, none)
+eight_small group long none (suc (suc (suc (suc (suc zero))))) = omega (arith, none)
+eight_small group long none (suc (suc (suc (suc (suc (suc zero)))))) = omega (arith, none)
+eight_small group long none (suc (suc (suc (suc (suc (suc (suc zero))))))) = omega (arith, none)
+eight_small group long none (suc (suc (suc (suc (suc (suc (suc (suc n)))))))) =
+    let past = get_or_past group (suc (suc (suc (suc (suc (suc (suc (suc n)))))))) 0 (omega (arith, long)) in
+    omega (arith, past)
+
+-- eight bytes that spell 0 are zeros
+eight_zeros : (group : List ℕ) → length group ≡ 8 → from_be_bytes w64 group ≡ 0 → group ≡ replicate 8 0
+eight_zeros group long none = sym (be_bytes_8 group 0 long (eight_small group long none) (sym none))
+
+-- bytes that end in a group of them
+pub group_off : (front rest group : List ℕ) → 8 ≤ length front → rest ≡ take (length front - 8) front
+    → group ≡ drop (length front - 8) front → from_be_bytes w64 group ≡ 0 → front ≡ rest ++ replicate 8 0
+group_off front rest group some is_rest is_group none =
+    let long : length group ≡ 8 = ap length is_group ∙ omega (arith, length-drop (length front - 8) front) in
+    sym (take-append-drop (length front - 8) front)
+    ∙ ap (λ bs. bs ++ drop (length front - 8) front) (sym is_rest)
+    ∙ ap (λ bs. rest ++ bs) (sym is_group ∙ eight_zeros group long none)
 
 -- a name has no zero
 no_zero : (name : List ℕ) → name_fault name ≡ None → list_any (λ b. b == 0) name ≡ false

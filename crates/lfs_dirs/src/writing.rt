@@ -9,9 +9,6 @@ use byteorder::{BigEndian, ByteOrder};
 use lfs_types::block::{BLOCK_SIZE, Block};
 use lfs_types::name::Name;
 
-/// A group of zeros, which are looked for at once.
-const ZEROS: [u8; 32] = [0; 32];
-
 /// The block with an entry more at the end of its list, or None exactly where five bytes and the name
 /// don't fit behind the entries.
 pub fn added(block: &Block, name: &Name, number: u32) -> Option<Block>
@@ -138,12 +135,15 @@ fn used(block: &Block) -> usize
     without_zeros(without_groups(block)).len()
 }
 
-/// The bytes before as many whole groups of zeros as stand at the end.
+/// The bytes before as many groups of eight zeros as stand at the end. A group is read as one number.
 fn without_groups(bytes: &[u8]) -> &[u8]
     ensures { (n : ℕ) × (bytes.now ≡ result.now ++ replicate n 0) }
 {
     let mut front = bytes;
-    while let Some(rest) = front.strip_suffix(&ZEROS) {
+    while let Some((rest, group)) = front.split_last_chunk::<8>() {
+        if u64::from_be_bytes(*group) != 0 {
+            return front;
+        }
         front = rest;
     }
     front
