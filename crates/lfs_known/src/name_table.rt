@@ -1,6 +1,6 @@
 //! A table of where the names of large directories stand, as FreeBSD's dirhash.
 
-ghost use Rattle.std.specs.Prelude.{◌≡◌, ◌≤◌, ◌<◌, ◌*◌, ℕ, List, take, drop, None, IfOk, IsSome, is_some, nat_le, vec_len};
+ghost use Rattle.std.specs.Prelude.{◌≡◌, ◌≤◌, ◌<◌, ◌*◌, ℕ, List, take, drop, None, Some, IfOk, IsSome, is_some, nat_le, vec_len};
 ghost use Rattle.lfs_types.specs.declared.block.TheConstants.{BLOCK_SIZE};
 ghost use Rattle.lfs_types.specs.Stored.{bytes_of};
 ghost use Rattle.lfs_types.specs.Tree.{Content};
@@ -28,7 +28,7 @@ pub struct NameTable {
 }
 
 impl NameTable {
-    ghost use Rattle.lfs_known.specs.Says.{says};
+    ghost use Rattle.lfs_known.specs.Says.{kept_of, says};
     ghost use Rattle.lfs_known.specs.Spots.{ArePlaced, IsPlaced, MayStand};
 
     /// A table that knows no directory. All its room is taken here.
@@ -114,7 +114,8 @@ impl NameTable {
 
     /// A directory of so many blocks is known, as all its names were entered.
     pub fn know(&mut self, dir: u32, blocks: u64)
-        ensures { (c : Content) → IsPlaced self.old.spots.items dir (bytes_of c dir) blocks
+        ensures known { says self.new.whole dir ≡ kept_of dir (Some blocks) }
+        ensures placed { (c : Content) → IsPlaced self.old.spots.items dir (bytes_of c dir) blocks
             → ArePlaced self.old c → ArePlaced self.new c }
     {
         self.whole.enter(dir, blocks);

@@ -47,6 +47,6 @@ keep_table-requires g c =
     let long : length bytes ≡ 512 * (c.args.size / 512) = omega (arith, c.requires.sized, c.requires.whole) in
     let past = c.in_default-next.ensures.next.0 in
     subst (ArePlaced c.know.new.self) (sym (same_content (c.next.ensures.state ∙ still.state)))
-    (c.know.ensures s (all_placed c.loop-stored.table.spots.items c.args.dir bytes (c.args.size / 512)
+    (c.know.ensures.placed s (all_placed c.loop-stored.table.spots.items c.args.dir bytes (c.args.size / 512)
     c.loop-stored.blocks.next long (omega (arith, still.sized, past)) c.loop-stored.invariant.entered)
     c.loop-stored.invariant.placed)
