@@ -379,7 +379,7 @@ def check_tutorial(told):
 def check_words(told):
     """The words that a terminal completes (rlwrap -f) are those of a line's verbs, of the shell's own and the fixed ones."""
     path = TOP / "examples/shell/words"
-    sources = (("lfs_script/src/verb.rt", r'=> "(\w+)"'), ("lfs_print/src/cleaner.rt", r'=> "(\w+)"'),
+    sources = (("lfs_script/src/verb.rt", r'"(\w+)" => Verb'), ("lfs_print/src/cleaner.rt", r'=> "(\w+)"'),
                ("lfs_hearing/src/hearing.rt", r'=> "(\.\w+)"'))
     wanted = {word for file, form in sources for word in re.findall(form, (TOP / "crates" / file).read_text())}
     wanted |= {".why", ".who", ".ls", ".cat", ".tree", ".check", ".save", "help", "?", "at", "end", "init"}

@@ -3,7 +3,7 @@
 -- `push_unread_place`). What is told of the rest of the line from here is what is told of the whole, so each step
 -- passes what is good, with its column, and stops at the first that isn't. Where none is found nothing is told
 -- (`byte_none` and its like); a text that told two places would need another invariant.
-use Rattle.std.proofs.Common.{◌≡◌, ℕ, Bool, ◌+◌, ◌<◌, ◌≤◌, true, false, List, [], ◌∷◌, ◌++◌, length, map, drop, get_or, Bor, refl}
+use Rattle.std.proofs.Common.{◌≡◌, ℕ, ◌+◌, ◌<◌, ◌≤◌, true, false, List, [], ◌∷◌, ◌++◌, length, map, drop, get_or, Bor, refl}
 use Rattle.std.proofs.Common.{◌∙◌, OnOk, Result}
 use Rattle.std.proofs.Math.ListN.{drop_of_length-le}
 use Rattle.std.proofs.lemmas.List.{append-nil, drop_more, get_or-map, length-map}

@@ -3,11 +3,10 @@
 -- empty, so the line is split into just these words (induction), and it's printable, so it's no fault. No verb begins
 -- as a comment does, and each is found in the table by its own name (`is_verb`); a new call needs its line there, and a
 -- verb like `#` would be skipped.
-use Rattle.std.proofs.Common.{◌≡◌, ℕ, ◌<◌, ◌≤◌, ◌==◌, Bool, true, false, cond, List, [], ◌∷◌, ◌++◌, length, get_or}
-use Rattle.std.proofs.Common.{codes, None, Some, Ok, refl, ap, sym, subst, ◌∙◌, arith, rules, tests}
-use Rattle.std.specs.Prelude.{decimal, nat_le, not, ◌&&◌}
-use Rattle.std.specs.List.{All, flat_map, list_all, list_any, slice_split}
-use Rattle.std.specs.Str.{bytes_eq}
+use Rattle.std.proofs.Common.{◌≡◌, ℕ, ◌==◌, true, false, List, [], ◌∷◌, ◌++◌, length, get_or}
+use Rattle.std.proofs.Common.{Some, Ok, refl, ap, ◌∙◌, arith, rules, tests}
+use Rattle.std.specs.Prelude.{nat_le, not, ◌&&◌}
+use Rattle.std.specs.List.{All, list_all, list_any}
 use Rattle.std.proofs.lemmas.Bool.{and_parts, ne_eqb}
 use Rattle.std.proofs.lemmas.List.{append-nil}
 use Rattle.std.proofs.lemmas.List.Folds.{list_all-append}

@@ -1,10 +1,9 @@
 //! The first words of lines.
 
 ghost use Rattle.std.specs.Prelude.{◌≡◌};
-ghost use Rattle.lfs_script.specs.Verbs.{request_word, verb_of, verb_word};
+ghost use Rattle.lfs_script.specs.Verbs.{request_word, verb_of};
 
 use lfs_model::journal::CleanerKind;
-use lfs_print::cleaner::cleaner_word;
 
 /// A user's call without what it is given.
 #[derive(Clone, Copy)]
@@ -56,53 +55,39 @@ pub enum Verb {
     Pass,
 }
 
-/// Every verb, those of most lines first: a word is compared with one after the other.
-const VERBS: [Verb; 24] = [
-    Verb::User(RequestKind::Write),
-    Verb::User(RequestKind::Read),
-    Verb::User(RequestKind::Stat),
-    Verb::User(RequestKind::Create),
-    Verb::User(RequestKind::Unlink),
-    Verb::User(RequestKind::Rename),
-    Verb::As,
-    Verb::User(RequestKind::List),
-    Verb::User(RequestKind::SetLength),
-    Verb::User(RequestKind::Mkdir),
-    Verb::User(RequestKind::Rmdir),
-    Verb::User(RequestKind::Chmod),
-    Verb::User(RequestKind::Chown),
-    Verb::User(RequestKind::Chflags),
-    Verb::User(RequestKind::SetLevel),
-    Verb::User(RequestKind::Sync),
-    Verb::Session,
-    Verb::Cleaner(CleanerKind::Ifile),
-    Verb::Cleaner(CleanerKind::Infos),
-    Verb::Cleaner(CleanerKind::Bmapv),
-    Verb::Cleaner(CleanerKind::Markv),
-    Verb::Cleaner(CleanerKind::Segclean),
-    Verb::Cleaner(CleanerKind::Gain),
-    Verb::Pass,
-];
-
 impl Verb {
-    /// The verb that a word names.
+    /// The verb that a word names. Those of most lines come first, as a word is compared with one after the other.
     pub fn of(word: &str) -> Option<Verb>
         ensures { result ≡ verb_of word.now }
     {
-        VERBS.iter().copied().find(|verb| verb.word() == word)
-    }
-
-    /// The word.
-    fn word(self) -> &'static str
-        ensures { result.now ≡ verb_word self }
-    {
-        match self {
-            Verb::Session => "session",
-            Verb::As => "as",
-            Verb::User(kind) => request_word(kind),
-            Verb::Cleaner(kind) => cleaner_word(kind),
-            Verb::Pass => "pass",
-        }
+        let verb = match word {
+            "write" => Verb::User(RequestKind::Write),
+            "read" => Verb::User(RequestKind::Read),
+            "stat" => Verb::User(RequestKind::Stat),
+            "create" => Verb::User(RequestKind::Create),
+            "unlink" => Verb::User(RequestKind::Unlink),
+            "rename" => Verb::User(RequestKind::Rename),
+            "as" => Verb::As,
+            "list" => Verb::User(RequestKind::List),
+            "length" => Verb::User(RequestKind::SetLength),
+            "mkdir" => Verb::User(RequestKind::Mkdir),
+            "rmdir" => Verb::User(RequestKind::Rmdir),
+            "chmod" => Verb::User(RequestKind::Chmod),
+            "chown" => Verb::User(RequestKind::Chown),
+            "chflags" => Verb::User(RequestKind::Chflags),
+            "level" => Verb::User(RequestKind::SetLevel),
+            "sync" => Verb::User(RequestKind::Sync),
+            "session" => Verb::Session,
+            "ifile" => Verb::Cleaner(CleanerKind::Ifile),
+            "infos" => Verb::Cleaner(CleanerKind::Infos),
+            "bmapv" => Verb::Cleaner(CleanerKind::Bmapv),
+            "markv" => Verb::Cleaner(CleanerKind::Markv),
+            "segclean" => Verb::Cleaner(CleanerKind::Segclean),
+            "gain" => Verb::Cleaner(CleanerKind::Gain),
+            "pass" => Verb::Pass,
+            _ => return None,
+        };
+        Some(verb)
     }
 }
 
