@@ -3,7 +3,8 @@
 -- store over this log has the same content and shows the same world (`flushed_world`). A log has one image and bytes
 -- are the image of one log, so a verdict on these bytes is on this log; and it can't be a fault, as that would say that
 -- they are no volume.
-use Rattle.std.proofs.Common.{◌≡◌, ℕ, zero, suc, ◌||◌, Bool, true, false, List, [], ◌∷◌, length, refl, sym, ap, subst, ◌∙◌, arith}
+use Rattle.std.proofs.Common.{◌≡◌, ℕ, zero, suc, ◌||◌, Bool, true, false, List, [], ◌∷◌, length, refl, sym, ap, subst}
+use Rattle.std.proofs.Common.{None, ◌∙◌, arith}
 use Rattle.std.specs.Prelude.{nat_lt}
 use Rattle.std.proofs.lemmas.Bool.{false≢true, lt-ltb}
 use Rattle.lfs_types.specs.Ranges.{least_frames}
@@ -36,7 +37,8 @@ flushed_now p none =
     record { no_record = no_length p.waiting both.1; no_frame = no_length p.cache.locked both.0 }
 
 -- what such a store shows, one over its log shows
-pub flushed_world : (p : Parts) (frames : ℕ) → IsFlushed p → HasWorld (state_of p) → HasWorld (state_of (stored frames p.log))
+pub flushed_world : (p : Parts) (frames : ℕ) → IsFlushed p → HasWorld (state_of p)
+    → HasWorld (state_of (stored frames p.log))
 flushed_world p frames done world =
     let same : content_of (stored frames p.log) ≡ content_of p =
     content_of-same p (stored frames p.log) refl (λ k low. flushed_files p done frames k) in
@@ -44,6 +46,7 @@ flushed_world p frames done world =
       content = c;
       clean = p.log.clean;
       shape = shape_of (length p.log.tables.rows) p.log.memory.segments;
+      base = None;
     })) (sym same) world
 
 pub flushed_volume : (p : Parts) (level : Level) → IsFlushed p → IsStore p → HasWorld (state_of p) → IsLabelled p.log

@@ -29,13 +29,18 @@ content_of ps = content_from 0 ps
 abbrev pub shape_of : ℕ → Shape
 shape_of numbers = record { numbers = numbers; segments = most_segments; can_lack_memory = true; has_share = false }
 
--- a store of so many places, all of whose segments are clean
+-- a store of so many places, all of whose segments are clean; it tells no base
 abbrev pub state_of : ℕ → List Place → StoreState
-state_of numbers ps = record { content = content_of ps; clean = most_segments; shape = shape_of numbers }
+state_of numbers ps = record { content = content_of ps; clean = most_segments; shape = shape_of numbers; base = None }
 
 -- a fresh store with so many inode numbers
 abbrev pub opening_state : ℕ → StoreState
-opening_state numbers = record { content = opening_content; clean = most_segments; shape = shape_of numbers }
+opening_state numbers = record {
+  content = opening_content;
+  clean = most_segments;
+  shape = shape_of numbers;
+  base = None;
+}
 
 -- the file of a number, if there is one
 abbrev pub file_in : List Place → ℕ → Option File

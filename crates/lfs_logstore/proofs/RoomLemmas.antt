@@ -2,7 +2,7 @@
 -- cache came or went, for `LogStore::gain`, `markv` and `read`. What waits takes a block for each entry and one for a
 -- summary, and none where there is no entry. Clean blocks are no entries and no part of the content, so both the room
 -- that is wanted and what the store shows stay as they were.
-use Rattle.std.proofs.Common.{◌≡◌, ℕ, ◌+◌, List, length, ap, sym, ◌∙◌, inl, inr, arith}
+use Rattle.std.proofs.Common.{◌≡◌, ℕ, ◌+◌, List, length, None, ap, sym, ◌∙◌, inl, inr, arith}
 use Rattle.std.specs.Prelude.{if◌then◌else◌, ◌==◌}
 use Rattle.lfs_inodes.specs.declared.inode.Inode.{Inode}
 use Rattle.lfs_segwrite.specs.Applying.{HasRoom, waiting_blocks}
@@ -55,4 +55,5 @@ same_state p q h =
       clean = (ap (λ (l : LogParts). l.clean) h.log) i;
       shape = shape_of ((ap (λ (l : LogParts). length l.tables.rows) h.log) i)
           ((ap (λ (l : LogParts). l.memory.segments) h.log) i);
+      base = None;
     }

@@ -2,7 +2,7 @@
 
 ghost use Rattle.std.specs.Prelude.{◌≡◌, ◌≤◌, length, IfErr, IfOk, OnErr, OnOk};
 ghost use Rattle.lfs_types.specs.Cleaned.{CleanerCalls, IsGainFault, IsListingFault, IsMarkingFault, IsReclaimFault, ifile_size, with_clean_segment};
-ghost use Rattle.lfs_types.specs.StoreStates.{Follows};
+ghost use Rattle.lfs_types.specs.StoreStates.{Follows, MovesBase};
 
 use crate::cleaner::{BlockInfo, CleanFault, InfoList, MarkList};
 use crate::store::FileStore;
@@ -39,7 +39,8 @@ pub trait CleanedStore: FileStore {
         ensures few { IfOk result (λ count. count ≤ length marks.now) }
         ensures fault { IfErr result IsMarkingFault }
         ensures content { (Self.state self.new).content ≡ (Self.state self.old).content }
-        ensures follows { Follows (Self.state self.old) (Self.state self.new) };
+        ensures follows { Follows (Self.state self.old) (Self.state self.new) }
+        ensures base { MovesBase (Self.state self.old) (Self.state self.new) };
 
     /// Makes a dirty segment without live bytes clean.
     fn segclean(&mut self, segment: u32) -> Result<(), CleanFault>
@@ -57,5 +58,6 @@ pub trait CleanedStore: FileStore {
         ensures content { (Self.state self.new).content ≡ (Self.state self.old).content }
         ensures gained { OnOk result
             (Follows (with_clean_segment (Self.state self.old)) (Self.state self.new)) }
-        ensures failed { OnErr result (Follows (Self.state self.old) (Self.state self.new)) };
+        ensures failed { OnErr result (Follows (Self.state self.old) (Self.state self.new)) }
+        ensures base { MovesBase (Self.state self.old) (Self.state self.new) };
 }

@@ -1,4 +1,4 @@
-use Rattle.std.proofs.Common.{◌<◌, [], length, is_some, ap, ◌∙◌, arith}
+use Rattle.std.proofs.Common.{◌<◌, [], length, None, is_some, ap, ◌∙◌, arith}
 use Rattle.std.specs.FinMap as map
 use Rattle.lfs_types.specs.Tree.{file_of}
 use Rattle.lfs_flatfiles.specs.FlatFiles.{shape_of}
@@ -21,4 +21,9 @@ returns-clause-opening c =
     ∙ ap (λ m. map.insert m 2 (file_of c.root_attrs.result []))
     (content_of-none places.items c.in_ok-places.ensures.none)
     ∙ ap (λ a. map.insert map.empty 2 (file_of a [])) c.root_attrs.ensures in
-    λ i. record { content = content i; clean = most_segments; shape = shape_of (c.in_ok-places.ensures.count i) }
+    λ i. record {
+      content = content i;
+      clean = most_segments;
+      shape = shape_of (c.in_ok-places.ensures.count i);
+      base = None;
+    }
