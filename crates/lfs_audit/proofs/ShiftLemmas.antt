@@ -84,6 +84,7 @@ act_shifted r limit most here from journal longer old new caller (acts.User requ
             unasked = alone.unasked;
             synced = alone.synced;
             follows = alone.follows;
+            base = alone.base;
           };
       asked = made.asked;
     }

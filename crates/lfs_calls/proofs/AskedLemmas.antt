@@ -7,7 +7,7 @@ use Rattle.std.proofs.Common.{◌≡◌, List, [], ◌∷◌, Result, Ok, Err, r
 use Rattle.lfs_types.specs.Caller.{Caller}
 use Rattle.lfs_types.specs.Changes.{applied}
 use Rattle.lfs_types.specs.Reserves.{reserve_of}
-use Rattle.lfs_types.specs.StoreStates.{StoreState}
+use Rattle.lfs_types.specs.StoreStates.{MovesBase, StoreState}
 use Rattle.lfs_types.specs.Tree.{Content}
 use Rattle.lfs_types.specs.declared.answer.Answer.{Answer}
 use Rattle.lfs_types.specs.declared.answer.Answer.TheVariants as answers
@@ -68,8 +68,9 @@ module _ {F : Type 0} (state : F → StoreState) (made : F → List Change → R
   pub asks_now : {old mid new : F} {by named : Reserve} {P : Content → Type 0} {result : Result (Unit {0}) StoreRefusal}
       (change : Change) (changes : List Change)
       → named ≡ by → state mid ≡ state old → made mid (change ∷ changes) named result new
+      → MovesBase (state mid) (state new)
       → P (applied (change ∷ changes) (state old).content) → Asks state made old by P result new
-  asks_now {mid = mid} {new = new} {result = result} change changes by_is same came makes = record {
+  asks_now {mid = mid} {new = new} {result = result} change changes by_is same came base makes = record {
     changes = change ∷ changes;
     came = record {
       before = mid;
@@ -77,6 +78,7 @@ module _ {F : Type 0} (state : F → StoreState) (made : F → List Change → R
       as_old = same;
       came = subst (λ (b : Reserve). made mid (change ∷ changes) b result new) by_is came;
       as_new = refl;
+      base = subst (λ (s : StoreState). MovesBase s (state new)) same base;
     };
     makes = makes;
   }
@@ -85,6 +87,7 @@ module _ {F : Type 0} (state : F → StoreState) (made : F → List Change → R
   pub asks_list : {old mid new : F} {by named : Reserve} {P : Content
       → Type 0} {result : Result (Unit {0}) StoreRefusal} {change : Change} {changes : List Change}
       → named ≡ by → state mid ≡ state old → made mid (change ∷ changes) named result new
+      → MovesBase (state mid) (state new)
       → P (applied (change ∷ changes) (state old).content) → Asks state made old by P result new
   asks_list {change = change} {changes = changes} = asks_now change changes
 
@@ -92,8 +95,14 @@ module _ {F : Type 0} (state : F → StoreState) (made : F → List Change → R
       → state mid ≡ state old → ComesOf state made mid changes by result new
       → ComesOf state made old changes by result new
   comes_of new by result [] same (ok, is) = (ok, is ∙ same)
-  comes_of new by result (change ∷ changes) same w =
-      record { before = w.before; after = w.after; as_old = w.as_old ∙ same; came = w.came; as_new = w.as_new }
+  comes_of new by result (change ∷ changes) same w = record {
+    before = w.before;
+    after = w.after;
+    as_old = w.as_old ∙ same;
+    came = w.came;
+    as_new = w.as_new;
+    base = subst (λ (s : StoreState). MovesBase s (state new)) same w.base;
+  }
 
   -- what was asked in a state that is the same, for changes that make more
   pub asks_from : {old mid new : F} {by : Reserve} {P Q : Content → Type 0} {result : Result (Unit {0}) StoreRefusal}

@@ -3,6 +3,7 @@ pub mod ArrivalLemmas
 pub mod AskLemmas
 pub mod AskedLemmas
 pub mod AttributeLemmas
+pub mod BaseLemmas
 pub mod CallLemmas
 pub mod ChangeLemmas
 pub mod ChangedStore

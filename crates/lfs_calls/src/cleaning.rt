@@ -2,7 +2,7 @@
 
 ghost use Rattle.std.specs.Prelude.{◌≡◌, ◌≤◌, length, IfErr, IfOk, OnErr, OnOk};
 ghost use Rattle.lfs_types.specs.Cleaned.{IsGainFault, IsListingFault, IsMarkingFault, IsReclaimFault, ifile_size, with_clean_segment};
-ghost use Rattle.lfs_types.specs.StoreStates.{Follows};
+ghost use Rattle.lfs_types.specs.StoreStates.{Follows, MovesBase};
 
 use crate::cached_store::CachedStore;
 use lfs_types::cleaned::CleanedStore;
@@ -43,6 +43,7 @@ impl<F: CleanedStore> CachedStore<F> {
         ensures fault { IfErr result IsMarkingFault }
         ensures content { (F.state self.new).content ≡ (F.state self.old).content }
         ensures follows { Follows (F.state self.old) (F.state self.new) }
+        ensures base { MovesBase (F.state self.old) (F.state self.new) }
     {
         self.store.markv(marks)
     }
@@ -65,6 +66,7 @@ impl<F: CleanedStore> CachedStore<F> {
         ensures gained { OnOk result
             (Follows (with_clean_segment (F.state self.old)) (F.state self.new)) }
         ensures failed { OnErr result (Follows (F.state self.old) (F.state self.new)) }
+        ensures base { MovesBase (F.state self.old) (F.state self.new) }
     {
         self.store.gain_room()
     }

@@ -2,6 +2,7 @@
 
 ghost use Rattle.std.specs.Prelude.{◌≡◌, OnOk};
 ghost use Rattle.lfs_types.specs.Caller.{Caller};
+ghost use Rattle.lfs_types.specs.StoreStates.{MovesBase};
 ghost use Rattle.lfs_calls.specs.Asked.{IsAsked};
 ghost use Rattle.lfs_calls.specs.Calls.{IsCall, IsCallAt, answered};
 ghost use Rattle.lfs_calls.specs.Levels.{level_left};
@@ -39,6 +40,8 @@ pub fn serve<F: FileStore>(
         cred.now request.now result }
     ensures level { level.new ≡ level_left level.old request.now (answered result) }
     ensures synced { request.now ≡ Request.Sync → OnOk result (F.is_flushed store.new) }
+    ensures base { request.now ≡ Request.Sync
+        → MovesBase (F.state store.old) (F.state store.new) }
     ensures asked { IsAsked F.state F.made store.old cred.now request.now (answered result)
         store.new }
 {
@@ -82,6 +85,7 @@ fn sync<F: FileStore>(store: &mut CachedStore<F>) -> Result<Served, CallFault>
     ensures call { (caller : Caller) → IsCall (F.state store.old) (F.state store.new) caller
         Request.Sync result }
     ensures synced { OnOk result (F.is_flushed store.new) }
+    ensures base { MovesBase (F.state store.old) (F.state store.new) }
 {
     store.sync()?;
     Ok(Served::Done)

@@ -6,7 +6,7 @@
 use Rattle.std.proofs.Common.{◌≡◌, ◌↔◌, ℕ, ◌<◌, List, [], ◌∷◌, ◌++◌, length, refl, sym, ap, subst, append_assoc}
 use Rattle.std.proofs.Common.{append-nil}
 use Rattle.lfs_types.specs.Caller.{Caller}
-use Rattle.lfs_types.specs.StoreStates.{Follows, StoreState}
+use Rattle.lfs_types.specs.StoreStates.{Follows, MovesBase, StoreState}
 use Rattle.lfs_types.specs.Tree.{World}
 use Rattle.lfs_types.specs.declared.answer.Answer.{Answer}
 use Rattle.lfs_types.specs.declared.answer.Answer.TheVariants.{Served, Refused}
@@ -41,9 +41,10 @@ pub call_made : {F : Type 0} (state : F → StoreState) (is_flushed : F → Type
     → OnUnasked answer (state new.store ≡ state old.store)
     → (request ≡ Sync → answer ≡ Served Done → is_flushed new.store)
     → Follows (state old.store) (state new.store)
+    → MovesBase (state old.store) (state new.store)
     → IsCallMade state is_flushed old.limit from old.journal old.store caller request answer new.store
 call_made {F} state is_flushed from old new caller request answer full at_limit shown outcome entries unserved looks
-    unasked synced follows = record {
+    unasked synced follows base = record {
       full = full;
       at_limit = λ h. ap (λ (v : Seen F). v.store) (at_limit h);
       shown = shown;
@@ -54,6 +55,7 @@ call_made {F} state is_flushed from old new caller request answer full at_limit 
       unasked = unasked;
       synced = synced;
       follows = follows;
+      base = base;
     }
 
 -- one more call was made

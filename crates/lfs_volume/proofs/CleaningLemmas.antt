@@ -6,7 +6,8 @@
 use Rattle.std.proofs.Common.{◌≡◌, ℕ, ◌+◌, ◌≤◌, List, Some, inr, refl, sym, subst}
 use Rattle.std.specs.Prelude.{IfSome}
 use Rattle.lfs_types.specs.Caller.{Caller}
-use Rattle.lfs_types.specs.StoreStates.{StoreState}
+use Rattle.lfs_types.specs.Cleaned.{with_clean_segment}
+use Rattle.lfs_types.specs.StoreStates.{MovesBase, StoreState}
 use Rattle.lfs_types.specs.Tree.{World}
 use Rattle.lfs_types.specs.declared.answer.Resource.TheVariants.{NoMemory, NoSpace, NoInodes, DirectoryFull}
 use Rattle.lfs_types.specs.declared.answer.Resource.TheVariants.{JournalFull}
@@ -24,6 +25,7 @@ use Rattle.lfs_model.specs.Cleaning.{IsCleaning, kind_of}
 use Rattle.lfs_model.specs.Runs.{act_of, cleans, outcome_of}
 use Rattle.lfs_model.specs.Steps.{world_after}
 use Rattle.lfs_calls.specs.Content.{Shows}
+use Rattle.lfs_calls.proofs.BaseLemmas.{same_told}
 use Rattle.lfs_volume.specs.Cleanings.{Cleaner as Store, CleansOnly, IsCleaned, IsCleanerAnswer, IsDone}
 use Rattle.lfs_volume.specs.Cleanings.{MayWantMemory}
 use Rattle.lfs_volume.specs.Journals.{IsJournal, IsStep}
@@ -96,3 +98,7 @@ IsStep-cleaned from old new level es limit caller call answer outcome j is comes
       comes (is.told none);
   shape = shape_stays answer old new is.leaves;
 }
+
+-- a segment that was made clean leaves the base
+pub reclaimed_base : (old new : StoreState) → new ≡ with_clean_segment old → MovesBase old new
+reclaimed_base old new same = subst (MovesBase old) (sym same) (same_told old.content old.content old.base)

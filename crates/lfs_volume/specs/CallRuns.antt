@@ -1,7 +1,7 @@
 -- Users' calls, made one after another on a volume.
 use Rattle.std.specs.Prelude.{◌≡◌, ◌↔◌, ℕ, ◌<◌, List, [], ◌∷◌, ◌++◌, length, Result}
 use Rattle.lfs_types.specs.Caller.{Caller}
-use Rattle.lfs_types.specs.StoreStates.{Follows, StoreState}
+use Rattle.lfs_types.specs.StoreStates.{Follows, MovesBase, StoreState}
 use Rattle.lfs_types.specs.Tree.{World}
 use Rattle.lfs_types.specs.declared.answer.Answer.{Answer}
 use Rattle.lfs_types.specs.declared.answer.Answer.TheVariants.{Served, Refused}
@@ -26,8 +26,9 @@ use Rattle.lfs_calls.specs.Volumes.{IsVolume}
 -- JournalFull exactly where the journal has its limit, and then the store is as before; else the answer has its cause
 -- over the store as it was, which shows the journal's world. A call that is served leaves the entries of directories in
 -- their places, and a Sync nothing waiting; one that isn't leaves the content; one that looks, that a rule denies or
--- that wants a number, room for a name or the journal's room leaves the whole state of the store as it was; and the
--- state that is left is a later one (`Follows`).
+-- that wants a number, room for a name or the journal's room leaves the whole state of the store as it was; the state
+-- that is left is a later one (`Follows`); and a base that the store tells is as it was, or as what the store contained
+-- before the call, or contains now.
 pub record IsCallMade {F : Type 0} (state : F → StoreState) (is_flushed : F → Type 0) (limit : ℕ) (from : World)
     (journal : List Entry) (old : F) (caller : Caller) (request : Request) (answer : Answer) (new : F) : Type 0 where
   pub full : (answer ≡ Refused JournalFull) ↔ (length journal ≡ limit)
@@ -42,6 +43,7 @@ pub record IsCallMade {F : Type 0} (state : F → StoreState) (is_flushed : F �
   pub unasked : OnUnasked answer (state new ≡ state old)
   pub synced : request ≡ Sync → answer ≡ Served Done → is_flushed new
   pub follows : Follows (state old) (state new)
+  pub base : MovesBase (state old) (state new)
 
 -- The same, and a call that changes files is served, or refused for want of space or memory, as the store said to the
 -- changes that make it, asked on the caller's behalf, and left the store as they left it.

@@ -3,6 +3,7 @@
 ghost use Rattle.std.specs.Prelude.{◌≡◌, ◌^◌, ◌<◌, ◌≤◌, List, Ok, Err, IfSome, MatchResult, Some, length};
 ghost use Rattle.lfs_types.specs.Caller.{Caller};
 ghost use Rattle.lfs_types.specs.Cleaned.{IsListingFault, ifile_size};
+ghost use Rattle.lfs_types.specs.StoreStates.{MovesBase};
 ghost use Rattle.lfs_types.specs.declared.cleaner.BlockInfo.{BlockInfo};
 ghost use Rattle.lfs_model.specs.Runs.{outcome_of};
 ghost use Rattle.lfs_volume.specs.Cleanings.{IsCleaned, IsCleanerAnswer, IsCounted, IsDone, cleaner_of, reclaim_answer};
@@ -26,6 +27,7 @@ pub fn cleaned<F: CleanedStore>(
         (cleaner_of F.state F.is_flushed F.made F.cleaner)
         store.old cred.now call result store.new }
     ensures cleaned { IsCleaned (F.state store.old) (F.state store.new) cred.now call result }
+    ensures base { MovesBase (F.state store.old) (F.state store.new) }
 {
     if !cred.is_superuser() {
         return CleanerAnswer::Denied(Denial {
@@ -44,6 +46,7 @@ fn done<F: CleanedStore>(store: &mut CachedStore<F>, call: CleanerCall) -> Clean
         store.old call result store.new }
     ensures cleaned { (caller : Caller) → caller.uid ≡ 0
         → IsCleaned (F.state store.old) (F.state store.new) caller call result }
+    ensures base { MovesBase (F.state store.old) (F.state store.new) }
 {
     match call {
         CleanerCall::Ifile => match ifile(store) {
@@ -83,6 +86,7 @@ pub fn reclaimed<F: CleanedStore>(
     ensures cleaned { IsCleaned (F.state store.old) (F.state store.new) cred.now
         (CleanerCall.Segclean segment) (reclaim_answer (Some result)) }
     ensures told { outcome_of (reclaim_answer (Some result)) ≡ Some result }
+    ensures base { MovesBase (F.state store.old) (F.state store.new) }
 {
     if cred.is_superuser() {
         match store.segclean(segment) {

@@ -3,7 +3,7 @@
 ghost use Rattle.std.specs.Prelude.{◌≡◌, ◌↔◌, ◌-◌, ◌^◌, ◌<◌, ◌≤◌, [], ◌∷◌, ◌++◌, length, vec_len, false, ⊤, IfOk, IfErr, MatchOption, None, true};
 ghost use Rattle.std.specs.Vec.{vec_capacity};
 ghost use Rattle.lfs_types.specs.Stored.{shown_attrs};
-ghost use Rattle.lfs_types.specs.StoreStates.{Follows};
+ghost use Rattle.lfs_types.specs.StoreStates.{Follows, MovesBase};
 ghost use Rattle.lfs_types.specs.Tree.{opening_world};
 ghost use Rattle.lfs_types.specs.declared.level.Level.TheVariants.{Insecure};
 ghost use Rattle.lfs_model.specs.Counts.{counts_of};
@@ -143,7 +143,8 @@ impl<F: FileStore + Drop> Volume<F> {
     /// served call leaves the entries of directories in their places, and a Sync nothing waiting in the store. A call
     /// that looks, that a rule denies, or that wants a number or room for a name leaves the store's state as it was.
     /// One that changes files is served, or refused for want of space or memory, as the store says to the changes that
-    /// make it, and does no more than they do.
+    /// make it, and does no more than they do. A store that tells its base has it then as it was, or as what the store
+    /// contained before the call, or contains now.
     pub fn call(&mut self, session: u8, cred: &Cred, request: Request) -> Answer
         ensures full { (result ≡ Answer.Refused Resource.JournalFull)
             ↔ (length self.old.journal ≡ self.old.limit) }
@@ -166,6 +167,7 @@ impl<F: FileStore + Drop> Volume<F> {
             → F.is_flushed self.new.store }
         ensures asked { IsAsked F.state F.made self.old.store cred.now request result
             self.new.store }
+        ensures base { MovesBase (F.state self.old.store) (F.state self.new.store) }
         ensures since { self.new.since ≡ self.old.since }
         ensures since_level { self.new.since_level ≡ self.old.since_level }
         ensures limit { self.new.limit ≡ self.old.limit }
@@ -200,6 +202,7 @@ impl<F: FileStore + Drop> Volume<F> {
             → F.is_flushed self.new.store }
         ensures asked { IsAsked F.state F.made self.old.store cred.now request result
             self.new.store }
+        ensures base { MovesBase (F.state self.old.store) (F.state self.new.store) }
         ensures since { self.new.since ≡ self.old.since }
         ensures since_level { self.new.since_level ≡ self.old.since_level }
         ensures limit { self.new.limit ≡ self.old.limit }
@@ -326,6 +329,7 @@ impl<F: FileStore + Drop> Volume<F> {
     /// What was called and answered, in order, since the journal began.
     pub fn journal(&self) -> &[Entry]
         ensures entries { result.now ≡ self.now.journal }
+        ensures within { length self.now.journal ≤ self.now.limit }
         ensures legal { Since (F.state self.now.since) self.now.since_level (λ from. IsJournal from
             (F.state self.now.store) self.now.level result.now self.now.limit) }
     {
@@ -389,6 +393,7 @@ impl<F: CleanedStore + Drop> Volume<F> {
         ensures stays { Stays (F.state self.old.store) (F.state self.new.store)
             self.old.level self.new.level }
         ensures cleans { CleansOnly result (F.state self.old.store) (F.state self.new.store) }
+        ensures base { MovesBase (F.state self.old.store) (F.state self.new.store) }
         ensures since { self.new.since ≡ self.old.since }
         ensures since_level { self.new.since_level ≡ self.old.since_level }
         ensures limit { self.new.limit ≡ self.old.limit }
@@ -426,6 +431,7 @@ impl<F: CleanedStore + Drop> Volume<F> {
             self.old.level self.new.level }
         ensures cleans { CleansOnly (reclaim_answer result) (F.state self.old.store)
             (F.state self.new.store) }
+        ensures base { MovesBase (F.state self.old.store) (F.state self.new.store) }
         ensures since { self.new.since ≡ self.old.since }
         ensures since_level { self.new.since_level ≡ self.old.since_level }
         ensures limit { self.new.limit ≡ self.old.limit }
@@ -568,6 +574,7 @@ fn answer_twice<F: FileStore>(
         (IsAsked F.state F.made store.old cred.now request.now
         (Answer.Refused Resource.NoMemory) store.new)
         (λ both. IsAsked F.state F.made store.old cred.now request.now both.0 store.new) }
+    ensures base { MovesBase (F.state store.old) (F.state store.new) }
 {
     let answer = answer(store, level, cred, request);
     if lacks_memory(&answer) {
@@ -592,6 +599,7 @@ fn answer<F: FileStore>(
     ensures synced { request.now ≡ Request.Sync → result ≡ Answer.Served Served.Done
         → F.is_flushed store.new }
     ensures asked { IsAsked F.state F.made store.old cred.now request.now result store.new }
+    ensures base { MovesBase (F.state store.old) (F.state store.new) }
 {
     answered(serve(store, level, cred, request))
 }

@@ -18,7 +18,7 @@ returns g c =
     (λ from begins. record {
       made = call_made r.state r.is_flushed from old new asker.cred c.args.request c.call-answer.result
           e.full e.at_limit (e.shown from begins)
-          (λ room. e.outcome room from begins) (e.entries from begins) e.unserved e.looks e.unasked e.synced e.follows;
+          (λ room. e.outcome room from begins) (e.entries from begins) e.unserved e.looks e.unasked e.synced e.follows e.base;
       asked = e.asked;
     })
     e.entered e.limit e.follows.shape e.since e.since_level in

@@ -25,5 +25,5 @@ apply-requires-clause-keeps g c =
 pub returns-clause-asked : goal.returns-clause-asked
 returns-clause-asked g c =
     asks_now g.F.FileStore.state g.F.FileStore.made
-    (SetAttrs c.args.number c.args.attrs) [] refl refl c.apply.ensures.made
+    (SetAttrs c.args.number c.args.attrs) [] refl refl c.apply.ensures.made c.apply.ensures.applies.base
     (sets_attrs (g.F.FileStore.state c.args.store.now).content c.args.number c.args.attrs c.requires.kind _ refl)

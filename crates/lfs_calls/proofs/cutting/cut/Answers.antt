@@ -41,6 +41,6 @@ returns-clause-asked g c =
     let file = c.args.file.now in
     let attrs = record file.attrs { mode = c.mode_after-mode.result } in
     asks_now g.F.FileStore.state g.F.FileStore.made (SetLength file.number c.args.len) (SetAttrs file.number attrs
-    ∷ []) c.of.ensures refl c.apply.ensures.made
+    ∷ []) c.of.ensures refl c.apply.ensures.made c.apply.ensures.applies.base
     (changes_bytes before file.number file.attrs c.requires.shown c.args.cred.now
     (λ (old : List ℕ). resized old c.args.len) c.mode_after-mode.result c.mode_after-mode.ensures _ refl)

@@ -100,7 +100,8 @@ pub returns-clause-asked : goal.returns-clause-asked
 returns-clause-asked g c =
     let t = c.requires.world in
     let same = c.take_name.ensures.state in
-    asks_list g.F.FileStore.state g.F.FileStore.made refl same c.apply_naming.ensures.made (
+    asks_list g.F.FileStore.state g.F.FileStore.made refl same c.apply_naming.ensures.made
+    c.apply_naming.ensures.applies.base (
       c.take_name.new.room,
       c.take_name.ensures.room.0,
       (

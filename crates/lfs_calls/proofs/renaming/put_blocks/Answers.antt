@@ -65,6 +65,7 @@ pub returns-in-None-clause-asked : goal.returns-in-None-clause-asked
 returns-in-None-clause-asked g c =
     let k = (goal.at.returns-in-None-clause-asked g c).Then-taken-room in
     asks_list g.F.FileStore.state g.F.FileStore.made refl refl c.apply_moving.ensures.made
+    c.apply_moving.ensures.applies.base
     (one_written g k None c.in-None.is _ refl)
 
 pub returns-in-Some-clause-changes : goal.returns-in-Some-clause-changes
@@ -84,6 +85,7 @@ pub returns-in-Some-clause-asked : goal.returns-in-Some-clause-asked
 returns-in-Some-clause-asked g c =
     let k = (goal.at.returns-in-Some-clause-asked g c).Then-taken-room in
     asks_list g.F.FileStore.state g.F.FileStore.made refl refl c.apply_moving-in-Some.ensures.made
+    c.apply_moving-in-Some.ensures.applies.base
     (one_written g k (Some c.in-Some.ino) c.in-Some.is _ refl)
 
 pub apply_moving-requires-in-None-gone-clause-can : goal.apply_moving-requires-in-None-gone-clause-can
@@ -111,9 +113,11 @@ apply_moving-requires-in-Some-gone-clause-moves g c =
 pub returns-in-None-gone-clause-asked : goal.returns-in-None-gone-clause-asked
 returns-in-None-gone-clause-asked g c =
     asks_list g.F.FileStore.state g.F.FileStore.made refl refl c.apply_moving-in-None-gone.ensures.made
+    c.apply_moving-in-None-gone.ensures.applies.base
     (two_written _ _ _ _ _ _ _ None c.in-None-gone.is refl)
 
 pub returns-in-Some-gone-clause-asked : goal.returns-in-Some-gone-clause-asked
 returns-in-Some-gone-clause-asked g c =
     asks_list g.F.FileStore.state g.F.FileStore.made refl refl c.apply_moving-in-Some-gone.ensures.made
+    c.apply_moving-in-Some-gone.ensures.applies.base
     (two_written _ _ _ _ _ _ _ (Some c.in-Some-gone.ino) c.in-Some-gone.is refl)

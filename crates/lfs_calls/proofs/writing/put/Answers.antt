@@ -43,7 +43,7 @@ returns-clause-asked g c =
     let file = c.args.file.now in
     let attrs = record file.attrs { mode = c.mode_after-mode.result } in
     asks_now g.F.FileStore.state g.F.FileStore.made (Put file.number c.args.start c.args.bytes)
-    (SetAttrs file.number attrs ∷ []) c.of.ensures refl c.apply.ensures.made
+    (SetAttrs file.number attrs ∷ []) c.of.ensures refl c.apply.ensures.made c.apply.ensures.applies.base
     (changes_bytes before file.number file.attrs c.requires.shown c.args.cred.now
     (λ (old : List ℕ). splice old c.args.start c.args.bytes.now) c.mode_after-mode.result c.mode_after-mode.ensures
     _ refl)

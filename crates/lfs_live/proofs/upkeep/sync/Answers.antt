@@ -25,7 +25,7 @@ returns g c =
             (λ from begins. record {
               made = call_made r.state r.is_flushed from old new cred Sync answer e.full e.at_limit
                   (e.shown from begins) (λ room. e.outcome room from begins) (e.entries from begins) e.unserved
-                  e.looks e.unasked e.synced e.follows;
+                  e.looks e.unasked e.synced e.follows e.base;
               asked = e.asked;
             })
             e.entered e.limit e.follows.shape e.since e.since_level);

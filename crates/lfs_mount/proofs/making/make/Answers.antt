@@ -40,7 +40,7 @@ loop-request-preserved g c =
           i.since_level i.limit
           (λ from here. call_made state flushed from before next caller request answer made.full made.at_limit
           (made.shown from here) (λ room. made.outcome room from here)
-          (made.entries from here) made.unserved made.looks made.unasked made.synced made.follows));
+          (made.entries from here) made.unserved made.looks made.unasked made.synced made.follows made.base));
       entered = subst (λ l. next.journal ≡ old.journal ++ kept (calls_as caller (done ++ request ∷ [])) l) (sym pushed)
           (entered_more caller old.journal before.journal next.journal done answers request answer i.count i.entered
           made.entered);
@@ -91,7 +91,7 @@ returns-then-not-goes_on-clause-made g c =
     i.limit
     (λ from here. call_made state flushed from before next caller request answer made.full made.at_limit
     (made.shown from here) (λ room. made.outcome room from here)
-    (made.entries from here) made.unserved made.looks made.unasked made.synced made.follows)))
+    (made.entries from here) made.unserved made.looks made.unasked made.synced made.follows made.base)))
     (subst (λ l. next.journal ≡ old.journal ++ kept (calls_as caller (done ++ request ∷ [])) l) (sym pushed)
     (entered_more caller old.journal before.journal next.journal done answers request answer i.count i.entered
     made.entered))

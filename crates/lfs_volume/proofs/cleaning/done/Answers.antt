@@ -1,4 +1,5 @@
-use Rattle.std.proofs.Common.{rules}
+use Rattle.std.proofs.Common.{rules, refl}
+use Rattle.lfs_calls.proofs.BaseLemmas.{same_base}
 use Rattle.lfs_volume.proofs.cleaning.done.Goals as goal
 
 pub returns-in-Some-clause-done : goal.returns-in-Some-clause-done
@@ -39,3 +40,18 @@ returns-in-Err-markv-clause-done g c = search rules
 
 pub returns-in-Err-markv-clause-cleaned : goal.returns-in-Err-markv-clause-cleaned
 returns-in-Err-markv-clause-cleaned g c caller root = search rules
+
+pub returns-in-Some-clause-base : goal.returns-in-Some-clause-base
+returns-in-Some-clause-base g c = let state = g.F.FileStore.state c.args.store.now in same_base state state refl
+
+pub returns-in-None-clause-base : goal.returns-in-None-clause-base
+returns-in-None-clause-base g c = let state = g.F.FileStore.state c.args.store.now in same_base state state refl
+
+pub returns-in-Ok-clause-base : goal.returns-in-Ok-clause-base
+returns-in-Ok-clause-base g c = let state = g.F.FileStore.state c.args.store.now in same_base state state refl
+
+pub returns-in-Err-clause-base : goal.returns-in-Err-clause-base
+returns-in-Err-clause-base g c = let state = g.F.FileStore.state c.args.store.now in same_base state state refl
+
+pub returns-in-Bmapv-clause-base : goal.returns-in-Bmapv-clause-base
+returns-in-Bmapv-clause-base g c = let state = g.F.FileStore.state c.args.store.now in same_base state state refl

@@ -1,6 +1,8 @@
 use Rattle.std.proofs.Common.{sym, ap, subst, ◌∙◌}
 use Rattle.lfs_calls.specs.Asked.{IsAsked}
+use Rattle.lfs_calls.specs.Calls.{answered}
 use Rattle.lfs_calls.specs.Levels.{level_left}
+use Rattle.lfs_calls.proofs.BaseLemmas.{call_moves}
 use Rattle.lfs_volume.proofs.JournalLemmas.{of_call, on_done}
 use Rattle.lfs_volume.proofs.volume.answer.Goals as goal
 
@@ -19,3 +21,9 @@ pub returns-clause-asked : goal.returns-clause-asked
 returns-clause-asked g c =
     subst (λ a. IsAsked g.F.FileStore.state g.F.FileStore.made c.args.store.now c.args.cred.now c.args.request.now a
     c.serve.new.store) (sym c.answered.ensures) c.serve.ensures.asked
+
+pub returns-clause-base : goal.returns-clause-base
+returns-clause-base g c =
+    let call = c.serve.ensures.call in
+    call_moves g.F.FileStore.state g.F.FileStore.made c.args.store.now c.serve.new.store c.args.cred.now
+    c.args.request.now (answered c.serve.result) call.looks call.unasked c.serve.ensures.base c.serve.ensures.asked

@@ -1,5 +1,5 @@
 use Rattle.std.proofs.Common.{rules, ◌≡◌, ◌-◌, ◌^◌, ◌<◌, ◌++◌, length, Some, ap, sym, subst, ◌∙◌, arith}
-use Rattle.lfs_types.specs.StoreStates.{StoreState}
+use Rattle.lfs_types.specs.StoreStates.{MovesBase, StoreState}
 use Rattle.lfs_types.specs.Tree.{World}
 use Rattle.lfs_types.specs.declared.answer.Answer.TheVariants.{Refused}
 use Rattle.lfs_types.specs.declared.answer.Resource.TheVariants.{NoMemory}
@@ -136,3 +136,13 @@ pub returns-clause-asked : goal.returns-clause-asked
 returns-clause-asked g c =
     subst (λ v. IsAsked g.F.FileStore.state g.F.FileStore.made v.store c.args.cred.now c.args.request c.in-Some.answer
     c.answer_twice-answers.new.store) c.self.view_is c.in-Some.ensures.asked
+
+pub returns-in_default-clause-base : goal.returns-in_default-clause-base
+returns-in_default-clause-base g c =
+    let k = (goal.at.returns-in_default-clause-base g c).After-answer_twice-answers in
+    subst (λ v. MovesBase (g.F.FileStore.state v.store) (after g k)) c.self.view_is k.answer_twice-answers.ensures.base
+
+pub returns-clause-base : goal.returns-clause-base
+returns-clause-base g c =
+    let k = (goal.at.returns-clause-base g c).After-answer_twice-answers in
+    subst (λ v. MovesBase (g.F.FileStore.state v.store) (after g k)) c.self.view_is k.answer_twice-answers.ensures.base

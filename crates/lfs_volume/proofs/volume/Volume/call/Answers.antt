@@ -1,5 +1,6 @@
 use Rattle.std.proofs.Common.{rules, refl, ◌-◌, ◌^◌, ◌<◌, length, subst, arith}
 use Rattle.lfs_calls.proofs.AskedLemmas.{on_change}
+use Rattle.lfs_calls.proofs.BaseLemmas.{same_base}
 use Rattle.lfs_calls.proofs.CallLemmas.{looks_same}
 use Rattle.lfs_volume.proofs.volume.Volume.call.Goals as goal
 
@@ -97,3 +98,7 @@ returns-then-len-self-clause-asked g c = on_change c.args.request tt
 
 pub returns-clause-asked : goal.returns-clause-asked
 returns-clause-asked g c = search rules
+
+pub returns-then-len-self-clause-base : goal.returns-then-len-self-clause-base
+returns-then-len-self-clause-base g c =
+    let state = g.F.FileStore.state c.args.self.now.store in same_base state state refl

@@ -18,7 +18,7 @@ returns-in-User-clause-made g c = λ from begins.
     (record {
       made = call_made r.state r.is_flushed from old new c.args.step.cred c.in-User.request c.call.result e.full e.at_limit
           (e.shown from begins) (λ room. e.outcome room from begins)
-          (e.entries from begins) e.unserved e.looks e.unasked e.synced e.follows;
+          (e.entries from begins) e.unserved e.looks e.unasked e.synced e.follows e.base;
       asked = e.asked;
     })
 

@@ -47,7 +47,7 @@ loop-session-preserved g c =
           (record {
             made = call_made state flushed from before next one.cred one.request answer made.full made.at_limit
                 (made.shown from here) (λ room. made.outcome room from here)
-                (made.entries from here) made.unserved made.looks made.unasked made.synced made.follows;
+                (made.entries from here) made.unserved made.looks made.unasked made.synced made.follows made.base;
             asked = made.asked;
           }))));
       entered = made.entered
