@@ -15,7 +15,6 @@ pub mod Directories
 pub mod EntryLemmas
 pub mod GrownStore
 pub mod HintLemmas
-pub mod LastNames
 pub mod ListLemmas
 pub mod ListedNames
 pub mod Listings

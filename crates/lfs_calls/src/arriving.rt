@@ -9,8 +9,9 @@ ghost use Rattle.lfs_calls.specs.Volumes.{HasWorld, InWorld};
 
 use crate::cached_store::CachedStore;
 use crate::directory::{is_empty_directory, look_up};
-use crate::walking::{Reached, component, reach};
+use crate::walking::{Reached, reach};
 use lfs_checks::asking::ask;
+use lfs_checks::components::component;
 use lfs_checks::names::{may_enter, may_remove, may_replace, may_search};
 use lfs_checks::site::Site;
 use lfs_types::cred::Cred;

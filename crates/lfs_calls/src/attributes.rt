@@ -9,8 +9,9 @@ ghost use Rattle.lfs_calls.specs.Volumes.{HasWorld};
 
 use crate::cached_store::CachedStore;
 use crate::call_fault::CallFault;
-use crate::walking::{Reached, depth, find};
+use crate::walking::{Reached, find};
 use lfs_checks::attributes::{may_chflags, may_chmod, may_chown, mode_after};
+use lfs_checks::components::depth;
 use lfs_types::answer::Served;
 use lfs_types::attrs::Attrs;
 use lfs_types::cred::Cred;

@@ -89,7 +89,8 @@ impl DirBlocks {
         }
         let off = block_size * self.next;
         self.next += 1;
-        let block = read_block(store, self.dir, off);
+        let mut block = [0; BLOCK_SIZE];
+        read_into(store, self.dir, off, &mut block);
         Some(DirBlock { off, block })
     }
 
@@ -116,18 +117,6 @@ pub(crate) struct NewEntry<'a> {
     pub(crate) name: &'a Name,
     /// The number that the name leads to.
     pub(crate) number: u32,
-}
-
-/// The block of a file that begins at byte `off`.
-pub(crate) fn read_block<F: FileStore>(store: &mut CachedStore<F>, ino: u32, off: u64) -> Block
-    requires used { IsSome (get (F.state store.old).content ino) }
-    requires whole { off + BLOCK_SIZE ≤ length (bytes_of (F.state store.old).content ino) }
-    ensures block { result ≡ take BLOCK_SIZE (drop off (bytes_of (F.state store.old).content ino)) }
-    ensures state { F.state store.new ≡ F.state store.old }
-{
-    let mut block = [0; BLOCK_SIZE];
-    read_into(store, ino, off, &mut block);
-    block
 }
 
 /// Reads the block of a file that begins at byte `off`.
@@ -230,22 +219,15 @@ fn push_names(alloc: Global, names: &mut Vec<Name>, block: &Block) -> Result<(),
         ≡ names.old.items ++ map (λ e. e.1) (entries_of block.now)) }
 {
     for (_, bytes) in entries(block) {
-        names.push(name_of(alloc, bytes)?)?;
+        let name = match Name::parse(alloc, bytes) {
+            Ok(name) => name,
+            Err(BadName::Memory) => return Err(AllocError),
+            // Never: an entry's bytes are a name.
+            Err(_) => unreachable!(),
+        };
+        names.push(name)?;
     }
     Ok(())
-}
-
-/// The name of an entry; an error where a growth was refused.
-fn name_of(alloc: Global, bytes: &[u8]) -> Result<Name, AllocError>
-    requires { name_fault bytes.now ≡ None }
-    ensures { IfOk result (λ name. name ≡ bytes.now) }
-{
-    match Name::parse(alloc, bytes) {
-        Ok(name) => Ok(name),
-        Err(BadName::Memory) => Err(AllocError),
-        // Never: the bytes are a name, as is required.
-        Err(_) => unreachable!(),
-    }
 }
 
 /// Whether a directory of this size lists no name.
@@ -479,31 +461,13 @@ fn take_hinted<F: FileStore>(
         × IsTaking (bytes_of (F.state store.old).content dir) name.now room.new k }
     ensures state { F.state store.new ≡ F.state store.old }
 {
-    match store.hint(dir) {
-        Some(Hint { block, .. })
-            if block < size / BLOCK_SIZE as u64 && store.next_block(dir, name, block) == block =>
-            take_from(store, dir, block, name, room),
-        _ => false,
+    let Some(Hint { block, .. }) = store.hint(dir) else {
+        return false;
+    };
+    if block >= size / BLOCK_SIZE as u64 || store.next_block(dir, name, block) != block {
+        return false;
     }
-}
-
-/// Reads the block of this index of a directory and takes a name out of it, and says whether the block lists it.
-fn take_from<F: FileStore>(
-    store: &mut CachedStore<F>,
-    dir: u32,
-    k: u64,
-    name: &Name,
-    room: &mut DirBlock,
-) -> bool
-    requires used { IsSome (get (F.state store.old).content dir) }
-    requires bounded { length (bytes_of (F.state store.old).content dir) ≤ FILE_BYTES }
-    requires blocks { AreBlocks (bytes_of (F.state store.old).content dir) }
-    requires within { k < length (bytes_of (F.state store.old).content dir) / BLOCK_SIZE }
-    ensures room { IsTrue result
-        → IsTaking (bytes_of (F.state store.old).content dir) name.now room.new k }
-    ensures state { F.state store.new ≡ F.state store.old }
-{
-    room.off = BLOCK_SIZE as u64 * k;
+    room.off = BLOCK_SIZE as u64 * block;
     read_into(store, dir, room.off, &mut room.block);
     remove(&mut room.block, name)
 }

@@ -16,8 +16,9 @@ ghost use Rattle.lfs_calls.specs.Makes.{CanMake, IsParent, request_for, MakesFil
 use crate::cached_store::{CachedStore, Naming};
 use crate::call_fault::CallFault;
 use crate::directory::{DirBlock, NewEntry, find_room, look_up};
-use crate::walking::{Reached, component, last_name, reach};
+use crate::walking::{Reached, reach};
 use lfs_checks::asking::ask;
+use lfs_checks::components::{component, last_name};
 use lfs_checks::names::{may_enter, may_search};
 use lfs_checks::site::Site;
 use lfs_types::answer::{Resource, Served};

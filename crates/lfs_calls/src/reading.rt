@@ -8,9 +8,10 @@ ghost use Rattle.lfs_calls.specs.Volumes.{HasWorld};
 
 use crate::cached_store::CachedStore;
 use crate::call_fault::CallFault;
-use crate::walking::{depth, find};
+use crate::walking::find;
 use lfs_checks::attributes::shown_size;
 use lfs_checks::bytes::may_read;
+use lfs_checks::components::depth;
 use lfs_types::answer::{Resource, Served};
 use lfs_types::attrs::Attrs;
 use lfs_types::cred::Cred;

@@ -14,8 +14,9 @@ ghost use Rattle.lfs_calls.specs.Removes.{HangsAs, IsChildless, IsRemovable, IsR
 use crate::cached_store::{CachedStore, Naming};
 use crate::call_fault::CallFault;
 use crate::directory::{DirBlock, is_empty_directory, take_name};
-use crate::walking::{Reached, component, last_name, reach, step};
+use crate::walking::{Reached, reach, step};
 use lfs_checks::asking::ask;
+use lfs_checks::components::{component, last_name};
 use lfs_checks::names::{may_remove, may_unlink};
 use lfs_checks::site::Site;
 use lfs_types::answer::Served;

@@ -5,7 +5,6 @@ ghost use Rattle.std.specs.FinMap.{get};
 ghost use Rattle.lfs_types.specs.declared.path.TheConstants.{PATH_MAX};
 ghost use Rattle.lfs_types.specs.Kinds.{is_directory_kind};
 ghost use Rattle.lfs_types.specs.Tree.{root};
-ghost use Rattle.lfs_model.specs.Rules.{front, last};
 ghost use Rattle.lfs_model.specs.Walks.{stepped, walked};
 ghost use Rattle.lfs_calls.specs.Reaches.{EndsAlike, GrantsAlike, Reaches};
 ghost use Rattle.lfs_calls.specs.Volumes.{HasWorld, InWorld};
@@ -158,35 +157,4 @@ pub(crate) fn find<F: FileStore>(
     ensures state { F.state store.new ≡ F.state store.old }
 {
     reach(store, cred, 0, path.names())
-}
-
-/// The component at which a path ends.
-pub(crate) fn depth(path: &Path) -> u32
-    ensures { result ≡ length path.now }
-{
-    component(path.names())
-}
-
-/// The component at which the last of these names stands: their number.
-pub(crate) fn component(names: &[Name]) -> u32
-    requires { length names.now ≤ PATH_MAX }
-    ensures { result ≡ length names.now }
-{
-    names.len() as u32
-}
-
-/// The names before the last of some.
-pub(crate) fn parents_of(names: &[Name]) -> &[Name]
-    requires { 0 < length names.now }
-    ensures names { result.now ≡ front names.now }
-{
-    &names[..names.len() - 1]
-}
-
-/// The last of some names.
-pub(crate) fn last_name(names: &[Name]) -> &Name
-    requires { 0 < length names.now }
-    ensures name { result.now ≡ last names.now }
-{
-    &names[names.len() - 1]
 }

@@ -13,9 +13,10 @@ ghost use Rattle.lfs_calls.specs.Writes.{ChangesBytes};
 
 use crate::cached_store::CachedStore;
 use crate::call_fault::CallFault;
-use crate::walking::{Reached, depth, find};
+use crate::walking::{Reached, find};
 use lfs_checks::attributes::mode_after;
 use lfs_checks::bytes::{may_write, start_in};
+use lfs_checks::components::depth;
 use lfs_types::answer::Served;
 use lfs_types::attrs::Attrs;
 use lfs_types::cred::Cred;

@@ -1,1 +1,2 @@
+pub mod LastNames
 pub mod TestLemmas

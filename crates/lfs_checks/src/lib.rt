@@ -5,6 +5,7 @@
 pub mod asking;
 pub mod attributes;
 pub mod bytes;
+pub mod components;
 pub mod level;
 pub mod names;
 pub mod site;

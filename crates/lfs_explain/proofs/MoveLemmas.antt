@@ -16,7 +16,7 @@ use Rattle.lfs_model.specs.World.{Rows, child, children}
 use Rattle.lfs_model.specs.Rules.{arriving, asks, attrs_at, entering_tests, front, last, last_tests, leaves_test}
 use Rattle.lfs_model.specs.Rules.{moving_tests, placing_tests, position, reached, removing, removing_tests}
 use Rattle.lfs_model.specs.Rules.{replaced_tests, visited}
-use Rattle.lfs_calls.proofs.LastNames.{front_stands}
+use Rattle.lfs_checks.proofs.LastNames.{front_stands}
 use Rattle.lfs_explain.specs.Asked.{asked}
 use Rattle.lfs_explain.specs.Tables.{Path, arriving_by, dir_of, last_by, last_row, moving_by, numbers_to, placing_by}
 use Rattle.lfs_explain.specs.Tables.{removing_by}

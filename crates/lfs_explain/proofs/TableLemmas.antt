@@ -16,7 +16,7 @@ use Rattle.lfs_types.proofs.Somewhere.{There}
 use Rattle.lfs_model.specs.World.{Rows, child, children}
 use Rattle.lfs_model.specs.Rules.{Check, arriving, attrs_at, front, last, making, making_tests, reached, reaching}
 use Rattle.lfs_model.specs.Rules.{removing, removing_tests, rmdir_tests, searching_tests, unlink_tests, walk}
-use Rattle.lfs_calls.proofs.LastNames.{front_stands}
+use Rattle.lfs_checks.proofs.LastNames.{front_stands}
 use Rattle.lfs_explain.specs.Asked.{asked}
 use Rattle.lfs_explain.specs.Tables.{Path, arriving_by, last_row, making_by, no_row, reaching_by, removing_by, row_at}
 use Rattle.lfs_explain.specs.Tables.{trail_tests}
