@@ -1,16 +1,14 @@
 //! The checks of a row that gets another place.
 
-ghost use Rattle.std.specs.Prelude.{◌≡◌, ◌==◌, ◌++◌, ◌≤◌, OnOk, length, map, slice_get, take};
-ghost use Rattle.std.specs.List.{list_any};
+ghost use Rattle.std.specs.Prelude.{◌≡◌, ◌++◌, ◌≤◌, OnOk, slice_get};
 ghost use Rattle.lfs_types.specs.declared.path.TheConstants.{PATH_MAX};
-ghost use Rattle.lfs_model.specs.Rules.{leaves_test, position};
-ghost use Rattle.lfs_explain.specs.Tables.{arriving_by, is_itself, known_path, last_by, moving_by, placing_by};
-ghost use Rattle.lfs_explain.specs.declared.trail.ShownRow.{ShownRow};
+ghost use Rattle.lfs_model.specs.Rules.{leaves_test};
+ghost use Rattle.lfs_explain.specs.Tables.{arriving_by, known_path, last_by, moving_by, placing_by};
 
 use crate::check::Check;
-use crate::telling::{dir_of, last_row, push, push_trail};
+use crate::telling::{push, push_trail};
 use crate::testing;
-use crate::trail::{ShownRow, Trail, row_of};
+use crate::trail::{Trail, dir_of, directories_to, is_itself, last_row, place_on, row_of};
 use lfs_checks::site::Site;
 use lfs_rules::access::grants;
 use lfs_types::attrs::{Attrs, Bit};
@@ -54,16 +52,6 @@ pub(crate) fn push_moving(
     }
     push_placing(checks, cred, &moved.attrs, to)?;
     push_last(checks, cred, from, to)
-}
-
-/// Whether what is at a place is the row of this number.
-fn is_itself(number: u32, to: &Trail) -> bool
-    ensures { result ≡ is_itself number (slice_get to.now.rows.items to.now.names) }
-{
-    match row_of(&to.rows, to.names as usize) {
-        None => false,
-        Some(row) => row.number == number,
-    }
 }
 
 /// Puts those of the directory of the place, and of what is there.
@@ -113,29 +101,6 @@ fn push_last(
             leaves(&moved.attrs, cred, stays, from.names),
         ],
     )
-}
-
-/// The directories on the way to the place.
-fn directories_to(to: &Trail) -> &[ShownRow]
-    ensures { result.now ≡ take to.now.names to.now.rows.items }
-{
-    let count = to.rows.len().min(to.names as usize);
-    &to.rows[..count]
-}
-
-/// Whether a number is one of some rows, and the index at which it first is, or how many rows there are.
-fn place_on(rows: &[ShownRow], number: u32) -> (bool, u32)
-    requires { length rows.now ≤ PATH_MAX }
-    ensures is_on { result.0 ≡ list_any (λ n. n == number)
-        (map (λ (row : ShownRow). row.number) rows.now) }
-    ensures place { result.1 ≡ position number (map (λ (row : ShownRow). row.number) rows.now) }
-{
-    for (at, row) in rows.iter().enumerate() {
-        if row.number == number {
-            return (true, at as u32);
-        }
-    }
-    (false, rows.len() as u32)
 }
 
 /// That of what is moved, which may stay in its directory.

@@ -1,21 +1,19 @@
 //! The checks of a call, told from the rows that its paths lead through.
 
-ghost use Rattle.std.specs.Prelude.{◌≡◌, ◌+◌, ◌-◌, ◌++◌, ◌≤◌, OnOk, slice_get};
+ghost use Rattle.std.specs.Prelude.{◌≡◌, ◌++◌, ◌≤◌, OnOk};
 ghost use Rattle.lfs_types.specs.declared.path.TheConstants.{PATH_MAX};
 ghost use Rattle.lfs_explain.specs.Asked.{asked};
-ghost use Rattle.lfs_explain.specs.Tables.{dir_of, known_path, last_row, making_by, no_row, own_tests, reaching_by, removing_by, row_at, table_by, trail_tests};
+ghost use Rattle.lfs_explain.specs.Tables.{known_path, making_by, own_tests, reaching_by, removing_by, table_by, trail_tests};
 
 use crate::check::Check;
 use crate::moving::{push_arriving, push_moving};
 use crate::privileged::{chflags, set_level};
 use crate::testing;
-use crate::trail::{ShownRow, Trail, row_of};
+use crate::trail::{ShownRow, Trail, dir_of, last_row, row_of};
 use lfs_checks::site::Site;
-use lfs_types::attrs::{Attrs, Kind};
+use lfs_types::attrs::Attrs;
 use lfs_types::cred::Cred;
-use lfs_types::file_flags::FileFlags;
 use lfs_types::level::Level;
-use lfs_types::mode::Mode;
 use lfs_types::request::Request;
 use lfs_types::rule::Rule;
 use std::alloc::AllocError;
@@ -102,46 +100,6 @@ pub(crate) fn push_trail(
         push(checks, &testing::step(&rows[at].attrs, cred, site, there))?;
     }
     Ok(())
-}
-
-/// What stands for a row that isn't there.
-fn no_row() -> ShownRow
-    ensures { result ≡ no_row }
-{
-    let Some(mode) = Mode::new(0o755) else {
-        // Never: the number is a mode.
-        unreachable!()
-    };
-    let attrs = Attrs {
-        kind: Kind::Directory,
-        uid: 0,
-        gid: 0,
-        mode,
-        flags: FileFlags::none(),
-        size: 0,
-    };
-    ShownRow { number: 0, attrs }
-}
-
-/// The row at a component, or what stands for it.
-fn row_at(rows: &[ShownRow], at: u32) -> ShownRow
-    ensures { result ≡ row_at rows.now at }
-{
-    row_of(rows, at as usize).unwrap_or(no_row())
-}
-
-/// The row that a path's names lead to.
-pub(crate) fn last_row(path: &Trail) -> ShownRow
-    ensures { result ≡ last_row (known_path path.now) }
-{
-    row_at(&path.rows, path.names)
-}
-
-/// The directory of that row.
-pub(crate) fn dir_of(path: &Trail) -> ShownRow
-    ensures { result ≡ dir_of (known_path path.now) }
-{
-    row_at(&path.rows, path.names.saturating_sub(1))
 }
 
 /// Puts those of a call with one path to a file.

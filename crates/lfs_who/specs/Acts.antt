@@ -1,7 +1,9 @@
--- The tests of what somebody may want to do by a path.
-use Rattle.std.specs.Prelude.{ℕ, false, List, [], ◌∷◌, ◌++◌, length, Option}
+-- What somebody may want to do by a path, and the tests of it.
+use Rattle.std.specs.Prelude.{ℕ, not, Bool, true, false, List, [], ◌∷◌, ◌++◌, filter, length, Option, None, Some, is_some}
 use Rattle.lfs_types.specs.Caller.{Caller}
+use Rattle.lfs_types.specs.Kinds.{is_directory_kind}
 use Rattle.lfs_types.specs.Tree.{World, root}
+use Rattle.lfs_types.specs.declared.attrs.Kind.{Kind}
 use Rattle.lfs_types.specs.declared.request.Place.TheVariants.{At, End}
 use Rattle.lfs_types.specs.declared.request.Request.{Request}
 use Rattle.lfs_types.specs.declared.request.Request.TheVariants as requests
@@ -12,6 +14,40 @@ use Rattle.lfs_explain.specs.Tables.{Path, last_row, removing_by}
 use Rattle.lfs_who.specs.declared.act.Act.{Act}
 use Rattle.lfs_who.specs.declared.act.Act.TheVariants.{Stat, Search, Read, Write, Append, List as Names, Create, Unlink}
 use Rattle.lfs_who.specs.declared.act.Act.TheVariants.{Rmdir, Move, Chmod, Chown, Chflags}
+
+-- whether a path leads to a directory, or to a file
+abbrev pub leads_to_directory : Option Kind → Bool
+leads_to_directory None = false
+leads_to_directory (Some kind) = is_directory_kind kind
+
+abbrev pub leads_to_file : Option Kind → Bool
+leads_to_file None = false
+leads_to_file (Some kind) = not (is_directory_kind kind)
+
+-- Whether an act makes sense by a path that leads to this, or nowhere: a directory alone is gone through, listed and
+-- taken away by a Rmdir, a file alone is read, changed and taken away by an Unlink, and only where nothing is can
+-- something be made. Whatever is there is moved and gets other attributes; a Stat asks what is there.
+abbrev pub suits : Option Kind → Act → Bool
+suits kind Stat = true
+suits kind Search = leads_to_directory kind
+suits kind Read = leads_to_file kind
+suits kind Write = leads_to_file kind
+suits kind Append = leads_to_file kind
+suits kind Names = leads_to_directory kind
+suits kind Create = not (is_some kind)
+suits kind Unlink = leads_to_file kind
+suits kind Rmdir = leads_to_directory kind
+suits kind Move = is_some kind
+suits kind Chmod = is_some kind
+suits kind Chown = is_some kind
+suits kind Chflags = is_some kind
+
+-- the acts, and those of them by a path that leads to this, or nowhere
+abbrev pub acts : List Act
+acts = Stat ∷ Search ∷ Read ∷ Write ∷ Append ∷ Names ∷ Create ∷ Unlink ∷ Rmdir ∷ Move ∷ Chmod ∷ Chown ∷ Chflags ∷ []
+
+abbrev pub acts_by : Option Kind → List Act
+acts_by kind = filter (suits kind) acts
 
 -- The call that does it: to give it away is to give it to user 0 and group 0, to change its flags to take all from it.
 -- Going through a directory is no call of its own, nor is taking a name away to another directory: both ask what a Stat

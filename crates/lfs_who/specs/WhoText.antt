@@ -11,8 +11,27 @@ use Rattle.lfs_words.specs.Wording.{spaced}
 use Rattle.lfs_print.specs.AnswerText.{answer_words}
 use Rattle.lfs_who.specs.Lines.{Told}
 use Rattle.lfs_who.specs.Who.{IsWhoCalls}
+use Rattle.lfs_who.specs.declared.act.Act.{Act}
+use Rattle.lfs_who.specs.declared.act.Act.TheVariants.{Stat, Search, Read, Write, Append, List as Names, Create, Unlink}
+use Rattle.lfs_who.specs.declared.act.Act.TheVariants.{Rmdir, Move, Chmod, Chown, Chflags}
 use Rattle.lfs_who.specs.declared.who.Named.{Named}
 use Rattle.lfs_who.specs.declared.who.Who.{Who}
+
+-- the word of an act; of one whose call has numbers, with the numbers
+abbrev pub act_word : Act → List ℕ
+act_word Stat = codes "stat"
+act_word Search = codes "search"
+act_word Read = codes "read"
+act_word Write = codes "write"
+act_word Append = codes "append"
+act_word Names = codes "list"
+act_word Create = codes "create"
+act_word Unlink = codes "unlink"
+act_word Rmdir = codes "rmdir"
+act_word Move = codes "move"
+act_word Chmod = codes "chmod"
+act_word Chown = codes "chown 0 0"
+act_word Chflags = codes "chflags 0"
 
 -- groups, each behind a word
 abbrev pub groups_text : List ℕ → List ℕ → List ℕ

@@ -2,7 +2,8 @@
 
 ghost use Rattle.std.specs.Prelude.{◌≡◌, [], IfOk};
 ghost use Rattle.lfs_types.specs.declared.request.Request.TheVariants as requests;
-ghost use Rattle.lfs_who.specs.Acts.{request_of};
+ghost use Rattle.lfs_who.specs.Acts.{acts_by, request_of};
+ghost use Rattle.lfs_who.specs.WhoText.{act_word};
 
 use lfs_types::attrs::Kind;
 use lfs_types::file_flags::FileFlags;
@@ -74,7 +75,9 @@ const NEW_ACTS: [Act; 2] = [Act::Stat, Act::Create];
 
 impl Act {
     /// The acts by a path that leads to a file or a directory, or nowhere.
-    pub fn all_of(kind: Option<Kind>) -> &'static [Act] {
+    pub fn all_of(kind: Option<Kind>) -> &'static [Act]
+        ensures { result.now ≡ acts_by kind }
+    {
         match kind {
             Some(Kind::File) => &FILE_ACTS,
             Some(Kind::Directory) => &DIRECTORY_ACTS,
@@ -120,7 +123,9 @@ impl Act {
     }
 
     /// Its word.
-    pub fn word(self) -> &'static str {
+    pub fn word(self) -> &'static str
+        ensures { result.now ≡ act_word self }
+    {
         match self {
             Act::Stat => "stat",
             Act::Search => "search",

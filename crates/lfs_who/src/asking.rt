@@ -4,7 +4,7 @@ ghost use Rattle.std.specs.Prelude.{◌≡◌, ◌++◌, ◌≤◌, OnOk, false}
 ghost use Rattle.lfs_types.specs.Caller.{Caller};
 ghost use Rattle.lfs_types.specs.declared.path.TheConstants.{PATH_MAX};
 ghost use Rattle.lfs_model.specs.Rules.{searching_tests};
-ghost use Rattle.lfs_explain.specs.Tables.{dir_of, known_path, last_row, making_by, no_row, own_tests, reaching_by, removing_by, row_at, table_by, trail_tests};
+ghost use Rattle.lfs_explain.specs.Tables.{known_path, making_by, own_tests, reaching_by, removing_by, table_by, trail_tests};
 ghost use Rattle.lfs_who.specs.Acts.{leaving_by};
 ghost use Rattle.lfs_who.specs.Conditions.{all_posed};
 ghost use Rattle.lfs_who.specs.Who.{SetsLevel};
@@ -14,11 +14,9 @@ use crate::moving::{push_arriving, push_moving};
 use crate::posing;
 use crate::privileged::{chflags, set_level};
 use lfs_checks::site::Site;
-use lfs_explain::trail::{ShownRow, Trail, row_of};
-use lfs_types::attrs::{Attrs, Kind};
-use lfs_types::file_flags::FileFlags;
+use lfs_explain::trail::{ShownRow, Trail, dir_of, last_row, row_of};
+use lfs_types::attrs::Attrs;
 use lfs_types::level::Level;
-use lfs_types::mode::Mode;
 use lfs_types::request::Request;
 use lfs_types::rule::Rule;
 use std::alloc::AllocError;
@@ -198,44 +196,4 @@ fn push_removing(questions: &mut Vec<Question>, path: &Trail) -> Result<(), Allo
     push_trail(questions, 0, path.names, &path.rows)?;
     let site = Site { path: 0, at };
     push(questions, &posing::remove(&dir.attrs, &file.attrs, site))
-}
-
-/// The row at a component, or what stands for it.
-fn row_at(rows: &[ShownRow], at: u32) -> ShownRow
-    ensures { result ≡ row_at rows.now at }
-{
-    row_of(rows, at as usize).unwrap_or(no_row())
-}
-
-/// What stands for a row that isn't there, of which nothing is asked.
-fn no_row() -> ShownRow
-    ensures { result ≡ no_row }
-{
-    let Some(mode) = Mode::new(0o755) else {
-        // Never: the number is a mode.
-        unreachable!()
-    };
-    let attrs = Attrs {
-        kind: Kind::Directory,
-        uid: 0,
-        gid: 0,
-        mode,
-        flags: FileFlags::none(),
-        size: 0,
-    };
-    ShownRow { number: 0, attrs }
-}
-
-/// The row that a path's names lead to.
-pub(crate) fn last_row(path: &Trail) -> ShownRow
-    ensures { result ≡ last_row (known_path path.now) }
-{
-    row_at(&path.rows, path.names)
-}
-
-/// The directory of that row.
-pub(crate) fn dir_of(path: &Trail) -> ShownRow
-    ensures { result ≡ dir_of (known_path path.now) }
-{
-    row_at(&path.rows, path.names.saturating_sub(1))
 }

@@ -1,20 +1,19 @@
 //! What is asked of whoever gives a row another place.
 
-ghost use Rattle.std.specs.Prelude.{◌≡◌, ◌==◌, ◌++◌, ◌∷◌, [], ◌≤◌, OnOk, length, map, not, slice_get, take};
+ghost use Rattle.std.specs.Prelude.{◌≡◌, ◌==◌, ◌++◌, ◌∷◌, [], ◌≤◌, OnOk, not, slice_get};
 ghost use Rattle.std.specs.List.{list_any};
 ghost use Rattle.lfs_types.specs.Caller.{Caller};
 ghost use Rattle.lfs_types.specs.declared.path.TheConstants.{PATH_MAX};
 ghost use Rattle.lfs_types.specs.declared.rule.Rule.TheVariants.{IsNotBeneathItself};
 ghost use Rattle.lfs_model.specs.Rules.{asks, position};
-ghost use Rattle.lfs_explain.specs.Tables.{arriving_by, is_itself, known_path, last_by, moving_by, numbers_to, placing_by};
-ghost use Rattle.lfs_explain.specs.declared.trail.ShownRow.{ShownRow};
+ghost use Rattle.lfs_explain.specs.Tables.{arriving_by, known_path, last_by, moving_by, numbers_to, placing_by};
 ghost use Rattle.lfs_who.specs.Conditions.{all_posed};
 
-use crate::asking::{dir_of, last_row, push, push_trail};
+use crate::asking::{push, push_trail};
 use crate::condition::Question;
 use crate::posing::{enter, fixed, leaves, remove, replace, root, search};
 use lfs_checks::site::Site;
-use lfs_explain::trail::{ShownRow, Trail, row_of};
+use lfs_explain::trail::{Trail, dir_of, directories_to, is_itself, last_row, place_on, row_of};
 use lfs_types::attrs::Attrs;
 use lfs_types::rule::Rule;
 use std::alloc::AllocError;
@@ -48,16 +47,6 @@ pub(crate) fn push_moving(
     }
     push_placing(questions, &moved.attrs, to)?;
     push_last(questions, from, to)
-}
-
-/// Whether what is at a place is the row of this number.
-fn is_itself(number: u32, to: &Trail) -> bool
-    ensures { result ≡ is_itself number (slice_get to.now.rows.items to.now.names) }
-{
-    match row_of(&to.rows, to.names as usize) {
-        None => false,
-        Some(row) => row.number == number,
-    }
 }
 
 /// Puts that of the directory of the place, and of what is there.
@@ -103,27 +92,4 @@ fn apart(number: u32, to: &Trail) -> [Question; 1]
     let (is_on_way, at) = place_on(directories_to(to), number);
     let site = Site { path: 1, at };
     [fixed(!is_on_way, Rule::IsNotBeneathItself, site)]
-}
-
-/// The directories on the way to the place.
-fn directories_to(to: &Trail) -> &[ShownRow]
-    ensures { result.now ≡ take to.now.names to.now.rows.items }
-{
-    let count = to.rows.len().min(to.names as usize);
-    &to.rows[..count]
-}
-
-/// Whether a number is one of some rows, and the index at which it first is, or how many rows there are.
-fn place_on(rows: &[ShownRow], number: u32) -> (bool, u32)
-    requires { length rows.now ≤ PATH_MAX }
-    ensures is_on { result.0 ≡ list_any (λ n. n == number)
-        (map (λ (row : ShownRow). row.number) rows.now) }
-    ensures place { result.1 ≡ position number (map (λ (row : ShownRow). row.number) rows.now) }
-{
-    for (at, row) in rows.iter().enumerate() {
-        if row.number == number {
-            return (true, at as u32);
-        }
-    }
-    (false, rows.len() as u32)
 }

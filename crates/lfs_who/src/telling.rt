@@ -36,7 +36,8 @@ pub fn tell_who_along(
         → IsWhoTold w request.now text.items) }
 {
     let who = who_along(alloc, level, request, explanation)?;
-    let text = text_of(alloc, &who)?;
+    let mut text = Vec::new(alloc);
+    push_who(&mut text, "", &who)?;
     Ok(text)
 }
 
@@ -54,15 +55,6 @@ pub fn tell_who<F: FileStore>(
 {
     let paths = paths_of(alloc, store, level, request)?;
     let text = tell_who_along(alloc, level, request, &paths)?;
-    Ok(text)
-}
-
-/// The lines of who could do something.
-fn text_of(alloc: Global, who: &Who) -> Result<Vec<u8>, AllocError>
-    ensures { IfOk result (λ text. text.items ≡ who_text [] who.now) }
-{
-    let mut text = Vec::new(alloc);
-    push_who(&mut text, "", who)?;
     Ok(text)
 }
 
@@ -148,18 +140,10 @@ fn push_groups(out: &mut Vec<u8>, word: &str, groups: &[u32]) -> Result<(), Allo
     ensures { OnOk result (out.new.items ≡ out.old.items ++ groups_text word.now groups.now) }
 {
     for group in groups {
-        push_group(out, word, *group)?;
+        push_word(out, word)?;
+        push_number(out, u64::from(*group))?;
     }
     Ok(())
-}
-
-/// Appends a group behind a word.
-fn push_group(out: &mut Vec<u8>, word: &str, group: u32) -> Result<(), AllocError>
-    ensures { OnOk result (out.new.items ≡ out.old.items
-        ++ ((32 ∷ word.now) ++ 32 ∷ decimal group)) }
-{
-    push_word(out, word)?;
-    push_number(out, u64::from(group))
 }
 
 /// The answer by a decision.

@@ -2,7 +2,7 @@ use Rattle.std.proofs.Common.{◌≡◌, ◌+◌, ◌==◌, drop}
 use Rattle.std.specs.List.{list_any}
 use Rattle.lfs_model.specs.Rules.{position}
 use Rattle.lfs_explain.proofs.TrailLemmas.{numbers}
-use Rattle.lfs_explain.proofs.moving.place_on.Given as goal
+use Rattle.lfs_explain.proofs.trail.place_on.Given as goal
 
 -- the number is among all where it is among the rest, and first there behind those so far
 abbrev pub invariant-loop-at : goal.invariant-loop-at

@@ -1,5 +1,5 @@
 use Rattle.lfs_explain.proofs.StepsTold.{any_end, any_here, any_past, place_end, place_here, place_past}
-use Rattle.lfs_explain.proofs.moving.place_on.Goals as goal
+use Rattle.lfs_explain.proofs.trail.place_on.Goals as goal
 
 pub loop-at-preserved : goal.loop-at-preserved
 loop-at-preserved c = record {
