@@ -21,7 +21,7 @@ use std::alloc::{AllocError, Global};
 impl Audit {
     /// The text of an audit that stopped there: what it found, the report, and who could act by a path that is asked
     /// of.
-    pub fn tell(&mut self, stop: &Stop, who: &Option<Path>) -> Result<Vec<u8>, AllocError> {
+    pub(crate) fn tell(&mut self, stop: &Stop, who: &Option<Path>) -> Result<Vec<u8>, AllocError> {
         let mut text = Vec::new(self.alloc);
         self.push_finding(&mut text, stop)?;
         self.push_report(&mut text)?;
