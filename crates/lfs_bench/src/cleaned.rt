@@ -25,7 +25,7 @@ const PASS_CALLS: u32 = 105;
 
 /// How calls are timed.
 #[derive(Clone, Copy)]
-pub enum Way {
+pub(crate) enum Way {
     /// The time is that of the users' calls and the passes between them.
     Timed,
     /// The time is that of the users' calls alone.
@@ -55,7 +55,7 @@ impl<R: Clock, F: CleanedStore + Drop> Server for Cleaned<'_, R, F> {
 }
 
 /// Runs a series of calls over a log. A pass of the cleaner goes before each call that finds few clean segments.
-pub fn run_cleaned<R: Clock + AllocGlobal>(
+pub(crate) fn run_cleaned<R: Clock + AllocGlobal>(
     rt: &R,
     scale: &Scale,
     series: Series,

@@ -1,6 +1,6 @@
 //! Counts of answers.
 
-ghost use Rattle.std.specs.Prelude.{◌≡◌, ◌-◌, ◌<◌, ◌^◌};
+ghost use Rattle.std.specs.Prelude.{◌≡◌, ◌-◌, ◌<◌, ◌^◌, OnOk};
 ghost use Rattle.lfs_bench.specs.Counting.{counted, total};
 
 use anyhow::{Result, bail};
@@ -10,18 +10,18 @@ use std::num::nearest_u64_to_f64;
 
 /// How many calls were answered in each way.
 #[derive(Clone, Copy, Default)]
-pub struct Counts {
+pub(crate) struct Counts {
     /// Calls that were done.
-    pub served: u64,
+    pub(crate) served: u64,
     /// Calls that a rule denied.
-    pub denied: u64,
+    pub(crate) denied: u64,
     /// Calls for which a resource was wanting.
-    pub refused: u64,
+    pub(crate) refused: u64,
 }
 
 impl Counts {
     /// Counts an answer.
-    pub fn add(&mut self, answer: &Answer)
+    pub(crate) fn add(&mut self, answer: &Answer)
         requires { total self.old < 2 ^ 64 - 1 }
         ensures { self.new ≡ counted answer.now self.old }
     {
@@ -33,7 +33,9 @@ impl Counts {
     }
 
     /// An error unless all calls that were counted were done.
-    pub fn all_served(&self) -> Result<()> {
+    pub(crate) fn all_served(&self) -> Result<()>
+        ensures { OnOk result ((self.now.denied ≡ 0) × (self.now.refused ≡ 0)) }
+    {
         if self.denied != 0 || self.refused != 0 {
             bail!("the tree isn't made");
         }
@@ -41,7 +43,7 @@ impl Counts {
     }
 
     /// How many calls were answered, as a float.
-    pub fn total(&self) -> f64 {
+    pub(crate) fn total(&self) -> f64 {
         nearest_u64_to_f64(self.served)
             + nearest_u64_to_f64(self.denied)
             + nearest_u64_to_f64(self.refused)

@@ -17,7 +17,7 @@ const TURNS: u32 = 512;
 
 /// Moves each frame to the front of a queue, the next round of another, as often as the scale says. A move counts
 /// as served.
-pub fn run_moves<R: Clock + AllocGlobal>(rt: &R, scale: &Scale) -> Result<Measure> {
+pub(crate) fn run_moves<R: Clock + AllocGlobal>(rt: &R, scale: &Scale) -> Result<Measure> {
     let mut frames = Frames::new(rt.alloc(), scale.frames)?;
     time_moves(rt, &mut frames, scale)
 }
@@ -37,7 +37,7 @@ fn time_moves<R: Clock>(rt: &R, frames: &mut Frames, scale: &Scale) -> Result<Me
 }
 
 /// Looks up the keys of all frames, as often as the scale says. A key that is held counts as served.
-pub fn run_look_ups<R: Clock + AllocGlobal>(rt: &R, scale: &Scale) -> Result<Measure> {
+pub(crate) fn run_look_ups<R: Clock + AllocGlobal>(rt: &R, scale: &Scale) -> Result<Measure> {
     let mut cache = Cache::new(rt.alloc(), scale.frames)?;
     fill_all(&mut cache, scale.frames);
     time_look_ups(rt, &mut cache, scale)

@@ -1,5 +1,7 @@
 //! What a run gave.
 
+ghost use Rattle.std.specs.Prelude.{◌≡◌, ◌⊎◌, IfOk};
+
 use crate::counts::Counts;
 use anyhow::Result;
 use std::num::nearest_u64_to_f64;
@@ -8,27 +10,31 @@ use std::time::Instant;
 
 /// What a run gave.
 #[derive(Clone, Copy)]
-pub struct Measure {
+pub(crate) struct Measure {
     /// What was answered.
-    pub counts: Counts,
+    pub(crate) counts: Counts,
     /// How many seconds it took.
-    pub seconds: f64,
+    pub(crate) seconds: f64,
 }
 
 impl Measure {
     /// What was answered since this moment.
-    pub fn since<R: Clock>(rt: &R, start: Instant, counts: Counts) -> Result<Measure> {
+    pub(crate) fn since<R: Clock>(rt: &R, start: Instant, counts: Counts) -> Result<Measure>
+        ensures { IfOk result (λ measure. measure.counts ≡ counts) }
+    {
         let seconds = start.elapsed(rt)?.as_secs_f64();
         Ok(Measure { counts, seconds })
     }
 
     /// How many calls were served in a second.
-    pub fn served_a_second(&self) -> f64 {
+    pub(crate) fn served_a_second(&self) -> f64 {
         nearest_u64_to_f64(self.counts.served) / self.seconds
     }
 
     /// Of this and another the one with more calls served in a second.
-    pub fn faster(self, other: Measure) -> Measure {
+    pub(crate) fn faster(self, other: Measure) -> Measure
+        ensures { (result ≡ self) ⊎ (result ≡ other) }
+    {
         if other.served_a_second() > self.served_a_second() {
             other
         } else {

@@ -42,19 +42,19 @@ const NUMBERS: [NumberOption; 2] = [
 
 /// What is asked for.
 #[derive(Clone, Copy)]
-pub struct Options<'a> {
+pub(crate) struct Options<'a> {
     /// The names of the workloads, in the order in which they are run.
-    pub names: &'a [&'a str],
+    pub(crate) names: &'a [&'a str],
     /// How many calls are timed before they grow: 1 to 65,536.
-    pub calls: u32,
+    pub(crate) calls: u32,
     /// How many runs each time is the best of: 1 to 100.
-    pub runs: u32,
+    pub(crate) runs: u32,
     ghost few: { calls ≤ 65536 },
 }
 
 impl Options<'_> {
     /// Whether a workload of one session is asked for.
-    pub fn has_rows(&self) -> bool {
+    pub(crate) fn has_rows(&self) -> bool {
         for name in self.names {
             if *name != SESSIONS {
                 return true;
@@ -64,18 +64,21 @@ impl Options<'_> {
     }
 
     /// Whether sessions on threads are asked for, which are run behind the others.
-    pub fn has_sessions(&self) -> bool {
+    pub(crate) fn has_sessions(&self) -> bool {
         self.names.contains(&SESSIONS)
     }
 }
 
 /// What the program's words give; the first word is the program's name.
-pub fn matches_of<'a, S: AsStr>(alloc: Global, words: &'a [S]) -> Result<ArgMatches<'a>, Error> {
+pub(crate) fn matches_of<'a, S: AsStr>(
+    alloc: Global,
+    words: &'a [S],
+) -> Result<ArgMatches<'a>, Error> {
     command(alloc)?.try_get_matches_from(words)
 }
 
 /// The options that the matches hold.
-pub fn options_in<'a>(matches: &'a ArgMatches<'_>) -> Options<'a> {
+pub(crate) fn options_in<'a>(matches: &'a ArgMatches<'_>) -> Options<'a> {
     let calls = matches.get_one::<u32>("calls").unwrap_or(CALLS);
     Options {
         names: matches.get_strs("workload").unwrap_or(&Workload::NAMES),

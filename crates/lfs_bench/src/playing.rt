@@ -12,13 +12,13 @@ use lfs_workloads::calls::Call;
 use std::alloc::{AllocError, Global};
 
 /// What answers calls.
-pub trait Server {
+pub(crate) trait Server {
     /// Makes a call.
     fn answer(&mut self, call: Call) -> Answer;
 }
 
 /// Makes calls one after another, and counts their answers.
-pub fn play<S: Server>(server: &mut S, calls: Vec<Call>) -> Counts
+pub(crate) fn play<S: Server>(server: &mut S, calls: Vec<Call>) -> Counts
     ensures { total result ≡ length calls.items }
 {
     let mut counts = Counts::default();
@@ -29,7 +29,7 @@ pub fn play<S: Server>(server: &mut S, calls: Vec<Call>) -> Counts
 }
 
 /// Makes calls of copies one after another, and gives the answers.
-pub fn answers_to<S: Server>(
+pub(crate) fn answers_to<S: Server>(
     alloc: Global,
     server: &mut S,
     calls: &[Call],
@@ -49,7 +49,10 @@ fn answer_to<S: Server>(alloc: Global, server: &mut S, call: &Call) -> Result<An
 }
 
 /// The answers of all sessions as one list; an error where a growth was refused.
-pub fn gathered(alloc: Global, transcripts: Vec<Vec<Answer>>) -> Result<Vec<Answer>, AllocError>
+pub(crate) fn gathered(
+    alloc: Global,
+    transcripts: Vec<Vec<Answer>>,
+) -> Result<Vec<Answer>, AllocError>
     ensures { IfOk result (λ all. all.items
         ≡ flat_map (λ (transcript : Vec Answer). transcript.items) transcripts.items) }
 {
@@ -61,7 +64,7 @@ pub fn gathered(alloc: Global, transcripts: Vec<Vec<Answer>>) -> Result<Vec<Answ
 }
 
 /// Counts answers.
-pub fn counts_of(answers: Vec<Answer>) -> Counts
+pub(crate) fn counts_of(answers: Vec<Answer>) -> Counts
     ensures { total result ≡ length answers.items }
 {
     count(answers.as_slice())

@@ -94,7 +94,7 @@ impl fmt::Display for Subject<'_> {
 }
 
 /// Prints the table of what is asked for, and counts what was answered.
-pub fn print_rows<R: Clock + AllocGlobal + Print + Eprint>(
+pub(crate) fn print_rows<R: Clock + AllocGlobal + Print + Eprint>(
     rt: &R,
     options: &Options<'_>,
 ) -> Result<()> {

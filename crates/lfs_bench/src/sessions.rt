@@ -72,7 +72,7 @@ impl Race {
 
 /// Prints a row for each number of calls: how many were served in a second, of one session's and of eight sessions'.
 /// What was answered is counted on standard output; it varies with the schedule only where clean segments run out.
-pub fn print_sessions<R>(rt: &R, options: &Options<'_>) -> Result<()>
+pub(crate) fn print_sessions<R>(rt: &R, options: &Options<'_>) -> Result<()>
 where
     R: Threads + Wait + Sync + Clock + AllocGlobal + Print + Eprint,
 {

@@ -21,7 +21,7 @@ struct Times {
 /// A gate that takes the time from the first call's beginning to the last call's end, over all sessions on threads. It
 /// takes its lock at the first and the last call of each session alone.
 #[derive(Drop)]
-pub struct Stopwatch<'a, R: Wait> {
+pub(crate) struct Stopwatch<'a, R: Wait> {
     rt: &'a R,
     last: u32,
     times: Mutex<Times>,
@@ -29,7 +29,7 @@ pub struct Stopwatch<'a, R: Wait> {
 
 impl<'a, R: Wait + Clock> Stopwatch<'a, R> {
     /// A watch over sessions whose last calls have this index.
-    pub fn new(rt: &'a R, last: u32) -> Self {
+    pub(crate) fn new(rt: &'a R, last: u32) -> Self {
         let times = Mutex::new(Times {
             start: None,
             end: None,
@@ -38,7 +38,7 @@ impl<'a, R: Wait + Clock> Stopwatch<'a, R> {
     }
 
     /// How many seconds the sessions' calls took.
-    pub fn seconds(&self) -> Result<f64> {
+    pub(crate) fn seconds(&self) -> Result<f64> {
         let Times { start, end } = *self.times.lock(self.rt);
         let (Some(start), Some(end)) = (start, end) else {
             bail!("the sessions were not timed");

@@ -18,14 +18,14 @@ use std::alloc::Global;
 use std::rt::Clock;
 
 /// The session that makes all calls, where there is one.
-pub const SESSION: u8 = 1;
+pub(crate) const SESSION: u8 = 1;
 
 /// How many entries of the journal there is room for over a log, for each call of a user.
 const CLEANER_CALLS: u32 = 16;
 
 /// A store that volumes are timed over.
 #[derive(Clone, Copy)]
-pub enum Store {
+pub(crate) enum Store {
     /// The plain store.
     Plain,
     /// The log store, where the passes of its cleaner are not in the time.
@@ -36,10 +36,10 @@ pub enum Store {
 
 impl Store {
     /// All stores, in the order of the table.
-    pub const ALL: [Store; 3] = [Store::Plain, Store::Log, Store::LogCleaned];
+    pub(crate) const ALL: [Store; 3] = [Store::Plain, Store::Log, Store::LogCleaned];
 
     /// The word of the table.
-    pub fn name(self) -> &'static str {
+    pub(crate) fn name(self) -> &'static str {
         match self {
             Store::Plain => "plain",
             Store::Log => "log",
@@ -56,7 +56,7 @@ impl Server for Volume<FlatFiles> {
 }
 
 /// Runs a workload at a scale on a fresh volume over a store.
-pub fn run_on<R: Clock + AllocGlobal>(
+pub(crate) fn run_on<R: Clock + AllocGlobal>(
     rt: &R,
     store: Store,
     load: UserLoad,
@@ -84,7 +84,7 @@ fn plain_volume(alloc: Global, scale: &Scale, journal: u32) -> Result<Volume<Fla
 }
 
 /// A fresh volume over a log, with room for the calls that make the tree and so many behind them.
-pub fn log_volume(alloc: Global, scale: &Scale, calls: u32) -> Result<Volume<LogStore>> {
+pub(crate) fn log_volume(alloc: Global, scale: &Scale, calls: u32) -> Result<Volume<LogStore>> {
     let params = log_params(scale, calls);
     let Ok(store) = LogStore::format(alloc, params) else {
         bail!("the log isn't laid out");
@@ -94,7 +94,7 @@ pub fn log_volume(alloc: Global, scale: &Scale, calls: u32) -> Result<Volume<Log
 
 /// The numbers of a volume over a log. Its journal has room for the calls that make the tree and so many behind them,
 /// and for the cleaner's calls between.
-pub fn log_params(scale: &Scale, calls: u32) -> Params {
+pub(crate) fn log_params(scale: &Scale, calls: u32) -> Params {
     Params {
         segments: scale.segments,
         inodes: scale.inodes,

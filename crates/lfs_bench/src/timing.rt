@@ -11,12 +11,12 @@ use std::rt::Clock;
 use std::time::Instant;
 
 /// Makes the tree on which calls are timed.
-pub fn make_tree<S: Server>(alloc: Global, server: &mut S, scale: &Scale) -> Result<()> {
+pub(crate) fn make_tree<S: Server>(alloc: Global, server: &mut S, scale: &Scale) -> Result<()> {
     play(server, calls_of(alloc, scale, &Series::TREE)?).all_served()
 }
 
 /// Makes the tree, and times the calls behind it.
-pub fn time_series<R: Clock + AllocGlobal, S: Server>(
+pub(crate) fn time_series<R: Clock + AllocGlobal, S: Server>(
     rt: &R,
     server: &mut S,
     scale: &Scale,
@@ -27,7 +27,7 @@ pub fn time_series<R: Clock + AllocGlobal, S: Server>(
 }
 
 /// Times calls that are made one after another, and whose answers are counted.
-pub fn time_calls<R: Clock, S: Server>(
+pub(crate) fn time_calls<R: Clock, S: Server>(
     rt: &R,
     server: &mut S,
     calls: Vec<Call>,
@@ -38,7 +38,7 @@ pub fn time_calls<R: Clock, S: Server>(
 }
 
 /// Times calls that are made of copies, and whose answers are kept.
-pub fn time_answers<R: Clock + AllocGlobal, S: Server>(
+pub(crate) fn time_answers<R: Clock + AllocGlobal, S: Server>(
     rt: &R,
     server: &mut S,
     calls: &[Call],

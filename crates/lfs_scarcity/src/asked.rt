@@ -10,7 +10,7 @@ use std::alloc::Global;
 use std::io::Write;
 
 /// A user's call: in which session, who asks, and what.
-pub type Asked = (u8, Cred, Request);
+pub(crate) type Asked = (u8, Cred, Request);
 
 /// The most bytes of a script that stands in the program.
 const SCRIPT_MAX: usize = 4_096;
@@ -34,7 +34,7 @@ fn calls_in(alloc: Global, script: &str) -> Result<Vec<Asked>, RunFault> {
 }
 
 /// The same, asked for once more where memory was refused; of which a line is written.
-pub fn calls<W: Write>(alloc: Global, writer: &mut W, script: &str) -> Option<Vec<Asked>> {
+pub(crate) fn calls<W: Write>(alloc: Global, writer: &mut W, script: &str) -> Option<Vec<Asked>> {
     match on_the_way(writer, "calls", calls_in(alloc, script)) {
         Some(calls) => Some(calls),
         None => on_the_way(writer, "calls", calls_in(alloc, script)),

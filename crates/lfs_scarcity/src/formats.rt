@@ -22,7 +22,7 @@ const LEAST: Params = Params {
 };
 
 /// Frames are made, three and thirty-two.
-pub fn frames<W: Write>(alloc: Global, writer: &mut W) {
+pub(crate) fn frames<W: Write>(alloc: Global, writer: &mut W) {
     for count in [3, 32] {
         if told(writer, "frames", Frames::new(alloc, count)) {
             told(writer, "frames", Frames::new(alloc, count));
@@ -31,14 +31,14 @@ pub fn frames<W: Write>(alloc: Global, writer: &mut W) {
 }
 
 /// A cache is made.
-pub fn cache<W: Write>(alloc: Global, writer: &mut W) {
+pub(crate) fn cache<W: Write>(alloc: Global, writer: &mut W) {
     if told(writer, "cache", Cache::new(alloc, 32)) {
         told(writer, "cache", Cache::new(alloc, 32));
     }
 }
 
 /// Segments, an ifile, a log store and a plain store are laid out.
-pub fn formats<W: Write>(alloc: Global, writer: &mut W) {
+pub(crate) fn formats<W: Write>(alloc: Global, writer: &mut W) {
     if told(writer, "segments", Segments::format(alloc, 6, 16)) {
         told(writer, "segments", Segments::format(alloc, 6, 16));
     }
@@ -54,7 +54,7 @@ pub fn formats<W: Write>(alloc: Global, writer: &mut W) {
 }
 
 /// The slots of a mount's open files are made, and the modes that some of these are to get.
-pub fn opens<W: Write>(alloc: Global, writer: &mut W) {
+pub(crate) fn opens<W: Write>(alloc: Global, writer: &mut W) {
     if told(writer, "opens", Opens::new(alloc)) {
         told(writer, "opens", Opens::new(alloc));
     }

@@ -14,9 +14,9 @@ use std::io::Write;
 
 /// A volume that is looked at.
 #[derive(Drop)]
-pub struct Looked<F: FileStore + Drop> {
+pub(crate) struct Looked<F: FileStore + Drop> {
     /// The volume.
-    pub volume: Volume<F>,
+    pub(crate) volume: Volume<F>,
     /// How many entries looks have left.
     looks: usize,
     /// The lines that look.
@@ -25,7 +25,7 @@ pub struct Looked<F: FileStore + Drop> {
 
 impl<F: FileStore + Drop> Looked<F> {
     /// A volume at which these lines look.
-    pub fn new(volume: Volume<F>, lines: &'static [&'static str]) -> Looked<F> {
+    pub(crate) fn new(volume: Volume<F>, lines: &'static [&'static str]) -> Looked<F> {
         Looked {
             volume,
             looks: 0,
@@ -35,7 +35,7 @@ impl<F: FileStore + Drop> Looked<F> {
 
     /// Looks: makes the call of each of its lines, and writes how it was answered, how long the journal is without
     /// looks, the clean segments and the level.
-    pub fn look<W: Write>(&mut self, alloc: Global, writer: &mut W) {
+    pub(crate) fn look<W: Write>(&mut self, alloc: Global, writer: &mut W) {
         for line in self.lines {
             self.look_at(alloc, writer, line);
         }
@@ -66,7 +66,7 @@ impl<F: FileStore + Drop> Looked<F> {
     }
 
     /// Makes the call of a line, and looks; once more where memory was refused.
-    pub fn ask<W: Write>(&mut self, alloc: Global, writer: &mut W, what: &str, line: &str) {
+    pub(crate) fn ask<W: Write>(&mut self, alloc: Global, writer: &mut W, what: &str, line: &str) {
         for _ in 0..2 {
             let Some(answer) = self.answer(alloc, writer, line) else {
                 return;
@@ -82,7 +82,7 @@ impl<F: FileStore + Drop> Looked<F> {
 
 impl<F: CleanedStore + Drop> Looked<F> {
     /// Asks for the bytes of the ifile, and looks; once more where memory was refused.
-    pub fn ask_ifile<W: Write>(&mut self, alloc: Global, writer: &mut W, cred: &Cred) {
+    pub(crate) fn ask_ifile<W: Write>(&mut self, alloc: Global, writer: &mut W, cred: &Cred) {
         for _ in 0..2 {
             let answer = self.volume.clean(0, cred, CleanerCall::Ifile);
             tell_ifile(writer, &answer);
@@ -100,7 +100,7 @@ fn lacks_memory(answer: &Answer) -> bool {
 }
 
 /// Writes what was asked for and what it was answered.
-pub fn tell_answer<W: Write>(writer: &mut W, what: &str, answer: &Answer) {
+pub(crate) fn tell_answer<W: Write>(writer: &mut W, what: &str, answer: &Answer) {
     let _ = match answer {
         Answer::Served(Served::Stat(number, attrs)) => {
             writeln!(writer, "{what} stat {number} {}", attrs.size)

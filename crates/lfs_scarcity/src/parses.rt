@@ -25,7 +25,7 @@ const PATH: &str = concat!(
 const SCRIPT_MAX: usize = 2_048;
 
 /// Names are parsed.
-pub fn names<W: Write>(alloc: Global, writer: &mut W) {
+pub(crate) fn names<W: Write>(alloc: Global, writer: &mut W) {
     for bytes in [SHORT.as_slice(), LONG.as_slice()] {
         if told(writer, "name", Name::parse(alloc, bytes)) {
             told(writer, "name", Name::parse(alloc, bytes));
@@ -34,7 +34,7 @@ pub fn names<W: Write>(alloc: Global, writer: &mut W) {
 }
 
 /// Paths are parsed.
-pub fn paths<W: Write>(alloc: Global, writer: &mut W) {
+pub(crate) fn paths<W: Write>(alloc: Global, writer: &mut W) {
     for text in ["/", "/a/b", "/a/b/c/d/e/f/g/h", PATH] {
         if told(writer, "path", Path::parse(alloc, text)) {
             told(writer, "path", Path::parse(alloc, text));
@@ -43,7 +43,7 @@ pub fn paths<W: Write>(alloc: Global, writer: &mut W) {
 }
 
 /// A script is read, without taking memory, and parsed.
-pub fn script<R: Read, W: Write>(alloc: Global, reader: &mut R, writer: &mut W) {
+pub(crate) fn script<R: Read, W: Write>(alloc: Global, reader: &mut R, writer: &mut W) {
     let mut bytes = [0u8; SCRIPT_MAX];
     let length = read_into(reader, &mut bytes);
     let script = bytes.get(..length).unwrap_or_default();

@@ -37,7 +37,7 @@ const SESSIONS_MAX: usize = 8;
 
 /// Runs a script with its sessions on threads, over a writer whose room is taken before, and prints what was written
 /// and how the run ended.
-pub fn threads<S, R, W>(rt: &S, alloc: Global, reader: &mut R, writer: &mut W)
+pub(crate) fn threads<S, R, W>(rt: &S, alloc: Global, reader: &mut R, writer: &mut W)
 where
     S: Threads + Wait + Sync,
     R: Read,
@@ -56,7 +56,7 @@ where
 }
 
 /// Serves the sessions of a script, settles what they leave, and prints the answers.
-pub fn serve_and_settle<S, R, W>(rt: &S, alloc: Global, reader: &mut R, writer: &mut W)
+pub(crate) fn serve_and_settle<S, R, W>(rt: &S, alloc: Global, reader: &mut R, writer: &mut W)
 where
     S: Threads + Wait + Sync,
     R: Read,

@@ -7,7 +7,7 @@ use std::alloc::Global;
 use std::io::Write;
 
 /// A Read of 4,096 bytes, a List of three names of 30 bytes, and the bytes of the ifile, over a log.
-pub fn shows<W: Write>(alloc: Global, writer: &mut W) {
+pub(crate) fn shows<W: Write>(alloc: Global, writer: &mut W) {
     let Some(mut looked) = log(alloc, writer, &["stat /a\n"]) else {
         return;
     };
@@ -31,7 +31,7 @@ const SETUP: [(&str, &str); 8] = [
 ];
 
 /// A Create, Writes, a SetLength and a Rename over the plain store; the file is looked at between them.
-pub fn changes<W: Write>(alloc: Global, writer: &mut W) {
+pub(crate) fn changes<W: Write>(alloc: Global, writer: &mut W) {
     let Some(mut looked) = plain(alloc, writer, LOOKS) else {
         return;
     };

@@ -39,7 +39,7 @@ rmdir /d
 ";
 
 /// Each request of the lines is copied, and each answer to them.
-pub fn copies<W: Write>(alloc: Global, writer: &mut W) {
+pub(crate) fn copies<W: Write>(alloc: Global, writer: &mut W) {
     let Some(asked) = calls(alloc, writer, LINES) else {
         return;
     };
@@ -95,7 +95,7 @@ fn copy_answer<W: Write>(alloc: Global, writer: &mut W, answer: &Answer) {
 }
 
 /// A plan is split, answers and a cleaner's are printed, and a report.
-pub fn texts<W: Write>(alloc: Global, writer: &mut W) {
+pub(crate) fn texts<W: Write>(alloc: Global, writer: &mut W) {
     split(alloc, writer);
     let Some(asked) = calls(alloc, writer, LINES) else {
         return;

@@ -38,7 +38,7 @@ fn new_plain(alloc: Global) -> Result<Volume<FlatFiles>, RunFault> {
 }
 
 /// A volume over the plain store at which these lines look, asked for once more where memory was refused.
-pub fn plain<W: Write>(
+pub(crate) fn plain<W: Write>(
     alloc: Global,
     writer: &mut W,
     lines: &'static [&'static str],
@@ -52,7 +52,7 @@ pub fn plain<W: Write>(
 }
 
 /// The same over the log store.
-pub fn log<W: Write>(
+pub(crate) fn log<W: Write>(
     alloc: Global,
     writer: &mut W,
     lines: &'static [&'static str],
@@ -66,7 +66,7 @@ pub fn log<W: Write>(
 }
 
 /// Volumes over both stores are made, and runs on them.
-pub fn volumes<W: Write>(alloc: Global, writer: &mut W) {
+pub(crate) fn volumes<W: Write>(alloc: Global, writer: &mut W) {
     if let Some(mut looked) = plain(alloc, writer, LOOKS) {
         run(alloc, writer, &mut looked, "stat /\nsync\n");
     }

@@ -4,7 +4,7 @@ use std::io::Read;
 
 /// What is done.
 #[derive(Clone, Copy)]
-pub enum Word {
+pub(crate) enum Word {
     /// The script behind the first line is run.
     Run,
     /// The same with its sessions on threads.
@@ -60,7 +60,7 @@ const WORDS: [(&[u8], Word); 15] = [
 const LINE_MAX: usize = 32;
 
 /// The number and the word in the first line.
-pub fn first_line<R: Read>(reader: &mut R) -> Option<(u32, Word)> {
+pub(crate) fn first_line<R: Read>(reader: &mut R) -> Option<(u32, Word)> {
     let mut count = 0u32;
     let mut spelled = [0u8; LINE_MAX];
     let mut length = 0usize;

@@ -89,7 +89,7 @@ fn is_lost<R: Files + AllocGlobal>(rt: &R) -> anyhow::Result<bool> {
 }
 
 /// Tells whether a volume is found in its blocks exactly where its summaries have serials.
-pub fn is_found_by_serials<R: Files + AllocGlobal + Print>(rt: &R) -> anyhow::Result<bool> {
+pub(crate) fn is_found_by_serials<R: Files + AllocGlobal + Print>(rt: &R) -> anyhow::Result<bool> {
     let both = is_found(rt)? && is_lost(rt)?;
     println!(rt; "lfs_check --recover: found by its serials, {both}")?;
     Ok(both)

@@ -10,8 +10,8 @@ use std::rt::Files;
 
 /// The words of a command line.
 #[derive(Clone, Copy)]
-pub struct Words<'a> {
-    pub words: &'a [&'a str],
+pub(crate) struct Words<'a> {
+    pub(crate) words: &'a [&'a str],
 }
 
 impl Env for Words<'_> {
@@ -37,27 +37,27 @@ impl Env for Words<'_> {
 
 /// What a run wrote, and its status.
 #[derive(Drop)]
-pub struct Ended {
-    pub status: u8,
-    pub out: Vec<u8>,
-    pub err: Vec<u8>,
+pub(crate) struct Ended {
+    pub(crate) status: u8,
+    pub(crate) out: Vec<u8>,
+    pub(crate) err: Vec<u8>,
 }
 
 impl Ended {
     /// What is told before the report.
-    pub fn answers(&self) -> &str {
+    pub(crate) fn answers(&self) -> &str {
         let text = str::from_utf8(self.out.as_slice()).unwrap_or_default();
         text.split("entries ").next().unwrap_or_default()
     }
 
     /// Whether all was answered, and nothing is told on standard error.
-    pub fn is_done(&self) -> bool {
+    pub(crate) fn is_done(&self) -> bool {
         self.status == 0 && self.err.is_empty()
     }
 }
 
 /// Runs `lfs_shell` with these words on this input.
-pub fn run<R: Files + AllocGlobal>(rt: &R, words: &[&str], input: &str) -> Ended {
+pub(crate) fn run<R: Files + AllocGlobal>(rt: &R, words: &[&str], input: &str) -> Ended {
     let alloc = rt.alloc();
     let mut streams = Streams {
         stdin: input.as_bytes(),
@@ -443,7 +443,7 @@ fn is_image_past_its_share_refused<R: Files + AllocGlobal>(rt: &R) -> bool {
 }
 
 /// Tells of each of these whether it is so. Whether all are.
-pub fn is_as_told<R: Files + AllocGlobal + Print>(rt: &R) -> anyhow::Result<bool> {
+pub(crate) fn is_as_told<R: Files + AllocGlobal + Print>(rt: &R) -> anyhow::Result<bool> {
     let image = is_unbroken_by_images(rt)?;
     println!(rt; "lfs_shell --image: as unbroken, {image}")?;
     let saved = is_saved_where_asked(rt) && is_saved_before_a_break(rt);

@@ -261,7 +261,7 @@ where
 }
 
 /// Tells of each of these whether it is so. Whether all are.
-pub fn are_as_told<R>(rt: &R) -> anyhow::Result<bool>
+pub(crate) fn are_as_told<R>(rt: &R) -> anyhow::Result<bool>
 where
     R: Files + AllocGlobal + Print + Threads + Wait + Sync,
 {

@@ -13,7 +13,7 @@ use std::thread::Threads;
 const FRAMES: [u32; 2] = [32, 1024];
 
 /// Runs the script that a line of the list names, and tells whether it prints what is stored, also with other frames.
-pub fn is_as_stored<R>(rt: &R, line: &str) -> anyhow::Result<bool>
+pub(crate) fn is_as_stored<R>(rt: &R, line: &str) -> anyhow::Result<bool>
 where
     R: Files + AllocGlobal + Print + Threads + Wait + Sync,
 {
@@ -49,7 +49,7 @@ where
 }
 
 /// The words of a line of a list. Its name stands where the program's own does on a command line.
-pub fn words_in<'a, R: AllocGlobal>(rt: &R, line: &'a str) -> anyhow::Result<Vec<&'a str>> {
+pub(crate) fn words_in<'a, R: AllocGlobal>(rt: &R, line: &'a str) -> anyhow::Result<Vec<&'a str>> {
     let mut words = Vec::new(rt.alloc());
     for word in line.split(' ') {
         words.push(word)?;
@@ -58,7 +58,7 @@ pub fn words_in<'a, R: AllocGlobal>(rt: &R, line: &'a str) -> anyhow::Result<Vec
 }
 
 /// Tells what a script or a talk printed that isn't stored.
-pub fn print_lines<R: AllocGlobal + Print>(
+pub(crate) fn print_lines<R: AllocGlobal + Print>(
     rt: &R,
     line: &str,
     written: &[u8],

@@ -10,7 +10,10 @@ use std::rt::Files;
 
 /// Has the talk that a line of the list names, with the arguments of `lfs_shell` behind the name, and tells whether it tells
 /// what is stored.
-pub fn tells_as_stored<R: Files + AllocGlobal + Print>(rt: &R, line: &str) -> anyhow::Result<bool> {
+pub(crate) fn tells_as_stored<R: Files + AllocGlobal + Print>(
+    rt: &R,
+    line: &str,
+) -> anyhow::Result<bool> {
     let alloc = rt.alloc();
     let words = words_in(rt, line)?;
     let options = shell_options_of(alloc, Ok(words.as_slice())).map_err(|error| anyhow!(
