@@ -37,7 +37,7 @@ use Rattle.lfs_mount.specs.Handled.{IsDirectoryOpened, IsRenamedToFree, IsSet, I
 use Rattle.lfs_mount.specs.Making.{AreMade, calls_as}
 use Rattle.lfs_mount.specs.Leaving.{OnKept, kept_for}
 use Rattle.lfs_mount.specs.Runs.{GoesOn}
-use Rattle.lfs_mount.specs.declared.listing.Listings.{Listings}
+use Rattle.lfs_opens.specs.declared.listing.Listings.{Listings}
 use Rattle.lfs_mount.specs.declared.mount.Beside.{Beside}
 use Rattle.lfs_mount.specs.declared.mount.Sizes.{Sizes}
 use Rattle.lfs_opens.specs.declared.kept.Kept.{Kept}

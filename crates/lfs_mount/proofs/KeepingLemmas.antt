@@ -71,7 +71,7 @@ prepared_other Looks Lacks false file after other h = h
 not_node : (own id : ℕ) → own ≢ id → (own == id) ≡ false
 not_node own id other = grind arith
 
-prepared_stays : (Looks : ℕ → Caller → Kept → Type 0) (Lacks : ℕ → ℕ → Caller → KeepingFault → Type 0)
+prepared_stays : (Looks : ℕ → ℕ → Caller → Kept → Type 0) (Lacks : ℕ → ℕ → Caller → KeepingFault → Type 0)
     (nodes : Parts) (node : ℕ) (message : Said) (left : Option ℕ)
     (before prepared : List (Option OpenFile)) (slot : ℕ) (file : OpenFile)
     → IfSome left (IsLeaving nodes node message) → ArePreparedFor Looks Lacks left before prepared
@@ -82,10 +82,10 @@ prepared_stays Looks Lacks nodes node message None before prepared slot file lea
 prepared_stays Looks Lacks nodes node message (Some id) before prepared slot file leaves h is gone =
     let other = leaving_other nodes node message id file.node leaves gone in
     let at = h slot in
-    let Lacks_here = Lacks id (33554432 - bytes_kept at.between) in
-    prepared_other (Looks id) Lacks_here (file.node == id) file (slice_index_or prepared slot None)
+    let room = 33554432 - bytes_kept at.between in
+    prepared_other (Looks id room) (Lacks id room) (file.node == id) file (slice_index_or prepared slot None)
     (not_node file.node id other)
-    (subst (λ o. IsPrepared (Looks id) Lacks_here id o (slice_index_or prepared slot None)) is at.prepared)
+    (subst (λ o. IsPrepared (Looks id) (Lacks id) id room o (slice_index_or prepared slot None)) is at.prepared)
 
 -- ---- what a message makes of the slots
 

@@ -7,7 +7,6 @@ pub mod HandledLemmas
 pub mod JudgedLemmas
 pub mod KeepingLemmas
 pub mod KeptLemmas
-pub mod ListingLemmas
 pub mod LookedForLemmas
 pub mod LookedLemmas
 pub mod MakingLemmas

@@ -74,32 +74,34 @@ err_map : {A E : Type 0} (r : Result A E) (P Q : E → Type 0) → ((e : E) → 
 err_map (Ok a) P Q f h = tt
 err_map (Err e) P Q f h = f e h
 
-module _ (Looks Looks2 : Caller → Kept → Type 0) (Lacks Lacks2 : Caller → KeepingFault → Type 0)
-    (seen : (c : Caller) (k : Kept) → Looks c k → Looks2 c k)
-    (unseen : (c : Caller) (why : KeepingFault) → Lacks c why → Lacks2 c why) where
+module _ (Looks Looks2 : ℕ → Caller → Kept → Type 0) (Lacks Lacks2 : ℕ → Caller → KeepingFault → Type 0) (room : ℕ)
+    (seen : (c : Caller) (k : Kept) → Looks room c k → Looks2 room c k)
+    (unseen : (c : Caller) (why : KeepingFault) → Lacks room c why → Lacks2 room c why) where
   opener_map : (o : Option Caller) (before after : Option OpenFile)
-      → OnOpener o (λ c. IsKept (Looks c) (Lacks c) before after) (after ≡ before)
-      → OnOpener o (λ c. IsKept (Looks2 c) (Lacks2 c) before after) (after ≡ before)
+      → OnOpener o (λ c. IsKept (Looks room c) (Lacks room c) before after) (after ≡ before)
+      → OnOpener o (λ c. IsKept (Looks2 room c) (Lacks2 room c) before after) (after ≡ before)
   opener_map None before after h = h
   opener_map (Some c) before after h = record {
     seen = h.seen;
     is = h.is;
-    looks = ok_map h.seen (Looks c) (Looks2 c) (seen c) h.looks;
-    lacks = err_map h.seen (Lacks c) (Lacks2 c) (unseen c) h.lacks;
+    looks = ok_map h.seen (Looks room c) (Looks2 room c) (seen c) h.looks;
+    lacks = err_map h.seen (Lacks room c) (Lacks2 room c) (unseen c) h.lacks;
   }
 
-  pub prepared_map : (node : ℕ) (before after : Option OpenFile) → IsPrepared Looks Lacks node before after
-      → IsPrepared Looks2 Lacks2 node before after
+  pub prepared_map : (node : ℕ) (before after : Option OpenFile) → IsPrepared Looks Lacks node room before after
+      → IsPrepared Looks2 Lacks2 node room before after
   prepared_map node before after h = opener_map (opener_of before node) before after h
 
 -- the volume was looked at meanwhile
-seen_in_before : {F : Type 0} (state : F → StoreState) (old now : Seen F) (sight : Result Sight KeepingFault) (caller : Caller)
-    (kept : Kept) → IsLooked state old now → IsSeenIn state now sight caller kept → IsSeenIn state old sight caller kept
-seen_in_before state old now (Ok sight) caller kept looked s = record {
+seen_in_before : {F : Type 0} (state : F → StoreState) (old now : Seen F) (sight : Result Sight KeepingFault) (room : ℕ)
+    (caller : Caller) (kept : Kept) → IsLooked state old now → IsSeenIn state now sight room caller kept
+    → IsSeenIn state old sight room caller kept
+seen_in_before state old now (Ok sight) room caller kept looked s = record {
   bytes = before_look state (λ w. IsReadBy w caller sight.path kept.bytes.items) old now looked s.bytes;
+  fits = s.fits;
   attr = s.attr;
 }
-seen_in_before state old now (Err lacking) caller kept looked s = s
+seen_in_before state old now (Err lacking) room caller kept looked s = s
 
 unseen_in_before : {F : Type 0} (state : F → StoreState) (old now : Seen F) (sight : Result Sight KeepingFault) (room : ℕ)
     (caller : Caller) (why : KeepingFault) → IsLooked state old now → IsUnseenIn state now sight room caller why
@@ -110,16 +112,16 @@ unseen_in_before state old now (Err lacking) room caller why looked u = u
 
 pub prepared_before : {F : Type 0} (state : F → StoreState) (old now : Seen F) (sight : Result Sight KeepingFault)
     (room node : ℕ) (before after : Option OpenFile) → IsLooked state old now
-    → IsPrepared (IsSeenIn state now sight) (IsUnseenIn state now sight room) node before after
-    → IsPrepared (IsSeenIn state old sight) (IsUnseenIn state old sight room) node before after
+    → IsPrepared (IsSeenIn state now sight) (IsUnseenIn state now sight) node room before after
+    → IsPrepared (IsSeenIn state old sight) (IsUnseenIn state old sight) node room before after
 prepared_before state old now sight room node before after looked h =
     prepared_map (IsSeenIn state now sight) (IsSeenIn state old sight)
-    (IsUnseenIn state now sight room) (IsUnseenIn state old sight room)
-    (λ c k s. seen_in_before state old now sight c k looked s)
+    (IsUnseenIn state now sight) (IsUnseenIn state old sight) room
+    (λ c k s. seen_in_before state old now sight room c k looked s)
     (λ c why u. unseen_in_before state old now sight room c why looked u)
     node before after h
 
-module _ (Looks : Caller → Kept → Type 0) (Lacks : ℕ → Caller → KeepingFault → Type 0) (node : ℕ)
+module _ (Looks : ℕ → Caller → Kept → Type 0) (Lacks : ℕ → Caller → KeepingFault → Type 0) (node : ℕ)
     (before : List (Option OpenFile)) where
   looked_for_on : (slot s : ℕ) (mid after : List (Option OpenFile)) → s < slot
       → IsLookedFor Looks Lacks node s before mid
@@ -131,13 +133,13 @@ module _ (Looks : Caller → Kept → Type 0) (Lacks : ℕ → Caller → Keepin
       done = λ t less. h.at.done t less ∙ sym (others t (λ e. omega (arith, low, less, e)));
       rest = h.at.rest;
     };
-    prepared = subst (λ o. IsPrepared Looks (Lacks (33554432 - bytes_kept h.between)) node
+    prepared = subst (λ o. IsPrepared Looks Lacks node (33554432 - bytes_kept h.between)
         (slice_index_or before s None) o) (sym (others s (λ e. omega (arith, low, e)))) h.prepared;
   }
 
   looked_for_now : (slot : ℕ) (mid after : List (Option OpenFile))
       → ((t : ℕ) → slot ≤ t → slice_index_or mid t None ≡ slice_index_or before t None)
-      → IsPrepared Looks (Lacks (33554432 - bytes_kept mid)) node (slice_index_or mid slot None)
+      → IsPrepared Looks Lacks node (33554432 - bytes_kept mid) (slice_index_or mid slot None)
       (slice_index_or after slot None)
       → ((t : ℕ) → t ≢ slot → slice_index_or after t None ≡ slice_index_or mid t None)
       → IsLookedFor Looks Lacks node slot before after
@@ -147,7 +149,7 @@ module _ (Looks : Caller → Kept → Type 0) (Lacks : ℕ → Caller → Keepin
       done = λ t less. sym (others t (λ e. omega (arith, less, e)));
       rest = rest;
     };
-    prepared = subst (λ o. IsPrepared Looks (Lacks (33554432 - bytes_kept mid)) node o
+    prepared = subst (λ o. IsPrepared Looks Lacks node (33554432 - bytes_kept mid) o
         (slice_index_or after slot None)) (rest slot (omega arith)) prepared;
   }
 
@@ -157,7 +159,7 @@ module _ (Looks : Caller → Kept → Type 0) (Lacks : ℕ → Caller → Keepin
   looked_for_past slot after none rest = record {
     between = after;
     at = record { done = λ t less. refl; rest = rest };
-    prepared = subst (λ o. IsPrepared Looks (Lacks (33554432 - bytes_kept after)) node o
+    prepared = subst (λ o. IsPrepared Looks Lacks node (33554432 - bytes_kept after) o
         (slice_index_or after slot None)) (sym none) (rest slot (omega arith) ∙ none);
   }
 
@@ -176,7 +178,7 @@ module _ (Looks : Caller → Kept → Type 0) (Lacks : ℕ → Caller → Keepin
   pub looked_for_next : (slot : ℕ) (mid after : List (Option OpenFile))
       → ((s : ℕ) → s < slot → IsLookedFor Looks Lacks node s before mid)
       → ((t : ℕ) → slot ≤ t → slice_index_or mid t None ≡ slice_index_or before t None)
-      → IsPrepared Looks (Lacks (33554432 - bytes_kept mid)) node (slice_index_or mid slot None)
+      → IsPrepared Looks Lacks node (33554432 - bytes_kept mid) (slice_index_or mid slot None)
       (slice_index_or after slot None)
       → ((t : ℕ) → t ≢ slot → slice_index_or after t None ≡ slice_index_or mid t None)
       → (s : ℕ) → s < slot + 1 → IsLookedFor Looks Lacks node s before after
@@ -206,11 +208,11 @@ module _ (Looks : Caller → Kept → Type 0) (Lacks : ℕ → Caller → Keepin
 -- ---- what is seen of a node's file, by a path that leads to it
 
 module _ {F : Type 0} (state : F → StoreState) (times : List Stamps) (nodes : Parts) (old : Seen F) (node : ℕ) where
-  last_seen : (sight : Result Sight KeepingFault) (caller : Caller) (kept : Kept)
-      → IsSightOr state times nodes old node sight → IsSeenIn state old sight caller kept
-      → IsLastLook state times nodes old node caller kept
-  last_seen (Ok sight) caller kept is s = record { sight = sight; is = is; looks = s }
-  last_seen (Err lacking) caller kept is s = absurd s
+  last_seen : (sight : Result Sight KeepingFault) (room : ℕ) (caller : Caller) (kept : Kept)
+      → IsSightOr state times nodes old node sight → IsSeenIn state old sight room caller kept
+      → IsLastLook state times nodes old node room caller kept
+  last_seen (Ok sight) room caller kept is s = record { sight = sight; is = is; looks = s }
+  last_seen (Err lacking) room caller kept is s = absurd s
 
   missed_by : (sight : Sight) (room : ℕ) (caller : Caller) (why : KeepingFault)
       → IsSight state times nodes old node sight → IsUnseen state old sight.path room caller why
@@ -245,7 +247,7 @@ module _ {F : Type 0} (state : F → StoreState) (times : List Stamps) (nodes : 
         between = at.between;
         at = at.at;
         prepared = prepared_map (IsSeenIn state old sight) (IsLastLook state times nodes old node)
-            (IsUnseenIn state old sight room) (IsLastMiss state nodes old node room)
-            (λ c k s. last_seen sight c k is s) (λ c why u. last_missed sight room c why is u)
+            (IsUnseenIn state old sight) (IsLastMiss state nodes old node) room
+            (λ c k s. last_seen sight room c k is s) (λ c why u. last_missed sight room c why is u)
             node (slice_index_or before slot None) (slice_index_or after slot None) at.prepared;
       }

@@ -40,7 +40,7 @@ use Rattle.lfs_mount.specs.Flags.{flags_wanted}
 use Rattle.lfs_mount.specs.Handled.{Behind, GoesOnFlags, IsDirectoryOpened, IsFlagged, IsLookedAt, IsReleased, IsSet, IsSetAttr}
 use Rattle.lfs_mount.specs.Handled.{IsSetJudged, IsSynced, Unless}
 use Rattle.lfs_mount.specs.Making.{AreMade, GoUpTo}
-use Rattle.lfs_mount.specs.declared.listing.Listings.{Listings}
+use Rattle.lfs_opens.specs.declared.listing.Listings.{Listings}
 use Rattle.lfs_mount.specs.Trees.{AreLedAndMade, LeavesNodes, MovesRow, StayTrue, UnlessRefused}
 use Rattle.lfs_mount.proofs.JudgedLemmas.{AreJudged, judged_made}
 use Rattle.lfs_mount.proofs.TreeLemmas.{KeepNames, emptied_nodes, found_nodes, judged_kept, keep_open, keep_read, keep_set}

@@ -21,7 +21,7 @@ use Rattle.lfs_stamps.specs.Change.{change_of, other_node}
 use Rattle.lfs_stamps.specs.Times.{dated, stamped}
 use Rattle.lfs_mount.specs.Handled.{IsTold}
 use Rattle.lfs_mount.specs.Keeping.{AreStillKept}
-use Rattle.lfs_mount.specs.Listing.{AreListed}
+use Rattle.lfs_opens.specs.Listing.{AreListed}
 use Rattle.lfs_mount.specs.Moving.{NodesBehindOf}
 use Rattle.lfs_opens.specs.Loans.{due, noted, with_handle}
 use Rattle.lfs_opens.specs.Opens.{AreLeft, IsFree, TellsKept}

@@ -36,11 +36,11 @@ use Rattle.lfs_fuse_calls.specs.declared.told.Told.TheVariants as told
 use Rattle.lfs_stamps.specs.Leave.{dating_refusal}
 use Rattle.lfs_mount.specs.Entries.{NodesFollow}
 use Rattle.lfs_mount.specs.Flags.{flags_shown, flags_wanted}
-use Rattle.lfs_mount.specs.Listing.{KeepsShown, TellsEntries, names_at, names_in}
+use Rattle.lfs_opens.specs.Listing.{KeepsShown, TellsEntries, names_at, names_in}
 use Rattle.lfs_mount.specs.Making.{AreMade}
 use Rattle.lfs_mount.specs.Room.{IsRoom, init_told}
 use Rattle.lfs_mount.specs.Trees.{UnlessRefused}
-use Rattle.lfs_mount.specs.declared.listing.Listings.{Listings}
+use Rattle.lfs_opens.specs.declared.listing.Listings.{Listings}
 use Rattle.lfs_mount.specs.declared.mount.Sizes.{Sizes}
 
 -- where each node of a mount hangs

@@ -110,10 +110,11 @@ unlinked attr = record attr { links = 0 }
 abbrev pub attr_left : List Stamps → ℕ → Attrs → Attr
 attr_left times number attrs = dated_attr times (unlinked (attr_of number attrs))
 
--- what somebody sees of a file: all the bytes that he may read now, and its attributes
+-- what somebody sees of a file: all the bytes that he may read now, for which there is room, and its attributes
 pub record IsSeenSo {F : Type 0} (state : F → StoreState) (old : Seen F) (sight : Sight)
-    (caller : Caller) (kept : Kept) : Type 0 where
+    (room : ℕ) (caller : Caller) (kept : Kept) : Type 0 where
   pub bytes : AtPresent state old (λ w. IsReadBy w caller sight.path kept.bytes.items)
+  pub fits : length kept.bytes.items ≤ room
   pub attr : kept.attr ≡ sight.attr
 
 -- An answer of a look from which no bytes come: the call was denied, or memory was wanting.
@@ -157,10 +158,10 @@ IsSightOr state times nodes old node (Err lack.Memory) = ⊤
 IsSightOr state times nodes old node (Err why) = ⊥
 
 -- what somebody sees of a file there, or why he sees nothing of it
-abbrev pub IsSeenIn : {F : Type 0} → (F → StoreState) → Seen F → Result Sight KeepingFault → Caller → Kept
+abbrev pub IsSeenIn : {F : Type 0} → (F → StoreState) → Seen F → Result Sight KeepingFault → ℕ → Caller → Kept
     → Type 0
-IsSeenIn state old (Ok sight) caller kept = IsSeenSo state old sight caller kept
-IsSeenIn state old (Err lacking) caller kept = ⊥
+IsSeenIn state old (Ok sight) room caller kept = IsSeenSo state old sight room caller kept
+IsSeenIn state old (Err lacking) room caller kept = ⊥
 
 abbrev pub IsUnseenIn : {F : Type 0} → (F → StoreState) → Seen F → Result Sight KeepingFault → ℕ → Caller
     → KeepingFault
@@ -168,13 +169,13 @@ abbrev pub IsUnseenIn : {F : Type 0} → (F → StoreState) → Seen F → Resul
 IsUnseenIn state old (Ok sight) room caller why = IsUnseen state old sight.path room caller why
 IsUnseenIn state old (Err lacking) room caller why = why ≡ lacking
 
--- The last look at a node's file as somebody: its path leads to it, the bytes are all those that he may read now, and the
--- attributes are its own.
+-- The last look at a node's file as somebody: its path leads to it, the bytes are all those that he may read now, no more
+-- than there is room for, and the attributes are its own.
 pub record IsLastLook {F : Type 0} (state : F → StoreState) (times : List Stamps) (nodes : Parts)
-    (old : Seen F) (node : ℕ) (caller : Caller) (kept : Kept) : Type 0 where
+    (old : Seen F) (node room : ℕ) (caller : Caller) (kept : Kept) : Type 0 where
   pub sight : Sight
   pub is : IsSight state times nodes old node sight
-  pub looks : IsSeenSo state old sight caller kept
+  pub looks : IsSeenSo state old sight room caller kept
 
 -- a path leads to a node, and somebody sees nothing of its file
 pub record IsMiss {F : Type 0} (state : F → StoreState) (nodes : Parts) (old : Seen F)
@@ -207,12 +208,13 @@ abbrev pub OnOpener : Option Caller → (Caller → Type 0) → Type 0 → Type 
 OnOpener (Some caller) Keeps Stays = Keeps caller
 OnOpener None Keeps Stays = Stays
 
--- a slot, before and after the last look: what is kept is what who opened the file sees; other slots stay
-abbrev pub IsPrepared : (Caller → Kept → Type 0) → (Caller → KeepingFault → Type 0) → ℕ → Option OpenFile
-    → Option OpenFile → Type 0
-IsPrepared Looks Lacks node before after =
-    OnOpener (opener_of before node) (λ caller. IsKept (Looks caller) (Lacks caller) before after)
-    (after ≡ before)
+-- A slot, before and after the last look, for which there was so much room: what is kept is what who opened the file
+-- sees; other slots stay.
+abbrev pub IsPrepared : (ℕ → Caller → Kept → Type 0) → (ℕ → Caller → KeepingFault → Type 0) → ℕ → ℕ
+    → Option OpenFile → Option OpenFile → Type 0
+IsPrepared Looks Lacks node room before after =
+    OnOpener (opener_of before node)
+    (λ caller. IsKept (Looks room caller) (Lacks room caller) before after) (after ≡ before)
 
 -- the files as they are when a slot is looked for: the slots before it are done
 pub record AreBetween (slot : ℕ) (before after between : List (Option OpenFile)) : Type 0 where
@@ -220,21 +222,21 @@ pub record AreBetween (slot : ℕ) (before after between : List (Option OpenFile
   pub rest : (s : ℕ) → slot ≤ s → slice_index_or between s None ≡ slice_index_or before s None
 
 -- a slot so, for which there was the room that what is kept then leaves of 33,554,432 bytes
-pub record IsLookedFor (Looks : Caller → Kept → Type 0) (Lacks : ℕ → Caller → KeepingFault → Type 0)
+pub record IsLookedFor (Looks : ℕ → Caller → Kept → Type 0) (Lacks : ℕ → Caller → KeepingFault → Type 0)
     (node slot : ℕ) (before after : List (Option OpenFile)) : Type 0 where
   pub between : List (Option OpenFile)
   pub at : AreBetween slot before after between
-  pub prepared : IsPrepared Looks (Lacks (33554432 - bytes_kept between)) node
+  pub prepared : IsPrepared Looks Lacks node (33554432 - bytes_kept between)
       (slice_index_or before slot None) (slice_index_or after slot None)
 
 -- each slot so
-abbrev pub ArePrepared : (Caller → Kept → Type 0) → (ℕ → Caller → KeepingFault → Type 0) → ℕ
+abbrev pub ArePrepared : (ℕ → Caller → Kept → Type 0) → (ℕ → Caller → KeepingFault → Type 0) → ℕ
     → List (Option OpenFile) → List (Option OpenFile) → Type 0
 ArePrepared Looks Lacks node before after =
     (slot : ℕ) → IsLookedFor Looks Lacks node slot before after
 
 -- the same where a node is looked at; else nothing changes
-abbrev pub ArePreparedFor : (ℕ → Caller → Kept → Type 0) → (ℕ → ℕ → Caller → KeepingFault → Type 0)
+abbrev pub ArePreparedFor : (ℕ → ℕ → Caller → Kept → Type 0) → (ℕ → ℕ → Caller → KeepingFault → Type 0)
     → Option ℕ → List (Option OpenFile) → List (Option OpenFile) → Type 0
 ArePreparedFor Looks Lacks None before after = after ≡ before
 ArePreparedFor Looks Lacks (Some node) before after =

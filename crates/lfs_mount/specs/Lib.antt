@@ -6,7 +6,6 @@ pub mod Groups
 pub mod Handled
 pub mod Keeping
 pub mod Leaving
-pub mod Listing
 pub mod Making
 pub mod Moving
 pub mod Room

@@ -5,6 +5,7 @@ ghost use Rattle.lfs_fuse_wire.specs.Views.{view};
 ghost use Rattle.lfs_model.specs.World.{Rows};
 ghost use Rattle.lfs_nodes.specs.Nodes.{AreNodes, known, place_at};
 ghost use Rattle.lfs_nodes.specs.Staying.{IdsStay};
+ghost use Rattle.lfs_opens.specs.Listing.{AreListed};
 ghost use Rattle.lfs_mount.specs.Forgetting.{AreForgotten, IsForgetting, IsOneForgotten};
 ghost use Rattle.lfs_mount.specs.Handled.{
   IsDirectoryOpened,
@@ -17,12 +18,10 @@ ghost use Rattle.lfs_mount.specs.Handled.{
   error_of_unserved,
   hangs_in,
 };
-ghost use Rattle.lfs_mount.specs.Listing.{AreListed};
 ghost use Rattle.lfs_mount.specs.Moving.{MovesIfDone, NodesBehind, UnlessRegular};
 ghost use Rattle.lfs_mount.specs.Trees.{StayTrue};
 
 use crate::changing::{Spot, Spots};
-use crate::listing::Listings;
 use crate::mount::Mount;
 use crate::node_tree::NodeTree;
 use crate::room::{init_reply, room};
@@ -37,6 +36,7 @@ use lfs_fuse_wire::naming::RenameMode;
 use lfs_fuse_wire::opcode::Unserved;
 use lfs_nodes::{NodeId, Nodes};
 use lfs_opens::head::Head;
+use lfs_opens::listing::Listings;
 use lfs_types::cred::Cred;
 use lfs_types::mode::Mode;
 use lfs_types::store::FileStore;

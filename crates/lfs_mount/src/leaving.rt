@@ -5,11 +5,13 @@ ghost use Rattle.std.specs.Prelude.{
   ◌≢◌,
   ℕ,
   ◌-◌,
+  ◌≤◌,
   None,
   IfErr,
   IfOk,
   IfSome,
   false,
+  length,
   slice_index_or,
 };
 ghost use Rattle.lfs_volume.specs.Journals.{AtPresent};
@@ -161,6 +163,7 @@ fn all_shown<F: FileStore + Drop>(
 ) -> Result<Vec<u8>, KeepingFault>
     ensures bytes { IfOk result (λ bytes. AtPresent F.state volume.old
         (λ w. IsReadBy w cred.now path.now bytes.items)) }
+    ensures fits { IfOk result (λ bytes. length bytes.items ≤ most) }
     ensures lacks { IfErr result (IsUnseen F.state volume.old path.now most cred.now) }
     ensures looked { IsLooked F.state volume.old volume.new }
 {
@@ -171,6 +174,9 @@ fn all_shown<F: FileStore + Drop>(
             return Err(KeepingFault::Memory);
         }
         if piece.as_slice().len() < PIECE {
+            if bytes.len() > most {
+                return Err(KeepingFault::Room);
+            }
             return Ok(bytes);
         }
     }
@@ -185,7 +191,7 @@ fn last_look<F: FileStore + Drop>(
     sight: &Result<Sight, KeepingFault>,
     most: usize,
 ) -> Result<Kept, KeepingFault>
-    ensures kept { IfOk result (IsSeenIn F.state volume.old sight.now cred.now) }
+    ensures kept { IfOk result (IsSeenIn F.state volume.old sight.now most cred.now) }
     ensures lacks { IfErr result (IsUnseenIn F.state volume.old sight.now most cred.now) }
     ensures looked { IsLooked F.state volume.old volume.new }
 {
@@ -212,8 +218,8 @@ fn look_for<F: FileStore + Drop>(
     leaving: &Leaving,
 )
     ensures prepared { IsPrepared (IsSeenIn F.state volume.old leaving.now.sight)
-        (IsUnseenIn F.state volume.old leaving.now.sight
-        (33554432 - bytes_kept opens.old.files.items)) leaving.now.node
+        (IsUnseenIn F.state volume.old leaving.now.sight) leaving.now.node
+        (33554432 - bytes_kept opens.old.files.items)
         (slice_index_or opens.old.files.items slot None)
         (slice_index_or opens.new.files.items slot None) }
     ensures others { (s : ℕ) → s ≢ slot → slice_index_or opens.new.files.items s None

@@ -11,7 +11,6 @@ mod handling;
 mod keeping;
 pub mod laws;
 mod leaving;
-mod listing;
 mod making;
 pub mod mount;
 mod naming;

@@ -4,10 +4,10 @@ ghost use Rattle.std.specs.Prelude.{◌≡◌, IfOk, replicate};
 ghost use Rattle.lfs_stamps.specs.Stamps.{born};
 ghost use Rattle.lfs_mount.specs.Trees.{AreTrue};
 
-use crate::listing::Listings;
 use crate::node_tree::NodeTree;
 use lfs_fuse_wire::attributes::Time;
 use lfs_nodes::Nodes;
+use lfs_opens::listing::Listings;
 use lfs_opens::loans::Loans;
 use lfs_opens::opens::Opens;
 use lfs_stamps::times::Times;

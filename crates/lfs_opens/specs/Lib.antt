@@ -1,3 +1,4 @@
+pub mod Listing
 pub mod Loans
 pub mod Opens
 pub mod Rewritten

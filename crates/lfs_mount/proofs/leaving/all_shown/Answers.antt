@@ -27,6 +27,25 @@ returns-then-as_slice-lt-PIECE-clause-bytes g c =
     (c.loop-volume.invariant.part from begins) short
     grown
 
+pub returns-then-len-most-clause-lacks : goal.returns-then-len-most-clause-lacks
+returns-then-len-most-clause-lacks g c =
+    let state = g.F.FileStore.state in
+    let old = c.args.volume.now in
+    let bytes = c.loop-volume.bytes.items in
+    let piece = c.in_ok-piece.piece in
+    let off = c.len-in-loop-volume.result in
+    let who = c.args.cred.now in
+    let path = c.args.path.now in
+    let after = c.extend_from_slice.new.self.items in
+    let at = before_look state (λ w. IsPiece w who path off piece) old c.loop-volume.volume
+    c.loop-volume.invariant.looked c.in_ok-piece.ensures.bytes in
+    let grown : after ≡ bytes ++ piece = grind (arith, common_steps) in
+    let more : c.args.most < length after = omega arith in
+    λ from begins. room_lacks (world_after (state old.store).shape.numbers old.journal from) path after c.args.most
+    (read_on (world_after (state old.store).shape.numbers old.journal from) who path bytes piece after off
+    (at from begins) (omega (arith, c.len-in-loop-volume.ensures, c.loop-volume.bytes.ok.0))
+    (c.loop-volume.invariant.part from begins) grown) more
+
 pub loop-volume-preserved : goal.loop-volume-preserved
 loop-volume-preserved g c =
     let state = g.F.FileStore.state in

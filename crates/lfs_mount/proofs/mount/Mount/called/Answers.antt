@@ -10,8 +10,8 @@ use Rattle.lfs_fuse_calls.specs.declared.told.Told.{Told}
 use Rattle.lfs_mount.specs.Answered.{live_in, rows_in}
 use Rattle.lfs_mount.specs.Forgetting.{IsForgetting}
 use Rattle.lfs_mount.specs.Handled.{IsTold}
-use Rattle.lfs_mount.specs.Listing.{AreListed}
-use Rattle.lfs_mount.specs.declared.listing.Listings.{Listings}
+use Rattle.lfs_opens.specs.Listing.{AreListed}
+use Rattle.lfs_opens.specs.declared.listing.Listings.{Listings}
 use Rattle.lfs_mount.specs.Moving.{NodesBehind}
 use Rattle.lfs_opens.specs.Loans.{due, noted}
 use Rattle.lfs_mount.specs.Trees.{StayTrue}

@@ -1,6 +1,0 @@
-use Rattle.lfs_mount.specs.Listing.{names_at}
-use Rattle.lfs_mount.proofs.listing.Listings.get.Goals as goal
-
-pub returns : goal.returns
-unfolding names_at
-returns c = c.get.ensures.value
