@@ -1,11 +1,13 @@
 -- What calls of a durable store come to: its base (`came_base`), its state (`came_state`), and that it can be found.
-use Rattle.std.proofs.Common.{◌≡◌, ℕ, ◌∙◌, List, length, Result, Ok, Err, sym, ap, subst, inl, inr, arith}
-use Rattle.lfs_types.specs.StoreStates.{Applies, StoreState}
+use Rattle.std.proofs.Common.{◌≡◌, ℕ, ◌∙◌, true, None, List, length, Result, Ok, Err, IfErr, refl, sym, ap, subst, inl}
+use Rattle.std.proofs.Common.{inr, arith}
+use Rattle.lfs_types.specs.StoreStates.{Applies, MayRefuse, MovesBase}
 use Rattle.lfs_types.specs.declared.cleaner.BlockInfo.{BlockInfo}
 use Rattle.lfs_types.specs.declared.cleaner.CleanFault.{CleanFault}
 use Rattle.lfs_types.specs.declared.store.Change.{Change}
 use Rattle.lfs_types.specs.declared.store.Reserve.{Reserve}
 use Rattle.lfs_types.specs.declared.store.StoreRefusal.{StoreRefusal}
+use Rattle.lfs_types.specs.declared.store.StoreRefusal.TheVariants.{NoSpace, NoMemory}
 use Rattle.lfs_staging.proofs.StagedLemmas.{stays-refl}
 use Rattle.lfs_parts.specs.declared.parts.Parts.{Parts}
 use Rattle.lfs_parts.specs.Files.{content_of}
@@ -19,38 +21,56 @@ use Rattle.lfs_logstore.specs.Marking.{WritesAgain}
 use Rattle.lfs_logstore.specs.States.{shape_of, state_of}
 use Rattle.lfs_durable.specs.Kept.{CanBeFound}
 use Rattle.lfs_durable.proofs.KeptLemmas.{moves_can_be_found, same_can_be_found, writes_can_be_found}
-use Rattle.lfs_durable_store.specs.Answering.{ComesTo, MovesBase, Settles, SettlesInPlace}
-use Rattle.lfs_durable_store.specs.Keeping.{Durably, IsKept, settled}
+use Rattle.lfs_durable_store.specs.declared.mark.Mark.{Mark}
+use Rattle.lfs_durable_store.specs.Answering.{ComesTo, Settles, SettlesInPlace, mark_behind}
+use Rattle.lfs_durable_store.specs.Keeping.{Durably, IsKept, durable_state, settled}
 use Rattle.lfs_durable_store.specs.Surviving.{BehindIsLater, MarkIsLater}
 use Rattle.lfs_durable_store.proofs.KeepLemmas.{kept_reclaimed, kept_written}
 use Rattle.lfs_ifile.specs.Tables.{Tables}
 
 -- a store that is its own base
-pub own_base : (s : Durably) → s ≡ settled s.store → content_of s.base ≡ content_of s.store
+pub own_base : (s : Durably) → s ≡ settled s.mark.turn s.store → content_of s.base ≡ content_of s.store
 own_base s own = ap (λ (d : Durably). content_of d.base) own
+
+-- its base contains what it does, and is told to be whole
+pub own_told : (s : Durably) → s ≡ settled s.mark.turn s.store
+    → (content_of s.base ≡ content_of s.store) × (s.mark.is_whole ≡ true)
+own_told s own = (own_base s own, ap (λ (d : Durably). d.mark.is_whole) own)
+
+mark_turn : (result : Result (Unit {0}) StoreRefusal) (m : Mark) → (mark_behind result m).turn ≡ m.turn
+mark_turn (Ok done) m = refl
+mark_turn (Err refusal) m = refl
 
 module _ (old new : Durably) (changes : List Change) (by : Reserve) (result : Result (Unit {0}) StoreRefusal)
     (c : ComesTo old changes by result new) where
   -- the base before the changes
-  before_base : content_of new.base ≡ content_of c.before.base → MovesBase old new
-  before_base same = elim c.first [
-    | inl nothing ↦ inl (same ∙ ap (λ (d : Durably). content_of d.base) nothing.1)
-    | inr wrote ↦ inr (inl (same ∙ own_base c.before wrote.1.settles.base ∙ wrote.1.settles.written.content))
+  before_base : content_of new.base ≡ content_of c.before.base → new.mark.turn ≡ c.before.mark.turn
+      → MovesBase (durable_state old) (durable_state new)
+  before_base same turn = elim c.first [
+    | inl nothing ↦ inl (
+      same ∙ ap (λ (d : Durably). content_of d.base) nothing.1,
+      turn ∙ ap (λ (d : Durably). d.mark.turn) nothing.1,
+    )
+    | inr wrote ↦ inr (inl (
+      same ∙ own_base c.before wrote.1.settles.base ∙ wrote.1.settles.written.content,
+      turn ∙ wrote.2,
+    ))
   ]
 
-  pub came_base : MovesBase old new
+  pub came_base : MovesBase (durable_state old) (durable_state new)
   came_base = elim c.behind [
     | inl nothing ↦ before_base (ap (λ (d : Durably). content_of d.base) nothing.1)
-    | inr wrote ↦ inr (inr (own_base new wrote.settles.base))
+        (ap (λ (d : Durably). d.mark.turn) nothing.1 ∙ mark_turn result c.before.mark)
+    | inr wrote ↦ inr (inr (own_told new wrote.settles.base))
   ]
 
 -- ---- the flush behind changes
 -- what was written first is kept
-pub settled_kept : (old new : Durably) → IsKept old → Settles old new → IsKept new
-settled_kept old new k s = subst IsKept (sym s.base) (kept_written old.store new.store k.found s.written)
+pub settled_kept : (old new : Durably) → IsKept old → Settles old.store new → IsKept new
+settled_kept old new k s = subst IsKept (sym s.base) (kept_written new.mark.turn old.store new.store k.found s.written)
 
 -- it was written where the log ended
-pub in_place : (old new : Durably) → IsKept old → Settles old new → SettlesInPlace old new
+pub in_place : (old new : Durably) → IsKept old → Settles old.store new → SettlesInPlace old new
 in_place old new k s = record {
   settles = s;
   clean = elim s.written.left [
@@ -102,11 +122,16 @@ written_shape p q w = λ i. shape_of (w.log.numbers i) (w.log.segments i)
 pub settled_state : (old new : Durably) → SettlesInPlace old new → state_of new.store ≡ state_of old.store
 settled_state old new s =
     let w = s.settles.written in
-    λ i. record { content = w.content i; clean = s.clean i; shape = shape_of (w.log.numbers i) (w.log.segments i) }
+    λ i. record {
+      content = w.content i;
+      clean = s.clean i;
+      shape = shape_of (w.log.numbers i) (w.log.segments i);
+      base = None;
+    }
 
 -- changes, and then what waits is written
-pub written_applies : (old : StoreState) (changes : List Change) (p q : Parts) → WritesWaiting p q
-    → Applies old changes (Ok tt) (state_of p) → Applies old changes (Ok tt) (state_of q)
+pub written_applies : (old : Parts) (changes : List Change) (p q : Parts) → WritesWaiting p q
+    → Applies (state_of old) changes (Ok tt) (state_of p) → Applies (state_of old) changes (Ok tt) (state_of q)
 written_applies old changes p q w a = record {
   ok = w.content ∙ a.ok;
   err = tt;
@@ -115,6 +140,27 @@ written_applies old changes p q w a = record {
     clean = λ none. let less = w.log.clean in let before = a.follows.clean none in omega arith;
     shape = written_shape p q w ∙ a.follows.shape;
   };
+  base = tt;
+}
+
+-- a refusal's cause is that of the log store
+same_cause : (s : Durably) (result : Result (Unit {0}) StoreRefusal) → IfErr result (MayRefuse (state_of s.store))
+    → IfErr result (MayRefuse (durable_state s))
+same_cause s (Ok done) cause = tt
+same_cause s (Err NoSpace) cause = cause
+same_cause s (Err NoMemory) cause = cause
+
+-- what a log store did, a durable one did over it, with its base
+pub durable_applies : (old new : Durably) (changes : List Change) (result : Result (Unit {0}) StoreRefusal)
+    → Applies (state_of old.store) changes result (state_of new.store)
+    → MovesBase (durable_state old) (durable_state new)
+    → Applies (durable_state old) changes result (durable_state new)
+durable_applies old new changes result a base = record {
+  ok = a.ok;
+  err = a.err;
+  refused = same_cause old result a.refused;
+  follows = record { clean = a.follows.clean; shape = a.follows.shape };
+  base = base;
 }
 
 -- ---- the cleaner's calls
@@ -138,9 +184,9 @@ gained_found old new (Err fault) g found =
     let written : WritesWaiting old new = g.written in writes_can_be_found old new written.log found
 
 pub reclaims_kept : (s : Durably) (segment : ℕ) (result : Result (Unit {0}) CleanFault) (p : Parts) → IsKept s
-    → Reclaims s.store segment result p → IsKept (record { store = p; base = s.base })
+    → Reclaims s.store segment result p → IsKept (record { store = p; base = s.base; mark = s.mark })
 reclaims_kept s segment (Ok done) p k r =
     let h : IsReclaimed s.store segment p = r.ok in kept_reclaimed s segment p k h
 reclaims_kept s segment (Err fault) p k r =
     let same : p ≡ s.store = r.refused in
-    subst (λ (q : Parts). IsKept (record { store = q; base = s.base })) (sym same) k
+    subst (λ (q : Parts). IsKept (record { store = q; base = s.base; mark = s.mark })) (sym same) k

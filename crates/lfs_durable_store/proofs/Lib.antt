@@ -4,3 +4,4 @@ pub mod CrashLemmas
 pub mod FitLemmas
 pub mod KeepLemmas
 pub mod RunLemmas
+pub mod WorldLemmas

@@ -55,10 +55,10 @@ module _ (states : ℕ → Durably) (calls : ℕ → DurableCall) where
   more k (applies by changes) here m b =
       let not = quiet k (applies by changes) here (λ no. no) in
       elim (came_base (states k) (states (suc k)) changes by m.0 m.1) [
-        | inl same ↦ stays k not same b
+        | inl same ↦ stays k not same.0 b
         | inr moved ↦ elim moved [
-          | inl old ↦ was k not old
-          | inr new ↦ is k new
+          | inl old ↦ was k not old.0
+          | inr new ↦ is k new.0
         ]
       ]
   more k syncs here m b = is k (own_base (states (suc k)) m.base)

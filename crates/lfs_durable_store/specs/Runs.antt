@@ -27,7 +27,7 @@ pub data DurableCall : Type 0 where
 abbrev pub Makes : DurableCall → Durably → Durably → Type 0
 Makes reads old new = FillsFrames old new
 Makes (applies by changes) old new = (result : Result (Unit {0}) StoreRefusal) × ComesTo old changes by result new
-Makes syncs old new = Settles old new
+Makes syncs old new = Settles old.store new
 Makes (marks infos) old new = (result : Result ℕ CleanFault) × WritesAgain old infos result new
 Makes (cleans segment) old new = (result : Result (Unit {0}) CleanFault) × Reclaims old segment result new
 Makes gains old new = (result : Result (Unit {0}) CleanFault) × GainsRoom old result new

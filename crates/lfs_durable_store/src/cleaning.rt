@@ -25,6 +25,7 @@ impl CleanedStore for DurableStore {
     fn markv(&mut self, marks: &MarkList) -> Result<u32, CleanFault> {
         let marked = self.store.markv(marks);
         self.base = base_of(&self.store);
+        self.mark = self.mark.whole();
         marked
     }
 
@@ -37,6 +38,7 @@ impl CleanedStore for DurableStore {
     fn gain_room(&mut self) -> Result<(), CleanFault> {
         let gained = self.store.gain_room();
         self.base = base_of(&self.store);
+        self.mark = self.mark.whole();
         gained
     }
 }

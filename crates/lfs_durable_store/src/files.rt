@@ -5,9 +5,8 @@ ghost use Rattle.std.specs.FinMap.{get};
 ghost use Rattle.lfs_types.specs.Changes.{CanApply};
 ghost use Rattle.lfs_types.specs.StoreStates.{Applies};
 ghost use Rattle.lfs_types.specs.Stored.{Reads, bytes_of, slice_of};
-ghost use Rattle.lfs_parts.specs.Store.{IsFlushed};
-ghost use Rattle.lfs_durable_store.specs.Answering.{ComesTo, FillsFrames, MovesBase, SettlesIfPast, SettlesInPlace, WritesFirst};
-ghost use Rattle.lfs_durable_store.specs.Keeping.{durable_state};
+ghost use Rattle.lfs_durable_store.specs.Answering.{ComesTo, FillsFrames, SettlesIfPast, SettlesInPlace, WritesFirst};
+ghost use Rattle.lfs_durable_store.specs.Keeping.{IsSettled, durable_state};
 
 use crate::fitting::{fits, fits_with};
 use crate::store::{DurableStore, settle};
@@ -25,28 +24,29 @@ impl DurableStore {
     {
         if !fits_with(self.store.parts(), changes) {
             settle(&mut self.store, &mut self.base);
+            self.mark = self.mark.turned();
         }
     }
 }
 
-/// Writes what waits where it doesn't fit the active segment.
-fn settle_if_past(store: &mut LogStore, base: &mut Snapshot<LogStore>)
-    ensures { SettlesIfPast (record { store = store.old; base = base.old.value })
-        (record { store = store.new; base = base.new.value }) }
+/// Writes what waits where it doesn't fit the active segment, and says whether it did.
+fn settle_if_past(store: &mut LogStore, base: &mut Snapshot<LogStore>) -> bool
+    ensures { SettlesIfPast store.old base.old.value result store.new base.new.value }
 {
-    if !fits(store.parts()) {
-        settle(store, base);
+    if fits(store.parts()) {
+        return false;
     }
+    settle(store, base);
+    true
 }
 
 impl FileStore for DurableStore {
-    ghost use Rattle.lfs_parts.specs.Store.{IsFlushed};
     ghost use Rattle.lfs_durable_store.specs.Answering.{ComesTo};
-    ghost use Rattle.lfs_durable_store.specs.Keeping.{durable_state};
+    ghost use Rattle.lfs_durable_store.specs.Keeping.{IsSettled, durable_state};
 
     ghost state = { durable_state };
 
-    ghost is_flushed = { λ s. IsFlushed s.store };
+    ghost is_flushed = { IsSettled };
 
     ghost made = { ComesTo };
 
@@ -82,22 +82,22 @@ impl FileStore for DurableStore {
         ensures applies { Applies (durable_state self.old) changes.now result
             (durable_state self.new) }
         ensures made { ComesTo self.old changes.now by result self.new }
-        ensures base { MovesBase self.old self.new }
     {
         self.make_way(changes);
         self.store.apply(changes, by)?;
-        settle_if_past(&mut self.store, &mut self.base);
+        self.mark.is_whole = settle_if_past(&mut self.store, &mut self.base);
         Ok(())
     }
 
     /// Writes what waits. It always has room, and opens no segment.
     fn sync(&mut self) -> Result<(), StoreRefusal>
         ensures applies { Applies (durable_state self.old) [] result (durable_state self.new) }
-        ensures flushed { OnOk result (IsFlushed self.new.store) }
+        ensures flushed { OnOk result (IsSettled self.new) }
         ensures settles { SettlesInPlace self.old self.new }
         ensures never { OnErr result ⊥ }
     {
         settle(&mut self.store, &mut self.base);
+        self.mark = self.mark.whole();
         Ok(())
     }
 }

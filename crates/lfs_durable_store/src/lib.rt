@@ -6,8 +6,10 @@ mod cleaning;
 mod files;
 mod fitting;
 mod laws;
+mod mark;
 mod showing;
 mod store;
 
 pub use laws::{behind_is_later, finds_prefix, mark_is_later, survives_later};
+pub use mark::Mark;
 pub use store::DurableStore;

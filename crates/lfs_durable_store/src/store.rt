@@ -1,14 +1,15 @@
 //! The store.
 
-ghost use Rattle.std.specs.Prelude.{◌≡◌, ◌↔◌, IfOk, IsErrOf, Some};
+ghost use Rattle.std.specs.Prelude.{◌≡◌, ◌↔◌, IfOk, IsErrOf, Some, false};
 ghost use Rattle.lfs_parts.specs.Opening.{IsOpeningWith, IsTooFew, IsTooMany};
 ghost use Rattle.lfs_parts.specs.Store.{IsFlushed, IsStore};
-ghost use Rattle.lfs_logstore.specs.States.{opening_state};
+ghost use Rattle.lfs_segwrite.specs.Applying.{WritesWaiting};
+ghost use Rattle.lfs_logstore.specs.States.{opening_state, state_of};
 ghost use Rattle.lfs_durable.specs.Kept.{CanBeFound};
-ghost use Rattle.lfs_durable_store.specs.Answering.{Settles};
-ghost use Rattle.lfs_durable_store.specs.Keeping.{IsKept, durable_state, settled};
+ghost use Rattle.lfs_durable_store.specs.Keeping.{IsKept, settled};
 ghost use Rattle.lfs_durable_store.specs.Surviving.{Survives};
 
+use crate::mark::Mark;
 use lfs_logstore::LogStore;
 use lfs_types::fault::FormatFault;
 use lfs_types::store::{FileStore, Params};
@@ -23,6 +24,7 @@ pub struct DurableStore {
     pub(crate) store: LogStore,
     /// The log store when last nothing waited. It takes no bytes: only proofs look at it.
     pub(crate) base: Snapshot<LogStore>,
+    pub(crate) mark: Mark,
 }
 
 impl Model for DurableStore {
@@ -30,9 +32,10 @@ impl Model for DurableStore {
 
     ghost Value = { Durably };
 
-    ghost view = { λ s. record { store = s.store; base = s.base.value } };
+    ghost view = { λ s. record { store = s.store; base = s.base.value; mark = s.mark } };
 
-    ghost invariant = { λ s. IsKept (record { store = s.store; base = s.base.value }) };
+    ghost invariant = { λ s. IsKept
+        (record { store = s.store; base = s.base.value; mark = s.mark }) };
 }
 
 /// The base that a log store is, where nothing waits.
@@ -46,8 +49,8 @@ pub(crate) fn base_of(store: &LogStore) -> Snapshot<LogStore>
 
 /// Writes what waits, and takes the store for its base.
 pub(crate) fn settle(store: &mut LogStore, base: &mut Snapshot<LogStore>)
-    ensures { Settles (record { store = store.old; base = base.old.value })
-        (record { store = store.new; base = base.new.value }) }
+    ensures written { WritesWaiting store.old store.new }
+    ensures base { base.new.value ≡ store.new }
 {
     match store.sync() {
         Ok(()) => {}
@@ -70,11 +73,11 @@ impl DurableStore {
             ↔ IsTooFew params.segments params.inodes params.frames }
         ensures too_many { IsErrOf result FormatFault.TooMany
             ↔ IsTooMany params.segments params.inodes params.frames }
-        ensures opening { IfOk result (λ s. durable_state s
+        ensures opening { IfOk result (λ s. state_of s.store
             ≡ opening_state params.segments params.inodes) }
         ensures laid_out { IfOk result (λ s. IsOpeningWith (Some 1) params.segments params.inodes
             params.frames s.store) }
-        ensures base { IfOk result (λ s. s ≡ settled s.store) }
+        ensures base { IfOk result (λ s. s ≡ settled false s.store) }
     {
         let store = LogStore::format_with_serials(alloc, params)?;
         Ok(DurableStore::over(store))
@@ -84,10 +87,22 @@ impl DurableStore {
     pub fn over(store: LogStore) -> DurableStore
         requires found { CanBeFound store }
         requires flushed { IsFlushed store }
-        ensures { result ≡ settled store }
+        ensures { result ≡ settled false store }
     {
         let base = base_of(&store);
-        DurableStore { store, base }
+        DurableStore {
+            store,
+            base,
+            mark: Mark::first(),
+        }
+    }
+
+    /// What it tells of its base.
+    pub fn mark(&self) -> Mark
+        ensures mark { result ≡ self.now.mark }
+        ensures kept { IsKept self.now }
+    {
+        self.mark
     }
 
     /// The log store, to be looked at.

@@ -7,4 +7,6 @@ invariant_of-self c =
     let given = c.gain_room-gained.ensures.given in
     let new = c.gain_room-gained.new.self in
     let found = gained_found c.self.inside.store new c.gain_room-gained.result given c.self.invariant.found in
-    kept_own new c.base_of.result.value c.base_of.ensures.base found c.base_of.ensures.store given.flushed
+    kept_own c.self.inside.mark.turn new c.base_of.result.value c.whole-self-inside.result c.base_of.ensures.base
+    c.whole-self-inside.ensures
+    found c.base_of.ensures.store given.flushed

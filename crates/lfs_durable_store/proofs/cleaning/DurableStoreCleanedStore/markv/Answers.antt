@@ -6,5 +6,8 @@ pub invariant_of-self : goal.invariant_of-self
 invariant_of-self c =
     let given = c.markv-marked.ensures.given in
     let new = c.markv-marked.new.self in
-    let found = marked_found c.self.inside.store new c.args.marks.now c.markv-marked.result given c.self.invariant.found in
-    kept_own new c.base_of.result.value c.base_of.ensures.base found c.base_of.ensures.store given.flushed
+    let found = marked_found c.self.inside.store new c.args.marks.now c.markv-marked.result given c.self.invariant.found
+    in
+    kept_own c.self.inside.mark.turn new c.base_of.result.value c.whole-self-inside.result c.base_of.ensures.base
+    c.whole-self-inside.ensures
+    found c.base_of.ensures.store given.flushed
