@@ -1,12 +1,13 @@
 //! What no clause says of audits: that the journals of threads are legal, what is told of a journal, lines that are
 //! read and told again, and entries that are judged by hand. And of images: verdicts on them, and volumes found in
-//! blocks.
+//! blocks, also of one that counts what is found.
 
 mod checking;
 mod command;
 mod image;
 mod journals;
 mod lines;
+mod logged;
 mod rescue;
 mod trace;
 mod trail;
