@@ -1,6 +1,6 @@
 -- Bytes over those of a locked frame leave a cache (`over_step`) whose contents are those of before but for the block of
--- the frame's key (`over_block`, `over_dirty`, `over_keys`, `over_clean`), for `Cache::overwrite`. No other frame has that
--- key, and the frame is in LOCKED alone (`in_one`), so no other entry reads its bytes.
+-- the frame's key (`overwrites`), as contracts tell it (`over_told`), for `Cache::overwrite`. No other frame has that key,
+-- and the frame is in LOCKED alone (`in_one`), so no other entry reads its bytes.
 use Rattle.std.proofs.Common.{◌≡◌, ℕ, ◌+◌, ◌<◌, ◌≤◌, false, cond, List, [], ◌∷◌, ◌++◌, length, take, drop, Option, Some}
 use Rattle.std.proofs.Common.{refl, sym, ap, subst, ◌∙◌, inl, inr, arith}
 use Rattle.std.specs.Prelude.{map}

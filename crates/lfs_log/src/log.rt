@@ -155,6 +155,13 @@ impl Log {
         self.segments.segments()
     }
 
+    /// The blocks of all segments, to be looked at.
+    pub fn memory(&self) -> &Segments
+        ensures { result.now ≡ self.now.memory }
+    {
+        &self.segments
+    }
+
     /// The number of inode numbers, 16 to 4,096.
     pub fn inodes(&self) -> u32
         ensures inodes { result ≡ length self.now.tables.rows }
