@@ -1,7 +1,8 @@
 //! A log, checked from its end to its live bytes.
 
-ghost use Rattle.std.specs.Prelude.{◌≡◌, ◌+◌, ◌*◌, ◌-◌, ◌<◌, ◌≤◌, ℕ, IfErr, IfOk, OnOk, length};
+ghost use Rattle.std.specs.Prelude.{◌≡◌, ◌+◌, ◌*◌, ◌-◌, ◌<◌, ◌≤◌, ℕ, [], IfErr, IfOk, OnOk, length};
 ghost use Rattle.lfs_types.specs.declared.limits.TheConstants.{SEGMENT_BLOCKS};
+ghost use Rattle.lfs_segments.specs.Log.{Expects};
 ghost use Rattle.lfs_segments.specs.Memory.{next_address};
 ghost use Rattle.lfs_bmap.specs.declared.blocks.TheConstants.{BLOCK_CODES};
 ghost use Rattle.lfs_log.specs.Parts.{IsParts, live_of};
@@ -48,13 +49,26 @@ fn check_parts(alloc: Global, log: &Log) -> Result<(), LogFault>
     ensures ok { OnOk result (IsStored log.now) }
     ensures fault { IfErr result (IsLogFaultOf log.now) }
 {
+    let counts = count_live(alloc, log)?;
+    check_live(log, &counts)?;
+    check_room(log)?;
+    Ok(())
+}
+
+/// The bytes of each segment that the files of a log have there, which its ifile is to tell as live; or what is wrong
+/// with the log, its counts of live bytes aside.
+pub fn count_live(alloc: Global, log: &Log) -> Result<Vec<u64>, LogFault>
+    ensures end { OnOk result (Expects log.now.memory []) }
+    ensures counted { IfOk result (λ counts.
+        IsCounted log.now (length log.now.tables.rows) 0 counts.items) }
+    ensures files { OnOk result (AreChecked log.now (length log.now.tables.rows)) }
+    ensures fault { IfErr result (IsLogFaultOf log.now) }
+{
     check_end(log)?;
     let names = names(alloc, log)?;
     let mut counts = no_counts(alloc, log)?;
     check_numbers(log, &names, &mut counts)?;
-    check_live(log, &counts)?;
-    check_room(log)?;
-    Ok(())
+    Ok(counts)
 }
 
 /// A count of no bytes for each segment.

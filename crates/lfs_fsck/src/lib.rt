@@ -13,5 +13,5 @@ mod reader;
 mod records;
 mod tail;
 
-pub use checking::check_log;
+pub use checking::{check_log, count_live};
 pub use fault::LogFault;

@@ -8,5 +8,5 @@ mod loading;
 mod saving;
 
 pub use fault::ImageFault;
-pub use loading::{load, read_blocks};
+pub use loading::{is_labelled, load, read_blocks};
 pub use saving::save;

@@ -204,8 +204,8 @@ fn joined(head: &Head, segments: Segments, ifile: Ifile, bytes: &[u8]) -> Result
     }
 }
 
-/// Whether the block at address 0 is the label of such a volume.
-fn is_labelled(log: &Log) -> bool
+/// Whether the block at address 0 of a log is its label, of as many segments and inode numbers.
+pub fn is_labelled(log: &Log) -> bool
     ensures { IsTrue result ↔ IsLabelled log.now }
 {
     let wanted = label(log.segments(), log.inodes());
