@@ -87,7 +87,8 @@ impl DurableStore {
     pub fn over(store: LogStore) -> DurableStore
         requires found { CanBeFound store }
         requires flushed { IsFlushed store }
-        ensures { result ≡ settled false store }
+        ensures settled { result ≡ settled false store }
+        ensures kept { IsKept result }
     {
         let base = base_of(&store);
         DurableStore {
