@@ -1,7 +1,8 @@
 -- On a log that has a fault no store stands: `not_stored`, for `check_log` and lfs_image. Of every store it holds that
 -- each key's block lies in the volume, is named by the log and lies in no clean segment, that each number in use has a
 -- record of its own, and that the tables have the sums that are counted; each fault but the want of memory is the
--- opposite of one of these. How many frames a cache would have makes no difference (`other_frames`).
+-- opposite of one of these. How many frames a cache would have makes no difference (`other_frames`). A fault of the files
+-- is one of the log (`of_log`).
 use Rattle.std.proofs.Common.{◌≡◌, ℕ, is_some, refl, sym, ap, ◌∙◌, arith}
 use Rattle.std.proofs.lemmas.Bool.{false≢true}
 use Rattle.lfs_types.specs.Ranges.{least_frames}
@@ -11,7 +12,7 @@ use Rattle.lfs_fsck.specs.declared.fault.LogFault.{LogFault}
 use Rattle.lfs_fsck.specs.declared.fault.LogFault.TheVariants.{Unfinished, NotZeros, Reserved, NoRecord, OtherRecord}
 use Rattle.lfs_fsck.specs.declared.fault.LogFault.TheVariants.{Outside, Misnamed, InClean, Unwritten, PastSize, Tail}
 use Rattle.lfs_fsck.specs.declared.fault.LogFault.TheVariants.{Live, Crowded, Memory}
-use Rattle.lfs_fsck.specs.Faults.{IsLogFaultOf}
+use Rattle.lfs_fsck.specs.Faults.{IsFileFaultOf, IsLogFaultOf}
 use Rattle.lfs_fsck.specs.Stored.{flushed, stored}
 use Rattle.lfs_fsck.proofs.StoreLemmas.{other_frames}
 
@@ -38,3 +39,19 @@ not_flushed l Memory h other s = other refl
 pub not_stored : (l : LogParts) (fault : LogFault) → IsLogFaultOf l fault → (fault ≡ Memory → ⊥) → (frames : ℕ)
     → IsStore (stored frames l) → ⊥
 not_stored l fault h other frames s = not_flushed l fault h other (other_frames l frames least_frames s)
+
+pub of_log : (l : LogParts) (fault : LogFault) → IsFileFaultOf l fault → IsLogFaultOf l fault
+of_log l (Unfinished segment) h = h
+of_log l (NotZeros address) h = h
+of_log l (Reserved number) h = h
+of_log l (NoRecord number) h = h
+of_log l (OtherRecord number) h = h
+of_log l (Outside number code) h = h
+of_log l (Misnamed number code) h = h
+of_log l (InClean number code) h = h
+of_log l (Unwritten number code) h = h
+of_log l (PastSize number code) h = h
+of_log l (Tail number) h = h
+of_log l (Live segment) h = absurd h
+of_log l (Crowded segment) h = absurd h
+of_log l Memory h = tt

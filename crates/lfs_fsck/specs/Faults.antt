@@ -75,3 +75,20 @@ IsLogFaultOf l (Crowded segment) =
     (segment ≡ l.memory.active)
     × (512 * (next_address l.memory - SEGMENT_BLOCKS * l.memory.active) < live_of l.tables l.memory.active)
 IsLogFaultOf l Memory = Unit {0}
+
+-- So of a fault of a log's files and of its end: never one of its counts of live bytes.
+abbrev pub IsFileFaultOf : LogParts → LogFault → Type 0
+IsFileFaultOf l (Unfinished segment) = IsLogFaultOf l (Unfinished segment)
+IsFileFaultOf l (NotZeros address) = IsLogFaultOf l (NotZeros address)
+IsFileFaultOf l (Reserved number) = IsLogFaultOf l (Reserved number)
+IsFileFaultOf l (NoRecord number) = IsLogFaultOf l (NoRecord number)
+IsFileFaultOf l (OtherRecord number) = IsLogFaultOf l (OtherRecord number)
+IsFileFaultOf l (Outside number code) = IsLogFaultOf l (Outside number code)
+IsFileFaultOf l (Misnamed number code) = IsLogFaultOf l (Misnamed number code)
+IsFileFaultOf l (InClean number code) = IsLogFaultOf l (InClean number code)
+IsFileFaultOf l (Unwritten number code) = IsLogFaultOf l (Unwritten number code)
+IsFileFaultOf l (PastSize number code) = IsLogFaultOf l (PastSize number code)
+IsFileFaultOf l (Tail number) = IsLogFaultOf l (Tail number)
+IsFileFaultOf l (Live segment) = ⊥
+IsFileFaultOf l (Crowded segment) = ⊥
+IsFileFaultOf l Memory = Unit {0}

@@ -9,7 +9,7 @@ ghost use Rattle.lfs_log.specs.Parts.{IsParts, live_of};
 ghost use Rattle.lfs_parts.specs.Store.{IsStore};
 ghost use Rattle.lfs_fsck.specs.declared.fault.LogFault.TheVariants.{Memory};
 ghost use Rattle.lfs_fsck.specs.Checks.{AreChecked, IsCounted, IsFine, IsLive, IsRecordOf};
-ghost use Rattle.lfs_fsck.specs.Faults.{IsLogFaultOf};
+ghost use Rattle.lfs_fsck.specs.Faults.{IsFileFaultOf, IsLogFaultOf};
 ghost use Rattle.lfs_fsck.specs.Names.{AreNames};
 ghost use Rattle.lfs_fsck.specs.Stored.{IsStored, stored};
 
@@ -62,7 +62,7 @@ pub fn count_live(alloc: Global, log: &Log) -> Result<Vec<u64>, LogFault>
     ensures counted { IfOk result (λ counts.
         IsCounted log.now (length log.now.tables.rows) 0 counts.items) }
     ensures files { OnOk result (AreChecked log.now (length log.now.tables.rows)) }
-    ensures fault { IfErr result (IsLogFaultOf log.now) }
+    ensures fault { IfErr result (IsFileFaultOf log.now) }
 {
     check_end(log)?;
     let names = names(alloc, log)?;
@@ -89,7 +89,7 @@ fn check_numbers(
     ensures counted { OnOk result
         (IsCounted log.now (length log.now.tables.rows) 0 counts.new.items) }
     ensures files { OnOk result (AreChecked log.now (length log.now.tables.rows)) }
-    ensures fault { IfErr result (IsLogFaultOf log.now) }
+    ensures fault { IfErr result (IsFileFaultOf log.now) }
 {
     for number in 0..log.inodes() {
         check_number(log, names, counts, number)?;
@@ -109,7 +109,7 @@ fn check_number(
     requires so_far { IsCounted log.now number 0 counts.old.items }
     ensures counted { OnOk result (IsCounted log.now (number + 1) 0 counts.new.items) }
     ensures file { OnOk result (IsFine log.now number) }
-    ensures fault { IfErr result (IsLogFaultOf log.now) }
+    ensures fault { IfErr result (IsFileFaultOf log.now) }
 {
     let Some(place) = log.place(number) else {
         return Ok(());
@@ -138,7 +138,7 @@ fn count_codes(
     requires few { codes.end ≤ BLOCK_CODES }
     requires so_far { IsCounted log.now inode.now.number codes.start counts.old.items }
     ensures ok { OnOk result (IsCounted log.now inode.now.number codes.end counts.new.items) }
-    ensures fault { IfErr result (IsLogFaultOf log.now) }
+    ensures fault { IfErr result (IsFileFaultOf log.now) }
 {
     for code in codes.start..codes.end {
         count_block(log, names, counts, inode, block_with(code))?;
@@ -158,7 +158,7 @@ fn count_children(
     requires names { AreNames log.now.memory (log.now.memory.segments * 64) names.now }
     requires so_far { IsCounted log.now inode.now.number 271 counts.old.items }
     ensures ok { OnOk result (IsCounted log.now inode.now.number BLOCK_CODES counts.new.items) }
-    ensures fault { IfErr result (IsLogFaultOf log.now) }
+    ensures fault { IfErr result (IsFileFaultOf log.now) }
 {
     for child in 0..TABLE_CELLS {
         count_child(log, names, counts, inode, child)?;
@@ -181,7 +181,7 @@ fn count_child(
     requires so_far { IsCounted log.now inode.now.number (271 + 128 * child) counts.old.items }
     ensures ok { OnOk result
         (IsCounted log.now inode.now.number (271 + 128 * child + 128) counts.new.items) }
-    ensures fault { IfErr result (IsLogFaultOf log.now) }
+    ensures fault { IfErr result (IsFileFaultOf log.now) }
 {
     if address_of(log, inode, FileBlock::Child(child as u8)) == 0 {
         return Ok(());

@@ -5,7 +5,7 @@ ghost use Rattle.lfs_ifile.specs.Tables.{place_of};
 ghost use Rattle.lfs_bmap.specs.Blocks.{IsFileBlock, code_of, file_block_of, way_to};
 ghost use Rattle.lfs_bmap.specs.Log.{IsPlaced};
 ghost use Rattle.lfs_fsck.specs.Checks.{IsCounted, IsLaid, IsOwned, IsRecordOf};
-ghost use Rattle.lfs_fsck.specs.Faults.{IsLogFaultOf};
+ghost use Rattle.lfs_fsck.specs.Faults.{IsFileFaultOf};
 ghost use Rattle.lfs_fsck.specs.Names.{AreNames, IsNameOf, IsOfRecords};
 ghost use Rattle.lfs_fsck.specs.Stored.{keys_of, flushed};
 ghost use Rattle.lfs_bmap.specs.Reading.{address};
@@ -28,7 +28,7 @@ fn check_place(log: &Log, number: u32, code: u32, address: u32) -> Result<(), Lo
     requires key { IsPlaced (keys_of log.now) number code }
     requires here { (keys_of log.now).at number code / 4 ≡ address }
     ensures ok { OnOk result (IsLaid (keys_of log.now) ((keys_of log.now).at number code)) }
-    ensures fault { IfErr result (IsLogFaultOf log.now) }
+    ensures fault { IfErr result (IsFileFaultOf log.now) }
 {
     let segment = address / SEGMENT_BLOCKS;
     if segment >= log.segments() {
@@ -105,7 +105,7 @@ fn check_name(
     requires key { IsPlaced (keys_of log.now) inode.now.number code }
     requires here { (keys_of log.now).at inode.now.number code ≡ 4 * address }
     ensures ok { OnOk result (IsOwned (keys_of log.now) inode.now.number code) }
-    ensures fault { IfErr result (IsLogFaultOf log.now) }
+    ensures fault { IfErr result (IsFileFaultOf log.now) }
 {
     if is_name_of(names[address as usize], inode, code) {
         Ok(())
@@ -131,7 +131,7 @@ fn check_record_name(
     requires some { place.addr ≢ 0 }
     requires here { place_of log.now.tables inode.now.number ≡ Some place }
     ensures ok { OnOk result (IsOwned (keys_of log.now) inode.now.number 0) }
-    ensures fault { IfErr result (IsLogFaultOf log.now) }
+    ensures fault { IfErr result (IsFileFaultOf log.now) }
 {
     if is_of_records(names[place.addr as usize]) {
         Ok(())
@@ -149,7 +149,7 @@ fn check_size(log: &Log, inode: &Inode, block: FileBlock) -> Result<(), LogFault
     requires can { IsFileBlock block }
     requires some { address (tree_of (flushed log.now) inode.now.number) (way_to block) ≢ 0 }
     ensures ok { OnOk result (IsWithin block inode.now.size) }
-    ensures fault { IfErr result (IsLogFaultOf log.now) }
+    ensures fault { IfErr result (IsFileFaultOf log.now) }
 {
     if within(block, inode.size) {
         Ok(())
@@ -175,7 +175,7 @@ pub(crate) fn count_record(
     requires names { AreNames log.now.memory (log.now.memory.segments * 64) names.now }
     requires so_far { IsCounted log.now inode.now.number 0 counts.old.items }
     ensures ok { OnOk result (IsCounted log.now inode.now.number 1 counts.new.items) }
-    ensures fault { IfErr result (IsLogFaultOf log.now) }
+    ensures fault { IfErr result (IsFileFaultOf log.now) }
 {
     if place.addr == 0 {
         return Ok(());
@@ -202,7 +202,7 @@ pub(crate) fn count_block(
     requires so_far { IsCounted log.now inode.now.number (code_of block) counts.old.items }
     ensures ok { OnOk result
         (IsCounted log.now inode.now.number (code_of block + 1) counts.new.items) }
-    ensures fault { IfErr result (IsLogFaultOf log.now) }
+    ensures fault { IfErr result (IsFileFaultOf log.now) }
 {
     let code = block.code();
     let address = address_of(log, inode, block);

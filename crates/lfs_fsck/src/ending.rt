@@ -4,7 +4,7 @@ ghost use Rattle.std.specs.Prelude.{◌≡◌, ◌↔◌, ◌+◌, ◌*◌, ◌<
 ghost use Rattle.lfs_types.specs.Blocks.{zero_block};
 ghost use Rattle.lfs_segments.specs.Log.{Expects, expected_at};
 ghost use Rattle.lfs_segments.specs.Memory.{block_at, next_address};
-ghost use Rattle.lfs_fsck.specs.Faults.{IsLogFaultOf};
+ghost use Rattle.lfs_fsck.specs.Faults.{IsFileFaultOf};
 
 use crate::bytes::is_zeros;
 use crate::fault::LogFault;
@@ -16,7 +16,7 @@ use lfs_types::limits::SEGMENT_BLOCKS;
 /// Unfinished or NotZeros where the active segment's log doesn't go on with a summary, over zeros.
 pub(crate) fn check_end(log: &Log) -> Result<(), LogFault>
     ensures ok { OnOk result (Expects log.now.memory []) }
-    ensures fault { IfErr result (IsLogFaultOf log.now) }
+    ensures fault { IfErr result (IsFileFaultOf log.now) }
 {
     if goes_on(log) {
         check_zeros(log)
@@ -45,7 +45,7 @@ fn check_zeros(log: &Log) -> Result<(), LogFault>
     ensures ok { OnOk result ((a : ℕ) → next_address log.now.memory ≤ a
         → a < log.now.memory.active * 64 + 64
         → block_at log.now.memory a ≡ zero_block) }
-    ensures fault { IfErr result (IsLogFaultOf log.now) }
+    ensures fault { IfErr result (IsFileFaultOf log.now) }
 {
     for address in log.next_address()..(log.active() + 1) * SEGMENT_BLOCKS {
         check_zero(log, address)?;
@@ -59,7 +59,7 @@ fn check_zero(log: &Log, address: u32) -> Result<(), LogFault>
     requires below { address < log.now.memory.active * 64 + 64 }
     requires inside { address < log.now.memory.segments * 64 }
     ensures ok { OnOk result (block_at log.now.memory address ≡ zero_block) }
-    ensures fault { IfErr result (IsLogFaultOf log.now) }
+    ensures fault { IfErr result (IsFileFaultOf log.now) }
 {
     if is_zeros(log.block(address)) {
         Ok(())

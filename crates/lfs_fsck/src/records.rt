@@ -5,7 +5,7 @@ ghost use Rattle.lfs_types.specs.declared.limits.TheConstants.{FIRST_INODE, ROOT
 ghost use Rattle.lfs_ifile.specs.Tables.{place_of};
 ghost use Rattle.lfs_log.specs.Parts.{IsParts};
 ghost use Rattle.lfs_fsck.specs.Checks.{IsRecordOf};
-ghost use Rattle.lfs_fsck.specs.Faults.{IsLogFaultOf};
+ghost use Rattle.lfs_fsck.specs.Faults.{IsFileFaultOf};
 
 use crate::fault::LogFault;
 use lfs_ifile::InodePlace;
@@ -37,7 +37,7 @@ pub(crate) fn record_of(log: &Log, number: u32, place: InodePlace) -> Result<Ino
     ensures record { IfOk result (IsRecordOf log.now) }
     ensures number { IfOk result (λ inode. inode.number ≡ number) }
     ensures allowed { OnOk result (number < FIRST_INODE → number ≡ ROOT_INODE) }
-    ensures fault { IfErr result (IsLogFaultOf log.now) }
+    ensures fault { IfErr result (IsFileFaultOf log.now) }
 {
     if is_reserved(number) {
         return Err(LogFault::Reserved { number });

@@ -6,7 +6,7 @@ ghost use Rattle.lfs_bmap.specs.Reading.{data_block};
 ghost use Rattle.lfs_log.specs.Parts.{IsParts};
 ghost use Rattle.lfs_parts.specs.View.{tree_of};
 ghost use Rattle.lfs_fsck.specs.Checks.{IsKept, IsRecordOf};
-ghost use Rattle.lfs_fsck.specs.Faults.{IsLogFaultOf};
+ghost use Rattle.lfs_fsck.specs.Faults.{IsFileFaultOf};
 ghost use Rattle.lfs_fsck.specs.Stored.{flushed};
 ghost use Rattle.lfs_bmap.specs.declared.blocks.TheConstants.{BLOCK_CODES};
 
@@ -26,7 +26,7 @@ pub(crate) fn check_tail(log: &Log, inode: &Inode) -> Result<(), LogFault>
     requires kept { (code : ℕ) → code < BLOCK_CODES → IsKept log.now inode.now.number code }
     ensures ok { OnOk result
         (IsPadded (data_block (tree_of (flushed log.now) inode.now.number)) inode.now.size) }
-    ensures fault { IfErr result (IsLogFaultOf log.now) }
+    ensures fault { IfErr result (IsFileFaultOf log.now) }
 {
     let size = BLOCK_SIZE as u64;
     let start = (inode.size % size) as usize;
