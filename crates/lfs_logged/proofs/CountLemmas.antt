@@ -1,7 +1,8 @@
 -- How many entries of a journal are kept behind a call: `counted`, for `Logged::call` and `clean`. By what the store tells,
 -- its base is whole, or as before, or what the store contained before the call (`by_mark`); so it shows the tree of all
 -- entries, of those that were kept, or of those that there were before the call, and the call's own entry stands behind
--- them (`take_within`, `take_front`).
+-- them (`take_within`, `take_front`). Where the base is whole all are kept, and none has to be once they are handed out
+-- (`counting_drained`, for `drain`).
 use Rattle.std.proofs.Common.{◌≡◌, ℕ, zero, suc, ◌≤◌, Bool, true, false, List, [], ◌∷◌, ◌++◌, length, take}
 use Rattle.std.proofs.Common.{refl, sym, ap, subst, inl, inr, ◌∙◌, arith}
 use Rattle.std.proofs.lemmas.Bool.{false≢true}
@@ -19,7 +20,7 @@ use Rattle.lfs_volume.specs.Journals.{Begins}
 use Rattle.lfs_volume.specs.Seen.{Seen}
 use Rattle.lfs_durable_store.specs.declared.mark.Mark.{Mark}
 use Rattle.lfs_durable_store.specs.Keeping.{Durably, IsKept, durable_state}
-use Rattle.lfs_logged.specs.Keeping.{IsCounting, KeepsCount, ShowsFirst, kept_behind, kept_by}
+use Rattle.lfs_logged.specs.Keeping.{IsCounting, KeepsCount, LoggedVolume, ShowsFirst, drained, kept_behind, kept_by}
 
 -- ---- the first items of a list
 pub take_front : {A : Type 0} (xs ys : List A) → take (length xs) (xs ++ ys) ≡ xs
@@ -202,6 +203,23 @@ counting_all v count is kept whole all =
           shows_as v.store.base v.store.store _ (kept.whole whole) (all from begins);
       all = all;
     })
+
+-- ---- a volume whose entries are handed out, where the base is whole
+
+-- a store shows what it showed as a volume's
+shown_here : (s : Durably) (w : World) → IsVolume (durable_state s) w → IsVolume (state_of s.store) w
+shown_here s w v = record { shows = v.shows; tree = v.tree }
+
+pub counting_drained : (l : LoggedVolume) → IsCounting l → l.volume.store.mark.is_whole ≡ true → IsCounting (drained l)
+counting_drained l counting whole =
+    let s = l.volume.store in
+    record {
+      store = counting.store;
+      within = omega arith;
+      base = λ from begins.
+          shows_as s.base s.store from (counting.store.whole whole) (shown_here s from begins.shown);
+      all = λ from begins. shown_here s from begins.shown;
+    }
 
 -- ---- the tree of all entries
 pub shown_first : (v : Seen Durably) (entries : List Entry) → entries ≡ v.journal → (from : World)

@@ -1,5 +1,5 @@
 -- How many entries of a volume's journal a crash would leave.
-use Rattle.std.specs.Prelude.{◌≡◌, ◌⊎◌, ℕ, ◌≤◌, Bool, true, false, length, take}
+use Rattle.std.specs.Prelude.{◌≡◌, ◌⊎◌, ℕ, ◌≤◌, Bool, true, false, [], length, take}
 use Rattle.lfs_segments.specs.Memory.{SegmentMemory}
 use Rattle.lfs_parts.specs.declared.parts.Parts.{Parts}
 use Rattle.lfs_logstore.specs.States.{state_of}
@@ -22,6 +22,13 @@ pub record LoggedVolume : Type 0 where
 abbrev pub ShowsFirst : Seen Durably → ℕ → Parts → Type 0
 ShowsFirst v count p = Since (durable_state v.since) v.since_level (λ from.
     IsVolume (state_of p) (world_after (durable_state v.store).shape.numbers (take count v.journal) from))
+
+-- the same volume with its entries handed out: the journal begins anew, at the present tree
+abbrev pub drained : LoggedVolume → LoggedVolume
+drained l = record {
+  volume = record l.volume { since = l.volume.store; since_level = l.volume.level; journal = [] };
+  kept = 0;
+}
 
 -- Of the journal so many entries are kept: the base, which a crash would leave, shows the tree that they lead to, as the
 -- store shows the one that all lead to.

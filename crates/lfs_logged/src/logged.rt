@@ -1,13 +1,16 @@
 //! A volume over a durable store, and how many entries of its journal a crash would leave.
 
-ghost use Rattle.std.specs.Prelude.{◌≡◌, ◌++◌, ◌≤◌, true, length};
+ghost use Rattle.std.specs.Prelude.{◌≡◌, ◌++◌, ◌≤◌, [], false, true, length, IfErr, IfOk, OnOk};
+ghost use Rattle.std.specs.Vec.{vec_capacity};
 ghost use Rattle.lfs_model.specs.Runs.{kept_cleaning, kept_entry};
-ghost use Rattle.lfs_durable_store.specs.Keeping.{IsKept};
+ghost use Rattle.lfs_volume.specs.Journals.{IsJournal, Since};
+ghost use Rattle.lfs_durable_store.specs.Keeping.{IsKept, durable_state};
 ghost use Rattle.lfs_logged.specs.Calls.{IsLoggedCall, IsLoggedCleaning};
-ghost use Rattle.lfs_logged.specs.Keeping.{KeepsCount, LeavesAll, LeavesKept, ShowsFirst, kept_behind};
+ghost use Rattle.lfs_logged.specs.Keeping.{KeepsCount, LeavesAll, LeavesKept, ShowsFirst, drained};
+ghost use Rattle.lfs_logged.specs.Keeping.{kept_behind};
 
 use lfs_durable_store::{DurableStore, Mark};
-use lfs_model::journal::CleanerAnswer;
+use lfs_model::journal::{CleanerAnswer, Entry};
 use lfs_types::answer::{Answer, Served};
 use lfs_types::cleaner::CleanerCall;
 use lfs_types::cred::Cred;
@@ -87,6 +90,32 @@ impl Logged {
         let answer = self.volume.clean(session, cred, call);
         self.kept = before.kept_behind(Look::at(&self.volume), self.kept);
         answer
+    }
+
+    /// Hands out all entries, as `Volume::drain` does, where the store tells that a crash would leave each of them, as
+    /// behind a Sync. The journal goes on from the present tree, with this room.
+    ///
+    /// # Errors
+    ///
+    /// The store doesn't tell so. Nothing is done, and the room comes back.
+    pub fn drain(&mut self, room: Vec<Entry>) -> Result<Vec<Entry>, Vec<Entry>>
+        requires empty { room.items ≡ [] }
+        requires room { self.old.volume.limit ≤ vec_capacity room }
+        ensures handed { IfOk result (λ entries. entries.items ≡ self.old.volume.journal) }
+        ensures legal { IfOk result (λ entries. Since (durable_state self.old.volume.since)
+            self.old.volume.since_level (λ from. IsJournal from (durable_state self.new.volume.since)
+            self.new.volume.since_level entries.items self.old.volume.limit)) }
+        ensures drained { OnOk result (self.new ≡ drained self.old) }
+        ensures whole { OnOk result (self.old.volume.store.mark.is_whole ≡ true) }
+        ensures waits { IfErr result (λ back. (back ≡ room) × ((self.new ≡ self.old)
+            × (self.old.volume.store.mark.is_whole ≡ false))) }
+    {
+        if !self.volume.store().mark().is_whole {
+            return Err(room);
+        }
+        let entries = self.volume.drain(room);
+        self.kept = 0;
+        Ok(entries)
     }
 
     /// The volume, to be looked at.
