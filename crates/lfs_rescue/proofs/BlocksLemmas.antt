@@ -1,5 +1,6 @@
 -- Bytes that are whole segments are a memory's blocks (`whole_blocks`); no other memory has other blocks
--- (`same_blocks`). So what is found in the memory of bytes is found in the bytes (`finds_all_in`).
+-- (`same_blocks`). So what is found in the memory of bytes is found in the bytes (`finds_all_in`), and what is found in
+-- none of them in no bytes (`none_of`, `none_long`).
 use Rattle.std.proofs.Common.{◌≡◌, ◌≤◌, ℕ, suc, ◌*◌, ◌++◌, ◌∷◌, ◌∙◌, List, [], All, drop, length, take, refl, sym}
 use Rattle.std.proofs.Common.{ap, append-nil, length-append, arith}
 use Rattle.std.specs.List.{flat_map}
@@ -8,8 +9,9 @@ use Rattle.std.proofs.lemmas.List.{drop_all}
 use Rattle.lfs_segments.specs.Memory.{SegmentMemory}
 use Rattle.lfs_parts.specs.declared.parts.Parts.{Parts}
 use Rattle.lfs_durable.proofs.CrashLemmas.{crash_same, crash_spares}
-use Rattle.lfs_rescue.specs.Blocks.{FindsAllIn, IsMemoryOf}
-use Rattle.lfs_rescue.specs.Contents.{FindsAllOf}
+use Rattle.lfs_rescue.specs.declared.fault.RecoverFault.TheVariants.{Length}
+use Rattle.lfs_rescue.specs.Blocks.{FindsAllIn, IsBlocksFaultOf, IsLeftOfNoneIn, IsMemoryOf}
+use Rattle.lfs_rescue.specs.Contents.{FindsAllOf, IsLeftOfNone}
 
 pub whole_blocks : (bytes : List ℕ) (blocks : List (List ℕ)) (count : ℕ) → length bytes ≤ 512 * count
     → flat_map (λ block. block) blocks ++ drop (512 * count) bytes ≡ bytes → flat_map (λ block. block) blocks ≡ bytes
@@ -58,3 +60,31 @@ finds_all_in bytes m q is finds = λ p n d shown other crash.
     let whole = is.whole in
     let whole_too = other.whole in
     finds p d shown (crash_spares p m d (crash_same p n m same (omega arith) crash))
+
+pub none_of : (bytes : List ℕ) (m : SegmentMemory) → IsMemoryOf bytes m → IsLeftOfNone m → IsLeftOfNoneIn bytes
+none_of bytes m is none = λ p n d shown other crash.
+    let same : m.blocks ≡ n.blocks = same_blocks m.blocks n.blocks is.each other.each (is.spelled ∙ sym other.spelled) in
+    let long = ap (λ (bs : List (List ℕ)). length bs) same in
+    let whole = is.whole in
+    let whole_too = other.whole in
+    none p d shown (crash_same p n m same (omega arith) crash)
+
+-- ---- how long they are
+length_blocks : (xs : List (List ℕ)) → AreBlocks xs → length (flat_map (λ block. block) xs) ≡ 512 * length xs
+length_blocks [] are = refl
+length_blocks (x ∷ xs) are =
+    let here = are 0 [] (omega arith) in
+    let rest = length_blocks xs (rest_of x xs are) in
+    let sum = length-append x (flat_map (λ block. block) xs) in
+    omega arith
+
+pub none_long : (bytes : List ℕ) → IsBlocksFaultOf bytes Length → IsLeftOfNoneIn bytes
+none_long bytes h = λ p m d shown is crash.
+    let laid_out = d.store.whole.parts.laid_out in
+    let least = laid_out.at_least in
+    let most = laid_out.at_most in
+    let same = crash.segments in
+    let whole = is.whole in
+    let all = length_blocks m.blocks is.each in
+    let long : length (flat_map (λ block. block) m.blocks) ≡ length bytes = ap (λ (bs : List ℕ). length bs) is.spelled in
+    h m.segments (omega arith) (omega arith) (omega arith)

@@ -12,7 +12,7 @@ use Rattle.lfs_durable.proofs.ContentLemmas.{finds_spared}
 use Rattle.lfs_rescue.specs.Contents.{FindsAllOf}
 use Rattle.lfs_rescue.specs.Recovering.{HasNewest, IsRecovered}
 
-makes_it : (m : SegmentMemory) (l : LogParts) → IsRecovered m l → IsLabelled l → IsMadeOf m l
+pub makes_it : (m : SegmentMemory) (l : LogParts) → IsRecovered m l → IsLabelled l → IsMadeOf m l
 makes_it m l r labelled = record {
   places = r.places;
   newest = record { each = r.newest };

@@ -1,4 +1,14 @@
 pub mod AgainLemmas
 pub mod BlocksLemmas
+pub mod BuildLemmas
 pub mod ContentLemmas
+pub mod DraftLemmas
+pub mod EndLemmas
+pub mod FitLemmas
+pub mod FoundLemmas
+pub mod KeyLemmas
+pub mod LabelLemmas
+pub mod RebuiltLemmas
 pub mod RecoverLemmas
+pub mod SameLemmas
+pub mod StoredLemmas

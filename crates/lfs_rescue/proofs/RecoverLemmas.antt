@@ -1,23 +1,21 @@
--- The last of some partial segments (`last_more`), and what is judged of a log: that it is what a memory tells
--- (`is_recovered`).
-use Rattle.std.proofs.Common.{◌≡◌, ℕ, zero, suc, ◌<◌, ◌≤◌, ◌↔◌, Bool, true, false, nat_lt, List, []}
-use Rattle.std.proofs.Common.{◌∷◌, ◌++◌, Option, Some, None, get_or}
-use Rattle.std.proofs.Common.{sym, ap, subst, ⊎_elim, arith}
+-- The last of some partial segments (`last_more`), and that of all of a memory (`has_end`); and what a fault of the volume
+-- that is built says of the memory (`build_fault`, `build_none`).
+use Rattle.std.proofs.Common.{◌≡◌, ℕ, zero, suc, ◌<◌, ◌≤◌, true, false, nat_lt, List, []}
+use Rattle.std.proofs.Common.{◌∷◌, ◌++◌, Option, Some, None}
+use Rattle.std.proofs.Common.{refl, sym, ap, subst, ⊎_elim, arith}
 use Rattle.std.specs.List.{Contains}
 use Rattle.std.proofs.lemmas.Bool.{cases_lt, le-ltb, lt-ltb}
 use Rattle.std.proofs.lemmas.List.Elements.{Contains-append_cases, Contains-append_left, Contains-append_right}
 use Rattle.std.proofs.lemmas.List.Elements.{Contains-push, Contains-push_cases}
-use Rattle.lfs_segments.specs.Memory.{SegmentMemory, block_at}
-use Rattle.lfs_types.specs.Blocks.{zero_block}
-use Rattle.lfs_log.specs.Parts.{LogParts}
+use Rattle.lfs_segments.specs.Memory.{SegmentMemory}
 use Rattle.lfs_recovery.specs.declared.places.PartialSegment.{PartialSegment}
-use Rattle.lfs_recovery.specs.declared.places.RecordPlace.{RecordPlace}
 use Rattle.lfs_recovery.specs.Logs.{AreLogs, IsLogged, joined, log_place}
-use Rattle.lfs_recovery.specs.Newest.{IsNewest}
 use Rattle.lfs_recovery.proofs.LogLemmas.{longest_one}
-use Rattle.lfs_reach.specs.Reach.{Reaches}
-use Rattle.lfs_rescue.specs.Recovering.{AreAt, AreGivenBack, AreKept, EndsBehind, HasEnd, HaveVersions, IsBehind, IsKept}
-use Rattle.lfs_rescue.specs.Recovering.{IsLastOf, IsRecovered, later}
+use Rattle.lfs_rescue.specs.declared.fault.RecoverFault.{RecoverFault}
+use Rattle.lfs_rescue.specs.declared.fault.RecoverFault.TheVariants.{Empty, Volume, Number, LastSerial, Length, Memory}
+use Rattle.lfs_rescue.specs.Building.{IsBuildFault}
+use Rattle.lfs_rescue.specs.Contents.{IsLeftOfNone}
+use Rattle.lfs_rescue.specs.Recovering.{HasEnd, IsLastOf, IsRecoverFaultOf, later}
 
 -- ---- logs
 
@@ -86,43 +84,6 @@ last_more ps (Some last) p is = ⊎_elim
     ))
     (cases_lt p.serial last.serial)
 
--- ---- what is judged
-
--- all that was judged
-pub record IsJudged (m : SegmentMemory) (l : LogParts) (ps : List PartialSegment) (last : PartialSegment)
-    (marks : List Bool) (places : List (Option RecordPlace)) : Type 0 where
-  pub logs : AreLogs m ps
-  pub last_of : IsLastOf ps (Some last)
-  pub counted : last.serial < 4294967295
-  pub newest : (n : ℕ) → n < 4096 → IsNewest m n (get_or places n None)
-  pub reached : (n : ℕ) → (get_or marks n false ≡ true) ↔ Reaches m places n
-  pub numbers : AreAt l places marks
-  pub ends : EndsBehind last l.memory
-  pub segments : l.memory.segments ≡ m.segments
-  pub versions : HaveVersions l places
-  pub given_back : AreGivenBack l
-  pub kept : AreKept m l.memory
-
-pub is_recovered : (m : SegmentMemory) (l : LogParts) (ps : List PartialSegment) (last : PartialSegment)
-    (marks : List Bool) (places : List (Option RecordPlace)) → IsJudged m l ps last marks places
-    → IsRecovered m l
-is_recovered m l ps last marks places j = record {
-  places = places;
-  newest = j.newest;
-  named = λ n below. let at = (j.numbers n below).0 in let reached = j.reached n in
-      (λ used. reached.0 (at.0 used), λ way. at.1 (reached.1 way));
-  placed = λ n below. (j.numbers n below).1;
-  last = last;
-  logged = listed_logged m ps last j.logs j.last_of.0;
-  latest = λ p logged. j.last_of.1 p (logged_listed m ps p j.logs logged);
-  counted = j.counted;
-  ends = j.ends;
-  segments = j.segments;
-  versions = j.versions;
-  given_back = j.given_back;
-  kept = j.kept;
-}
-
 -- the last of all partial segments is the newest
 pub has_end : (m : SegmentMemory) (ps : List PartialSegment) (last : PartialSegment) → AreLogs m ps
     → IsLastOf ps (Some last) → last.serial < 4294967295 → HasEnd m
@@ -133,18 +94,42 @@ has_end m ps last logs is counted = record {
   counted = counted;
 }
 
--- ---- one block
+pub end_of : (m : SegmentMemory) (ps qs : List PartialSegment) (last : PartialSegment) → AreLogs m ps → qs ≡ ps
+    → IsLastOf qs (Some last) → last.serial < 4294967295 → HasEnd m
+end_of m ps qs last logs same is counted =
+    has_end m ps last logs (subst (λ (xs : List PartialSegment). IsLastOf xs (Some last)) same is) counted
 
-pub kept_behind : (old new : SegmentMemory) (address : ℕ) → IsBehind new address
-    → (block_at new address ≡ zero_block) ↔ IsKept old new address
-kept_behind old new address behind = (
-  λ e. record { same = λ no. absurd (no behind); zeros = λ _. e },
-  λ k. k.zeros behind,
-)
+pub last_logged : (m : SegmentMemory) (ps qs : List PartialSegment) (last : PartialSegment) → AreLogs m ps → qs ≡ ps
+    → IsLastOf qs (Some last) → IsLogged m last
+last_logged m ps qs last logs same is =
+    listed_logged m ps last logs (subst (λ (xs : List PartialSegment). IsLastOf xs (Some last)) same is).0
 
-pub kept_same : (old new : SegmentMemory) (address : ℕ) → (IsBehind new address → ⊥)
-    → (block_at new address ≡ block_at old address) ↔ IsKept old new address
-kept_same old new address ahead = (
-  λ e. record { same = λ _. e; zeros = λ behind. absurd (ahead behind) },
-  λ k. k.same ahead,
-)
+pub last_latest : (m : SegmentMemory) (ps qs : List PartialSegment) (last p : PartialSegment) → AreLogs m ps → qs ≡ ps
+    → IsLastOf qs (Some last) → IsLogged m p → p.serial ≤ last.serial
+last_latest m ps qs last p logs same is logged =
+    (subst (λ (xs : List PartialSegment). IsLastOf xs (Some last)) same is).1 p (logged_listed m ps p logs logged)
+
+pub none_logged : (m : SegmentMemory) (ps qs : List PartialSegment) (o : Option PartialSegment) → AreLogs m ps → qs ≡ ps
+    → o ≡ None → IsLastOf qs o → (p : PartialSegment) → IsLogged m p → ⊥
+none_logged m ps qs o logs same none is p logged =
+    subst (λ (xs : List PartialSegment). IsLastOf xs None) same (subst (IsLastOf qs) none is) p
+    (logged_listed m ps p logs logged)
+
+-- ---- faults of what is built
+
+pub build_fault : (m : SegmentMemory) (fault : RecoverFault) → HasEnd m → IsBuildFault m fault → IsRecoverFaultOf m fault
+build_fault m Empty end h = absurd h
+build_fault m (Volume fault) end h = end
+build_fault m (Number number) end h = end
+build_fault m LastSerial end h = absurd h
+build_fault m Length end h = absurd h
+build_fault m Memory end h = tt
+
+pub build_none : (m : SegmentMemory) (fault : RecoverFault) → IsBuildFault m fault → (fault ≡ Memory → ⊥)
+    → IsLeftOfNone m
+build_none m Empty h other = absurd h
+build_none m (Volume fault) h other = h
+build_none m (Number number) h other = h
+build_none m LastSerial h other = absurd h
+build_none m Length h other = absurd h
+build_none m Memory h other = absurd (other refl)

@@ -18,8 +18,7 @@ use Rattle.lfs_durable.specs.Names.{IsDurable}
 use Rattle.lfs_checking.specs.Files.{HasImage}
 use Rattle.lfs_checking.specs.Volumes.{well_text}
 use Rattle.lfs_rescue.specs.declared.fault.RecoverFault.{RecoverFault}
-use Rattle.lfs_rescue.specs.declared.fault.RecoverFault.TheVariants.{Empty, Volume, Number, End, Serial, Block}
-use Rattle.lfs_rescue.specs.declared.fault.RecoverFault.TheVariants.{LastSerial, Length, Segments, Memory}
+use Rattle.lfs_rescue.specs.declared.fault.RecoverFault.TheVariants.{Empty, Volume, Number, LastSerial, Length, Memory}
 use Rattle.lfs_rescue.specs.Recovering.{IsRecovered, IsRecoverFaultOf}
 
 -- bytes are the blocks of a memory's segments, of 512 bytes each, from address 0 on
@@ -40,6 +39,11 @@ abbrev pub FindsAllIn : List ℕ → Parts → Type 0
 FindsAllIn bytes found = (p : Parts) (m : SegmentMemory) → IsDurable p → HasWorld (state_of p) → IsMemoryOf bytes m
     → IsCrashOf p m → content_of found ≡ content_of p
 
+-- No such store is one of which a crash, or no crash, left these bytes.
+abbrev pub IsLeftOfNoneIn : List ℕ → Type 0
+IsLeftOfNoneIn bytes = (p : Parts) (m : SegmentMemory) → IsDurable p → HasWorld (state_of p) → IsMemoryOf bytes m
+    → IsCrashOf p m → ⊥
+
 -- what a fault says of the memory of bytes
 abbrev pub IsFaultIn : List ℕ → RecoverFault → Type 0
 IsFaultIn bytes fault = (m : SegmentMemory) × IsMemoryOf bytes m × IsRecoverFaultOf m fault
@@ -52,23 +56,15 @@ IsBlocksFaultOf bytes Memory = ⊤
 IsBlocksFaultOf bytes Empty = IsFaultIn bytes Empty
 IsBlocksFaultOf bytes (Volume fault) = IsFaultIn bytes (Volume fault)
 IsBlocksFaultOf bytes (Number number) = IsFaultIn bytes (Number number)
-IsBlocksFaultOf bytes End = IsFaultIn bytes End
-IsBlocksFaultOf bytes Serial = IsFaultIn bytes Serial
-IsBlocksFaultOf bytes (Block address) = IsFaultIn bytes (Block address)
 IsBlocksFaultOf bytes LastSerial = IsFaultIn bytes LastSerial
-IsBlocksFaultOf bytes Segments = IsFaultIn bytes Segments
 
 -- The words of a fault. Of one of the volume that was made they are that fault's, which are not stated.
 abbrev pub fault_words : RecoverFault → Option (List ℕ)
 fault_words Empty = Some (codes "no whole partial segment")
 fault_words (Volume fault) = None
-fault_words (Number number) = Some (codes "inode " ++ (decimal number ++ codes ": not the newest record"))
-fault_words End = Some (codes "end not kept")
-fault_words Serial = Some (codes "serial not kept")
-fault_words (Block address) = Some (codes "block " ++ (decimal address ++ codes ": not kept"))
+fault_words (Number number) = Some (codes "inode " ++ (decimal number ++ codes ": no record"))
 fault_words LastSerial = Some (codes "the last serial is given out, and does not tell which is the newest")
 fault_words Length = Some (codes "no whole segments, or too few or too many")
-fault_words Segments = Some (codes "segments not kept")
 fault_words Memory = Some (codes "no memory")
 
 -- a text is the line of a fault, where its words are stated
@@ -87,8 +83,9 @@ pub record IsFound {F S : Type 0} (contents : F → Option (List ℕ)) (save : O
   pub told : text ≡ well_text log
   pub kept : IfSome save (λ _. HasImage contents log HighlySecure)
 
--- none is, and why, of which this is told
+-- none is, as the bytes are left of no such store, and why, of which this is told
 pub record IsLost (bytes text : List ℕ) : Type 0 where
+  pub none : IsLeftOfNoneIn bytes
   pub fault : RecoverFault
   pub is : IsBlocksFaultOf bytes fault
   pub other : fault ≢ Memory

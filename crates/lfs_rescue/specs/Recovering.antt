@@ -1,5 +1,5 @@
 -- What is found of a volume in its blocks.
-use Rattle.std.specs.Prelude.{◌≡◌, ◌≢◌, ℕ, ◌+◌, ◌*◌, ◌/◌, ◌<◌, ◌≤◌, ◌↔◌, Bool, true, false, List, Option, Some, None, IsSome}
+use Rattle.std.specs.Prelude.{◌≡◌, ◌≢◌, ℕ, ◌+◌, ◌*◌, ◌/◌, ◌<◌, ◌≤◌, ◌↔◌, List, Option, Some, None, IsSome}
 use Rattle.std.specs.Prelude.{⊤, nat_lt, if◌then◌else◌, length, slice_index_or}
 use Rattle.std.specs.List.{Contains}
 use Rattle.lfs_types.specs.declared.limits.TheConstants.{SEGMENT_BLOCKS}
@@ -16,8 +16,7 @@ use Rattle.lfs_recovery.specs.Logs.{IsLogged}
 use Rattle.lfs_recovery.specs.Newest.{IsNewest}
 use Rattle.lfs_reach.specs.Reach.{Reaches}
 use Rattle.lfs_rescue.specs.declared.fault.RecoverFault.{RecoverFault}
-use Rattle.lfs_rescue.specs.declared.fault.RecoverFault.TheVariants.{Empty, Volume, Number, End, Serial, Block}
-use Rattle.lfs_rescue.specs.declared.fault.RecoverFault.TheVariants.{LastSerial, Length, Segments, Memory}
+use Rattle.lfs_rescue.specs.declared.fault.RecoverFault.TheVariants.{Empty, Volume, Number, LastSerial, Length, Memory}
 
 -- ---- what callers see
 
@@ -102,35 +101,17 @@ abbrev pub IsRecoverFaultOf : SegmentMemory → RecoverFault → Type 0
 IsRecoverFaultOf m Empty = (p : PartialSegment) → IsLogged m p → ⊥
 IsRecoverFaultOf m (Volume fault) = HasEnd m
 IsRecoverFaultOf m (Number number) = HasEnd m
-IsRecoverFaultOf m End = HasEnd m
-IsRecoverFaultOf m Serial = HasEnd m
-IsRecoverFaultOf m (Block address) = HasEnd m
 IsRecoverFaultOf m LastSerial = (p : PartialSegment) × (IsLogged m p × (p.serial ≡ last_serial))
 IsRecoverFaultOf m Length = ⊥
-IsRecoverFaultOf m Segments = HasEnd m
 IsRecoverFaultOf m Memory = ⊤
 
 -- ---- for the functions within
 
--- a fault of the volume that was made
-abbrev pub IsOther : RecoverFault → Type 0
-IsOther fault = (m : SegmentMemory) → HasEnd m → IsRecoverFaultOf m fault
-
--- a number is in use exactly where it is marked, and then has its newest record
-abbrev pub StandsAt : Option InodePlace → Option RecordPlace → Bool → Type 0
-StandsAt place newest marked = (IsSome place ↔ (marked ≡ true)) × HasNewest place newest
-
-abbrev pub AreAt : LogParts → List (Option RecordPlace) → List Bool → Type 0
-AreAt l places marks = (n : ℕ) → n < length l.tables.rows
-    → StandsAt (place_of l.tables n) (slice_index_or places n None) (slice_index_or marks n false)
-
-abbrev pub HaveVersions : LogParts → List (Option RecordPlace) → Type 0
-HaveVersions l places = (n : ℕ) → n < length l.tables.rows
-    → (row_of l.tables n).version ≡ newest_version (slice_index_or places n None)
-
+-- so is each segment
 abbrev pub AreGivenBack : LogParts → Type 0
 AreGivenBack l = (segment : ℕ) → segment < l.memory.segments → IsGivenBack l segment
 
+-- and each block
 abbrev pub AreKept : SegmentMemory → SegmentMemory → Type 0
 AreKept old new = (address : ℕ) → address < old.segments * SEGMENT_BLOCKS → IsKept old new address
 

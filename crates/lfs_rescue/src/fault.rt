@@ -22,26 +22,15 @@ pub enum RecoverFault {
         /// What is wrong with it.
         fault: VolumeFault,
     },
-    /// A number of that volume has another record than its newest, or names don't lead to it.
+    /// Names lead to a number that has no record.
     Number {
         /// The inode number.
         number: u32,
-    },
-    /// That volume ends elsewhere than the last partial segment.
-    End,
-    /// That volume's next serial isn't the one behind the highest.
-    Serial,
-    /// A block of that volume is another one.
-    Block {
-        /// Its address.
-        address: u32,
     },
     /// The highest serial is 2^32 - 1, the last one, which several partial segments may have.
     LastSerial,
     /// The bytes are not those of 6 to 1,024 whole segments.
     Length,
-    /// That volume has another number of segments, or one that is not clean exactly where nothing in it is live.
-    Segments,
     /// A growth was refused.
     Memory,
 }
@@ -55,15 +44,11 @@ impl fmt::Display for RecoverFault {
         match *self {
             RecoverFault::Empty => f.write_str("no whole partial segment"),
             RecoverFault::Volume { fault } => write!(f, "{fault}"),
-            RecoverFault::Number { number } => write!(f, "inode {number}: not the newest record"),
-            RecoverFault::End => f.write_str("end not kept"),
-            RecoverFault::Serial => f.write_str("serial not kept"),
-            RecoverFault::Block { address } => write!(f, "block {address}: not kept"),
+            RecoverFault::Number { number } => write!(f, "inode {number}: no record"),
             RecoverFault::LastSerial => {
                 f.write_str("the last serial is given out, and does not tell which is the newest")
             }
             RecoverFault::Length => f.write_str("no whole segments, or too few or too many"),
-            RecoverFault::Segments => f.write_str("segments not kept"),
             RecoverFault::Memory => f.write_str("no memory"),
         }
     }

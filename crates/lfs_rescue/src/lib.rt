@@ -2,13 +2,17 @@
 #![tactic(auto)]
 
 mod blocks;
+mod building;
 mod counting;
 mod fault;
-mod image;
-mod judging;
+mod ifile;
+mod label;
+pub mod laws;
+mod naming;
 mod options;
 pub mod program;
 mod recovering;
+mod rows;
 mod telling;
 
 pub use blocks::recover_blocks;

@@ -1,42 +1,41 @@
 //! A volume found again.
 
-ghost use Rattle.std.specs.Prelude.{◌≡◌, ◌≤◌, ◌<◌, IfErr, IfOk, false, true};
+ghost use Rattle.std.specs.Prelude.{◌≡◌, ◌≤◌, ◌<◌, ℕ, IfErr, IfOk, false, true};
 ghost use Rattle.lfs_types.specs.Ranges.{least_frames, most_frames};
 ghost use Rattle.lfs_calls.specs.Volumes.{HasWorld};
+ghost use Rattle.lfs_recovery.specs.declared.places.PartialSegment.{PartialSegment};
+ghost use Rattle.lfs_recovery.specs.Logs.{IsLogged};
 ghost use Rattle.lfs_logstore.specs.States.{state_of};
 ghost use Rattle.lfs_fsck.specs.Stored.{IsStored, stored};
 ghost use Rattle.lfs_image.specs.Image.{IsLabelled};
-ghost use Rattle.lfs_rescue.specs.Contents.{FindsAllOf};
-ghost use Rattle.lfs_rescue.specs.Recovering.{IsLastOf, IsOther, IsRecovered, IsRecoverFaultOf};
+ghost use Rattle.lfs_rescue.specs.declared.fault.RecoverFault.TheVariants.{Memory};
+ghost use Rattle.lfs_rescue.specs.Building.{IsBuildFault, IsFoundOf};
+ghost use Rattle.lfs_rescue.specs.Contents.{FindsAllOf, IsLeftOfNone};
+ghost use Rattle.lfs_rescue.specs.Recovering.{IsLastOf, IsRecovered, IsRecoverFaultOf};
 ghost use Rattle.lfs_rescue.specs.Recovering.{TellsTheSame, last_serial, later};
 
+use crate::building::{Found, log_of, store_over};
+use crate::counting::live_of;
 use crate::fault::RecoverFault;
-use crate::image::{Found, image_of};
-use crate::judging::judge;
-use lfs_checking::fault::VolumeFault;
-use lfs_checking::volume::load_volume;
+use crate::label::inodes_told;
+use crate::naming::check_names;
+use crate::rows::check_records;
 use lfs_logstore::LogStore;
 use lfs_reach::reached;
 use lfs_recovery::{PartialSegment, newest_records, partial_segments};
 use lfs_segments::segments::Segments;
-use lfs_types::level::Level;
 use std::alloc::Global;
 
 /// The store of the volume whose blocks a memory has, at any moment of a flush too, with a cache of so many frames, 32
 /// to 1,024, all empty. Nothing waits in the store. Its summaries have serials, and the next one gets that behind the
-/// highest: so what it writes is found again too. The securelevel is no part of the blocks: whoever recovers has to
-/// know it. Each block is read some few times, and an image is made of all of them.
+/// highest: so what it writes is found again too. Each block is read some few times, and copied three times, of which
+/// one copy stays.
 ///
 /// # Errors
 ///
-/// No log has a partial segment; one has the last serial, which others may have too; what the blocks tell is no volume,
-/// or another one was made of them; or there is no memory.
-pub fn recover(
-    alloc: Global,
-    memory: &Segments,
-    level: Level,
-    frames: u32,
-) -> Result<LogStore, RecoverFault>
+/// No log has a partial segment; one has the last serial, which others may have too; what the blocks tell is no volume;
+/// or there is no memory.
+pub fn recover(alloc: Global, memory: &Segments, frames: u32) -> Result<LogStore, RecoverFault>
     requires at_least { least_frames ≤ frames }
     requires at_most { frames ≤ most_frames }
     ensures recovered { IfOk result (λ store. IsRecovered memory.now store.log) }
@@ -49,6 +48,8 @@ pub fn recover(
     ensures flushed { IfOk result (λ store. store ≡ stored frames store.log) }
     ensures world { IfOk result (λ store. HasWorld (state_of store)) }
     ensures fault { IfErr result (IsRecoverFaultOf memory.now) }
+    // Of what a crash left of a store that lay in its log, and showed a tree, a volume is found, but for want of memory.
+    ensures none { IfErr result (λ fault. (fault ≡ Memory → ⊥) → IsLeftOfNone memory.now) }
 {
     let partials = partial_segments(alloc, memory)?;
     let Some(last) = last_of(&partials) else {
@@ -57,16 +58,60 @@ pub fn recover(
     if is_used_up(&last) {
         return Err(RecoverFault::LastSerial);
     }
+    let store = store_behind(alloc, memory, last, frames)?;
+    Ok(store)
+}
+
+/// The store of the volume that ends behind the partial segment of the highest serial.
+fn store_behind(
+    alloc: Global,
+    memory: &Segments,
+    last: PartialSegment,
+    frames: u32,
+) -> Result<LogStore, RecoverFault>
+    requires at_least { least_frames ≤ frames }
+    requires at_most { frames ≤ most_frames }
+    requires logged { IsLogged memory.now last }
+    requires latest { (p : PartialSegment) → IsLogged memory.now p → p.serial ≤ last.serial }
+    requires counted { last.serial < last_serial }
+    ensures recovered { IfOk result (λ store. IsRecovered memory.now store.log) }
+    ensures labelled { IfOk result (λ store. IsLabelled store.log) }
+    ensures stored { IfOk result (λ store. IsStored store.log) }
+    ensures flushed { IfOk result (λ store. store ≡ stored frames store.log) }
+    ensures world { IfOk result (λ store. HasWorld (state_of store)) }
+    ensures fault { IfErr result (IsBuildFault memory.now) }
+{
+    let inodes = inodes_told(memory)?;
     let places = newest_records(alloc, memory)?;
     let marks = reached(alloc, memory, &places)?;
     let found = Found {
         memory,
+        last,
         places: &places,
         marks: &marks,
+        inodes,
     };
-    let image = image_of(alloc, found, level, &last)?;
-    let store = store_in(alloc, &image, frames)?;
-    judge(&store.parts().log, memory, &last, &places, &marks)?;
+    store_of(alloc, found, frames)
+}
+
+/// The store of what was found.
+fn store_of(alloc: Global, found: Found<'_>, frames: u32) -> Result<LogStore, RecoverFault>
+    requires at_least { least_frames ≤ frames }
+    requires at_most { frames ≤ most_frames }
+    requires found { IsFoundOf found.memory.now found.last found.places.now found.marks.now
+        found.inodes }
+    ensures recovered { IfOk result (λ store. IsRecovered found.entry.memory.now store.log) }
+    ensures labelled { IfOk result (λ store. IsLabelled store.log) }
+    ensures stored { IfOk result (λ store. IsStored store.log) }
+    ensures flushed { IfOk result (λ store. store ≡ stored frames store.log) }
+    ensures world { IfOk result (λ store. HasWorld (state_of store)) }
+    ensures fault { IfErr result (IsBuildFault found.entry.memory.now) }
+{
+    let live = live_of(alloc, found)?;
+    check_names(alloc, found, &live)?;
+    check_records(found)?;
+    let log = log_of(alloc, found, &live)?;
+    let store = store_over(alloc, log, frames)?;
     Ok(store)
 }
 
@@ -102,22 +147,5 @@ fn later(last: Option<PartialSegment>, partial: PartialSegment) -> PartialSegmen
             }
         }
         None => partial,
-    }
-}
-
-/// The store whose image some bytes are.
-fn store_in(alloc: Global, image: &[u8], frames: u32) -> Result<LogStore, RecoverFault>
-    requires at_least { least_frames ≤ frames }
-    requires at_most { frames ≤ most_frames }
-    ensures stored { IfOk result (λ store. IsStored store.log) }
-    ensures flushed { IfOk result (λ store. store ≡ stored frames store.log) }
-    ensures world { IfOk result (λ store. HasWorld (state_of store)) }
-    ensures labelled { IfOk result (λ store. IsLabelled store.log) }
-    ensures fault { IfErr result IsOther }
-{
-    match load_volume(alloc, image, frames) {
-        Ok((store, _)) => Ok(store),
-        Err(VolumeFault::Memory) => Err(RecoverFault::Memory),
-        Err(fault) => Err(RecoverFault::Volume { fault }),
     }
 }

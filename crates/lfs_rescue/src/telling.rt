@@ -4,7 +4,8 @@ ghost use Rattle.std.specs.Prelude.{◌≡◌, IfErr, IfOk, IfSome, OnOk};
 ghost use Rattle.lfs_types.specs.declared.level.Level.TheVariants.{HighlySecure};
 ghost use Rattle.lfs_parts.specs.Store.{IsFlushed};
 ghost use Rattle.lfs_checking.specs.Files.{HasImage};
-ghost use Rattle.lfs_rescue.specs.Blocks.{IsFaultLine, IsRescueVerdict};
+ghost use Rattle.lfs_rescue.specs.declared.fault.RecoverFault.TheVariants.{Memory};
+ghost use Rattle.lfs_rescue.specs.Blocks.{IsBlocksFaultOf, IsFaultLine, IsLeftOfNoneIn, IsLost, IsRescueVerdict};
 ghost use Rattle.lfs_rescue.specs.Ends.{IsAnswered, IsAskedVerdict, IsFindingFault};
 ghost use Rattle.lfs_rescue.specs.Ends.{IsRescueFaultOf};
 
@@ -81,7 +82,7 @@ fn finding<F: Files>(
         IsRescueVerdict F.File.contents options.now.save bytes.now told.status told.text.items) }
     ensures fault { IfErr result (IsFindingFault options.now) }
 {
-    match recover_blocks(alloc, bytes, Level::HighlySecure, LEAST_FRAMES) {
+    match recover_blocks(alloc, bytes, LEAST_FRAMES) {
         Ok(store) => {
             keep(files, alloc, &store, options)?;
             let text = well_text(alloc, &store)?;
@@ -90,7 +91,7 @@ fn finding<F: Files>(
         Err(RecoverFault::Memory) => Err(RescueFault::Check(CheckFault::Memory)),
         Err(fault) => Ok(Finding {
             status: 1,
-            text: fault_line(alloc, fault)?,
+            text: lost_line(alloc, bytes, fault)?,
         }),
     }
 }
@@ -114,6 +115,17 @@ fn keep<F: Files>(
         Ok(()) => Ok(()),
         Err(fault) => Err(RescueFault::Keep(fault)),
     }
+}
+
+/// The line of a fault, for which none was found in some bytes.
+fn lost_line(alloc: Global, bytes: &[u8], fault: RecoverFault) -> Result<Vec<u8>, AllocError>
+    requires is { IsBlocksFaultOf bytes.now fault }
+    requires other { fault ≡ Memory → ⊥ }
+    requires none { (fault ≡ Memory → ⊥) → IsLeftOfNoneIn bytes.now }
+    ensures { IfOk result (λ text. IsLost bytes.now text.items) }
+{
+    let line = fault_line(alloc, fault)?;
+    Ok(line)
 }
 
 /// The line of a fault.

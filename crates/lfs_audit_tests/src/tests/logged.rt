@@ -8,10 +8,12 @@ use super::expect_eq;
 use lfs_durable_store::DurableStore;
 use lfs_logged::Logged;
 use lfs_logstore::LogStore;
+use lfs_model::journal::CleanerAnswer;
 use lfs_rescue::recover_blocks;
 use lfs_script::plan::{Act, Step};
 use lfs_script::script::parse_script;
 use lfs_types::answer::{Answer, Served};
+use lfs_types::cleaner::CleanerCall;
 use lfs_types::cred::Cred;
 use lfs_types::level::Level;
 use lfs_types::limits::{LEAST_FRAMES, SEGMENT_BLOCKS};
@@ -77,7 +79,7 @@ fn blocks_of(rt: &impl Abort, alloc: Global, logged: &Logged) -> Vec<u8> {
 /// How many bytes the file has that is found in the blocks beneath, if it is there.
 fn size_found(rt: &impl Abort, alloc: Global, logged: &Logged) -> Option<u64> {
     let blocks = blocks_of(rt, alloc, logged);
-    let found = recover_blocks(alloc, blocks.as_slice(), Level::Insecure, LEAST_FRAMES);
+    let found = recover_blocks(alloc, blocks.as_slice(), LEAST_FRAMES);
     size_in(rt, alloc, found.expect(rt, "a volume"))
 }
 
@@ -145,4 +147,40 @@ fn what_waits_is_kept_where_later_changes_have_it_written(rt: HostRuntime) {
     // Some were written meanwhile, and something waits in the end.
     expect_eq(&rt, logged.durable() > 1, true);
     expect_eq(&rt, logged.durable() < 25, true);
+}
+
+#[test]
+fn a_gain_keeps_all_entries(rt: HostRuntime) {
+    let mut logged = fresh(&rt, rt.alloc());
+    serve(&rt, rt.alloc(), &mut *logged, "create /f 0644");
+    let answer = logged.clean(255, &superuser(&rt), CleanerCall::Gain);
+    // No segment is dirty.
+    expect_eq(&rt, matches!(&answer, CleanerAnswer::Fault(_)), true);
+    expect_eq(&rt, logged.durable(), 2);
+    expect_eq(&rt, size_found(&rt, rt.alloc(), &*logged), Some(0));
+}
+
+/// How many entries are handed out, if they are.
+fn handed(rt: &impl Abort, alloc: Global, logged: &mut Logged) -> Option<usize> {
+    let limit = logged.volume().journal_limit() as usize;
+    let room = Vec::with_capacity(alloc, limit).expect(rt, "memory");
+    match logged.drain(room) {
+        Ok(entries) => Some(entries.len()),
+        Err(_) => None,
+    }
+}
+
+#[test]
+fn entries_are_handed_out_behind_a_sync(rt: HostRuntime) {
+    let mut logged = fresh(&rt, rt.alloc());
+    serve(&rt, rt.alloc(), &mut *logged, "create /f 0644");
+    expect_eq(&rt, handed(&rt, rt.alloc(), &mut *logged), None);
+    serve(&rt, rt.alloc(), &mut *logged, "sync");
+    expect_eq(&rt, handed(&rt, rt.alloc(), &mut *logged), Some(2));
+    expect_eq(&rt, logged.durable(), 0);
+    serve(&rt, rt.alloc(), &mut *logged, "write /f at 0 61");
+    expect_eq(&rt, logged.durable(), 0);
+    serve(&rt, rt.alloc(), &mut *logged, "sync");
+    expect_eq(&rt, logged.durable(), 2);
+    expect_eq(&rt, size_found(&rt, rt.alloc(), &*logged), Some(1));
 }

@@ -7,13 +7,13 @@ use super::command::{Ended, Words, expect_ended};
 use super::expect_eq;
 use super::image::Image;
 use lfs_command::streams::Streams;
+use lfs_findable::can_be_found;
 use lfs_ifile::InodePlace;
 use lfs_logstore::LogStore;
 use lfs_rescue::program::lfs_check;
 use lfs_rescue::{RecoverFault, recover, recover_blocks};
 use lfs_segments::segments::Segments;
 use lfs_types::block::{Block, ZERO_BLOCK};
-use lfs_types::level::Level;
 use lfs_types::limits::{LEAST_FRAMES, SEGMENT_BLOCKS};
 use lfs_types::store::Params;
 use std::alloc::Global;
@@ -119,13 +119,13 @@ fn shown(rt: &impl Abort, store: &LogStore) -> Found {
 
 /// What the store shows that is found in a memory.
 fn recovered(rt: &impl Abort, alloc: Global, memory: &Segments) -> Found {
-    let store = recover(alloc, memory, Level::Insecure, LEAST_FRAMES).expect(rt, "a volume");
+    let store = recover(alloc, memory, LEAST_FRAMES).expect(rt, "a volume");
     shown(rt, &store)
 }
 
 /// What the store shows that is found in the bytes of blocks.
 fn recovered_bytes(rt: &impl Abort, alloc: Global, bytes: &[u8]) -> Found {
-    let store = recover_blocks(alloc, bytes, Level::Insecure, LEAST_FRAMES);
+    let store = recover_blocks(alloc, bytes, LEAST_FRAMES);
     shown(rt, &store.expect(rt, "a volume"))
 }
 
@@ -137,7 +137,7 @@ fn expect_found(rt: &impl Abort, alloc: Global, blocks: &[Block], wanted: Found)
 
 /// What is told where no volume is found in a memory.
 fn fault_in(rt: &impl Abort, alloc: Global, memory: &Segments) -> String {
-    let found = recover(alloc, memory, Level::HighlySecure, LEAST_FRAMES);
+    let found = recover(alloc, memory, LEAST_FRAMES);
     let fault = found.err().expect(rt, "no volume");
     format!(in alloc; "fault: {fault}\n").expect(rt, "memory")
 }
@@ -231,7 +231,7 @@ fn torn_partial_segment_leaves_what_was_before(rt: HostRuntime) {
 #[test]
 fn nothing_is_found_where_nothing_was_written(rt: HostRuntime) {
     let memory = memory_of(&rt, rt.alloc(), &[]);
-    let found = recover(rt.alloc(), &memory, Level::Insecure, LEAST_FRAMES);
+    let found = recover(rt.alloc(), &memory, LEAST_FRAMES);
     expect_eq(&rt, found.err(), Some(RecoverFault::Empty));
 }
 
@@ -285,7 +285,7 @@ fn names_of_no_tree_are_told(rt: HostRuntime) {
 /// What the store shows that is found in a memory with these blocks, and what is found again in the bytes of its blocks.
 fn found_twice(rt: &impl Abort, alloc: Global, blocks: &[Block]) -> [Found; 2] {
     let memory = memory_of(rt, alloc, blocks);
-    let store = recover(alloc, &memory, Level::Insecure, LEAST_FRAMES).expect(rt, "a volume");
+    let store = recover(alloc, &memory, LEAST_FRAMES).expect(rt, "a volume");
     let bytes = bytes_of(rt, alloc, &store);
     [shown(rt, &store), recovered_bytes(rt, alloc, &bytes)]
 }
@@ -330,6 +330,60 @@ fn store_with_serials_is_found(rt: HostRuntime) {
 
 #[test]
 fn bytes_of_other_lengths_are_no_blocks(rt: HostRuntime) {
-    let found = recover_blocks(rt.alloc(), &[0; 512], Level::Insecure, LEAST_FRAMES);
+    let found = recover_blocks(rt.alloc(), &[0; 512], LEAST_FRAMES);
     expect_eq(&rt, found.err(), Some(RecoverFault::Length));
+}
+
+/// Whether the volume that is found in these bytes can be found again.
+fn is_findable(rt: &impl Abort, alloc: Global, bytes: &[u8]) -> bool {
+    let store = recover_blocks(alloc, bytes, LEAST_FRAMES).expect(rt, "a volume");
+    can_be_found(alloc, &store).expect(rt, "memory")
+}
+
+/// Puts a block at the beginning of segment 1.
+fn put(rt: &impl Abort, bytes: &mut Vec<u8>, block: &Block) {
+    match bytes.as_mut_slice().get_mut(32_768..33_280) {
+        Some(room) => room.copy_from_slice(block),
+        None => panic!(rt; "no segment 1"),
+    }
+}
+
+#[test]
+fn volume_beside_a_torn_partial_segment_cannot_be_found(rt: HostRuntime) {
+    let alloc = rt.alloc();
+    let memory = memory_of(&rt, alloc, &partial(1, &LISTED, root_and_file(2)));
+    let mut bytes = bytes_in(&rt, alloc, &memory);
+    expect_eq(&rt, is_findable(&rt, alloc, &bytes), true);
+    let mut torn = summary(0, 2);
+    torn[7] = 1;
+    put(&rt, &mut bytes, &torn);
+    expect_eq(&rt, is_findable(&rt, alloc, &bytes), false);
+    torn[15] = 0;
+    put(&rt, &mut bytes, &torn);
+    expect_eq(&rt, is_findable(&rt, alloc, &bytes), true);
+}
+
+/// Whether a new volume can be found again, of the greatest sizes, with serials or without.
+fn is_new_findable(rt: &impl Abort, alloc: Global, serials: bool) -> bool {
+    let params = Params {
+        segments: 1_024,
+        inodes: 4_096,
+        frames: 32,
+        journal: 1,
+    };
+    let made = if serials {
+        LogStore::format_with_serials(alloc, params)
+    } else {
+        LogStore::format(alloc, params)
+    };
+    match made {
+        Ok(store) => can_be_found(alloc, &store).expect(rt, "memory"),
+        Err(_) => panic!(rt; "no store"),
+    }
+}
+
+#[test]
+fn new_volume_can_be_found_by_its_serials(rt: HostRuntime) {
+    expect_eq(&rt, is_new_findable(&rt, rt.alloc(), true), true);
+    expect_eq(&rt, is_new_findable(&rt, rt.alloc(), false), false);
 }
