@@ -2,9 +2,9 @@
 """Cuts a log behind each of its blocks, as a crash would, and has the volume found in what is left.
 
 cut-logs.py SHELL CHECK, where SHELL is a built lfs_shell and CHECK a built lfs_check. Files are made and written, each with a
-Sync behind it, on volumes of 6 segments that are made with `--serials`. What is found is to be the tree behind one of the
-Syncs, each with its bytes, and one no older than the last whose blocks all stand. Prints how many cuts were tried; the status
-is 1 where one was told otherwise.
+Sync behind it, on volumes of 6 segments that are made with `--serials`. What is found is to be the tree behind the last
+Sync whose blocks all stand, each file with its bytes, or that with the next file made, which may be written by itself
+where a segment ends. Prints how many cuts were tried; the status is 1 where one was told otherwise.
 """
 import pathlib
 import subprocess
@@ -25,14 +25,15 @@ def bytes_of(file):
 
 
 def files_in(shell, image):
-    """How many files the volume has, if they are the first ones with their bytes, the last perhaps still empty."""
+    """How many files the volume has with their bytes, if they are the first ones, and at most one more is there, empty."""
     names = run(shell, "--image", image, given="list /\n").stdout.split("\n")[0].split()[2:]
     count = len(names)
     if set(names) != {f"f{file}" for file in range(count)}:
         return None
     script = "".join(f"read /f{file} 0 700\n" for file in range(count))
-    read = [line.split()[-1] for line in run(shell, "--image", image, given=script).stdout.split("\n")[:count]]
-    return count if read == [bytes_of(file) for file in range(count)] else None
+    read = [line.split()[2:] for line in run(shell, "--image", image, given=script).stdout.split("\n")[:count]]
+    whole = count - 1 if read and read[-1] in ([], ["-"]) else count
+    return whole if read[:whole] == [[bytes_of(file)] for file in range(whole)] else None
 
 
 def main(shell, check):

@@ -1,11 +1,11 @@
 -- How `lfs_shell` ends, by how its talk did: `ends_talk` and `ends_unmade` for `talk_on`, `ends_unbegun` for `talk_in`,
--- `ends_file` for `talk_of`, `ends_asked` for `talk_over`. `EndsTalk` says something for each status, so with the
+-- `ends_file` and `ends_unopened` for `talk_of`, `ends_asked` for `talk_over`. `EndsTalk` says something for each status, so with the
 -- status known one of it is to be shown, and each other contradicts the number (`ends_broken`). Status 0 comes of an
 -- outcome without any fault, so the talk is one whose entries and volume are kept (`whole`) and whose film is written;
 -- status 1 of a fault, which tells what was talked until then: a failed read, the file of the journal, the image, the
 -- film, or a faulty line. No talk that has begun has a fault of beginning (`talk_cause`), and one that hasn't has no
 -- other (`unbegun_cause`).
-use Rattle.std.proofs.Common.{◌≡◌, ℕ, Bool, true, false, List, Option, Result, Ok, Err, IfErr, IfOk, IsSome, inl}
+use Rattle.std.proofs.Common.{◌≡◌, ℕ, Bool, true, false, List, Option, Result, Ok, Err, IfErr, IfOk, IsSome, inl, inr}
 use Rattle.std.proofs.Common.{IfSome, None, Some, is_some, refl, sym}
 use Rattle.std.proofs.Common.{ap, subst, ◌∙◌, arith}
 use Rattle.std.specs.Prelude.{MatchResult}
@@ -15,12 +15,14 @@ use Rattle.lfs_audit.specs.declared.fault.RunFault.TheVariants as run
 use Rattle.lfs_film.specs.Films.{Reel}
 use Rattle.lfs_live.specs.Faults.{IsTalkFault}
 use Rattle.lfs_live.specs.Scripts.{IsLogFault}
-use Rattle.lfs_programs.specs.Talks.{EndsShell, EndsTalk, Finishes, HasBrokenOff, HasTalked, HasTalkedSoFar}
+use Rattle.lfs_programs.specs.Talks.{EndsAsked, EndsShell, EndsTalk, Finishes, HasBrokenOff, HasTalked, HasTalkedSoFar}
 use Rattle.lfs_programs.specs.Talks.{IsFilmOf, IsFilmed, IsShellFault, whole_with}
 use Rattle.lfs_programs.specs.declared.fault.ShellFault.{ShellFault}
 use Rattle.lfs_programs.specs.declared.fault.ShellFault.TheVariants.{Film, Image, Journal, Line, Talk}
-use Rattle.lfs_programs.specs.declared.fault.ShellFault.TheVariants.{PastShare, Unsaved}
-use Rattle.lfs_programs.specs.Volumes.{IsUnbegun, Kind, asked_kind}
+use Rattle.lfs_programs.specs.declared.fault.ShellFault.TheVariants.{Unfit as NoStand}
+use Rattle.lfs_programs.specs.declared.fault.ShellFault.TheVariants.{Unsaved}
+use Rattle.lfs_stands.specs.declared.unfit.Unfit.{Unfit}
+use Rattle.lfs_programs.specs.Volumes.{IsUnbegun, Kind, durable_kind, log_kind, share_kind}
 use Rattle.lfs_parts.specs.declared.parts.Parts.{Parts}
 use Rattle.lfs_programs.specs.declared.filming.Ending.{Ending}
 use Rattle.lfs_programs.specs.declared.filming.Heard.{Heard}
@@ -57,7 +59,7 @@ broken_talk contents kind options known start out fault told is so_far cause = r
 }
 
 -- a talk that has no volume to begin with
-unbegun_cause : (refuses : Parts → Type 0) (options : ShellOptions) (fault : ShellFault) → IsUnbegun refuses options fault
+unbegun_cause : (refuses : Unfit → Parts → Type 0) (options : ShellOptions) (fault : ShellFault) → IsUnbegun refuses options fault
     → IsShellFault refuses options fault
 unbegun_cause refuses options (Talk (run.Format fault)) cause = cause
 unbegun_cause refuses options (Talk run.Memory) cause = tt
@@ -66,13 +68,13 @@ unbegun_cause refuses options (Talk run.TooLong) cause = absurd cause
 unbegun_cause refuses options (Talk run.Write) cause = absurd cause
 unbegun_cause refuses options (Talk (run.Script fault)) cause = absurd cause
 unbegun_cause refuses options (Image fault) cause = cause
-unbegun_cause refuses options PastShare cause = cause
+unbegun_cause refuses options (NoStand why) cause = cause
 unbegun_cause refuses options (Film fault) cause = absurd cause
 unbegun_cause refuses options Journal cause = absurd cause
 unbegun_cause refuses options Unsaved cause = absurd cause
 unbegun_cause refuses options Line cause = absurd cause
 
-unbegun_other : (refuses : Parts → Type 0) (options : ShellOptions) (fault other : ShellFault)
+unbegun_other : (refuses : Unfit → Parts → Type 0) (options : ShellOptions) (fault other : ShellFault)
     → IsUnbegun refuses options fault → fault ≡ other → IsUnbegun refuses options other
 unbegun_other refuses options fault other cause same = subst (IsUnbegun refuses options) same cause
 
@@ -164,7 +166,7 @@ ends_talk contents kind options known start out status in_before in_after out_be
 ends_talk contents kind options known start out status in_before in_after out_before out_after err_before err_between
     err_after (Ok heard) (Err (Image fault)) talked silent kept saved so_far cause finishes is untold = absurd finishes
 ends_talk contents kind options known start out status in_before in_after out_before out_after err_before err_between
-    err_after (Ok heard) (Err PastShare) talked silent kept saved so_far cause finishes is untold = absurd finishes
+    err_after (Ok heard) (Err (NoStand why)) talked silent kept saved so_far cause finishes is untold = absurd finishes
 ends_talk contents kind options known start out status in_before in_after out_before out_after err_before err_between
     err_after (Ok heard) (Err (Film why)) talked silent kept saved so_far cause finishes is untold =
     ends_broken contents kind options known start out status in_before in_after out_before out_after err_before err_after is
@@ -227,6 +229,38 @@ ends_unmade contents kind options known start out status here there err_before e
   unmade = λ _. (inl named, refl, refl);
 }
 
+-- a talk whose lines' file is not opened
+unopened : {R W D F S : Type 0} (contents : F → Option (List ℕ)) (kind : Kind S) (options : ShellOptions)
+    (known start out : Option (List ℕ)) (here : R) (there : W) (err_before err_after : D) → IsSome options.script
+    → EndsTalk contents kind options known start out 2 here here there there err_before err_after
+unopened contents kind options known start out here there err_before err_after named = record {
+  either = omega arith;
+  done = λ none. absurd (omega (arith, none));
+  filmed = λ none. absurd (omega (arith, none));
+  failed = λ one. absurd (omega (arith, one));
+  unmade = λ _. (inr named, refl, refl);
+}
+
+unopened_asked : {R W D F : Type 0} (contents : F → Option (List ℕ)) (shares serials : Bool) (options : ShellOptions)
+    (known start out : Option (List ℕ)) (here : R) (there : W) (err_before err_after : D) → IsSome options.script
+    → EndsAsked contents shares serials options known start out 2 here here there there err_before err_after
+unopened_asked contents true serials options known start out here there err_before err_after named =
+    unopened contents (share_kind contents) options known start out here there err_before err_after named
+unopened_asked contents false true options known start out here there err_before err_after named =
+    unopened contents (durable_kind contents) options known start out here there err_before err_after named
+unopened_asked contents false false options known start out here there err_before err_after named =
+    unopened contents (log_kind contents) options known start out here there err_before err_after named
+
+pub ends_unopened : {R W D F : Type 0} (contents : F → Option (List ℕ)) (options : ShellOptions)
+    (known start out : Option (List ℕ)) (here : R) (there : W) (err_before err_after : D) → IsSome options.script
+    → EndsShell contents options known start out 2 here here there there err_before err_after
+ends_unopened contents options known start out here there err_before err_after named = record {
+  bytes = known;
+  own = λ none. refl;
+  talk = unopened_asked contents options.shares options.serials options known start out here there err_before err_after
+      named;
+}
+
 -- a talk over another reader, of which nothing is told
 pub ends_elsewhere : {R T W D F S : Type 0} (contents : F → Option (List ℕ)) (kind : Kind S) (options : ShellOptions)
     (known start out : Option (List ℕ)) (status : ℕ) (there_before there_after : T) (here : R)
@@ -243,6 +277,25 @@ ends_elsewhere contents kind options known start out status there_before there_a
       unmade = λ two. let u = ends.unmade two in (u.0, refl, u.2);
     }
 
+asked_elsewhere : {R T W D F : Type 0} (contents : F → Option (List ℕ)) (shares serials : Bool) (options : ShellOptions)
+    (known start out : Option (List ℕ)) (status : ℕ) (there_before there_after : T) (here : R)
+    (out_before out_after : W) (err_before err_after : D)
+    → EndsAsked contents shares serials options known start out status there_before there_after out_before out_after
+    err_before err_after
+    → EndsAsked contents shares serials options known start out status here here out_before out_after err_before err_after
+asked_elsewhere contents true serials options known start out status there_before there_after here out_before out_after
+    err_before err_after ends =
+    ends_elsewhere contents (share_kind contents) options known start out status there_before there_after here
+    out_before out_after err_before err_after ends
+asked_elsewhere contents false true options known start out status there_before there_after here out_before out_after
+    err_before err_after ends =
+    ends_elsewhere contents (durable_kind contents) options known start out status there_before there_after here
+    out_before out_after err_before err_after ends
+asked_elsewhere contents false false options known start out status there_before there_after here out_before out_after
+    err_before err_after ends =
+    ends_elsewhere contents (log_kind contents) options known start out status there_before there_after here
+    out_before out_after err_before err_after ends
+
 -- ---- which lines are answered
 
 -- those of a file
@@ -250,29 +303,31 @@ pub ends_file : {R T W D F : Type 0} (contents : F → Option (List ℕ)) (optio
     (known start out : Option (List ℕ)) (status : ℕ) (there_before there_after : T) (here : R)
     (out_before out_after : W) (err_before err_after : D) (bytes : Option (List ℕ))
     → true ≡ is_some options.script
-    → EndsTalk contents (asked_kind contents options.shares) options bytes start out status there_before there_after out_before out_after err_before
-    err_after
+    → EndsAsked contents options.shares options.serials options bytes start out status there_before there_after
+    out_before out_after err_before err_after
     → EndsShell contents options known start out status here here out_before out_after err_before err_after
 ends_file contents options known start out status there_before there_after here out_before out_after err_before
     err_after
     bytes named ends = record {
       bytes = bytes;
       own = λ none. let other : true ≡ false = rw none at named in absurd (cc);
-      talk = ends_elsewhere contents (asked_kind contents options.shares) options bytes start out status there_before there_after
-          here out_before out_after err_before err_after ends;
+      talk = asked_elsewhere contents options.shares options.serials options bytes start out status there_before
+          there_after here out_before out_after err_before err_after ends;
     }
 
 -- ---- over which kind of store
 
 -- the one that is asked for
-pub ends_asked : {R W D F : Type 0} (contents : F → Option (List ℕ)) (shares : Bool) (options : ShellOptions)
+pub ends_asked : {R W D F : Type 0} (contents : F → Option (List ℕ)) (shares serials : Bool) (options : ShellOptions)
     (known start out : Option (List ℕ)) (status : ℕ) (in_before in_after : R) (out_before out_after : W)
-    (err_before err_after : D) → options.shares ≡ shares
-    → EndsTalk contents (asked_kind contents shares) options known start out status in_before in_after out_before out_after
+    (err_before err_after : D) → options.shares ≡ shares → options.serials ≡ serials
+    → EndsAsked contents shares serials options known start out status in_before in_after out_before out_after
     err_before err_after
-    → EndsTalk contents (asked_kind contents options.shares) options known start out status in_before in_after out_before
+    → EndsAsked contents options.shares options.serials options known start out status in_before in_after out_before
     out_after err_before err_after
-ends_asked contents shares options known start out status in_before in_after out_before out_after err_before err_after is
-    ends =
-    subst (λ (b : Bool). EndsTalk contents (asked_kind contents b) options known start out status in_before in_after
-    out_before out_after err_before err_after) (sym is) ends
+ends_asked contents shares serials options known start out status in_before in_after out_before out_after err_before
+    err_after shared told ends =
+    subst (λ (b : Bool). EndsAsked contents b options.serials options known start out status in_before in_after
+    out_before out_after err_before err_after) (sym shared)
+    (subst (λ (b : Bool). EndsAsked contents shares b options known start out status in_before in_after
+    out_before out_after err_before err_after) (sym told) ends)

@@ -3,7 +3,7 @@
 -- contains what that contains (`same_content`), and which worlds a store shows is a matter of its content
 -- (`same_volume`). So over a log that was laid out it shows the opening tree, over one that was loaded the image's, and
 -- an image of the log store that is flushed keeps what the store shows at present.
-use Rattle.std.proofs.Common.{◌≡◌, ℕ, ◌∙◌, ap, sym, subst, [], Result, Ok, Err, OnOk, Option, List}
+use Rattle.std.proofs.Common.{◌≡◌, ℕ, ◌∙◌, ap, sym, subst, [], Result, Ok, Err, IfErr, IfOk, OnOk, Option, List}
 use Rattle.lfs_types.specs.StoreStates.{StoreState}
 use Rattle.lfs_types.specs.Tree.{Content, World, opening_world}
 use Rattle.lfs_types.specs.declared.level.Level.{Level}
@@ -16,7 +16,7 @@ use Rattle.lfs_calls.specs.Volumes.{HasWorld, IsVolume}
 use Rattle.lfs_volume.specs.Journals.{AtPresent, Begins}
 use Rattle.lfs_volume.specs.Seen.{Seen}
 use Rattle.lfs_checking.specs.Files.{HasImage, IsFreshStore, IsLoaded}
-use Rattle.lfs_programs.specs.Stands.{Stand}
+use Rattle.lfs_stands.specs.Stands.{Stand}
 use Rattle.lfs_programs.specs.Volumes.{HasSaved, IsFresh, IsOfImage}
 use Rattle.lfs_programs.specs.declared.options.ShellOptions.{ShellOptions}
 
@@ -24,6 +24,13 @@ use Rattle.lfs_programs.specs.declared.options.ShellOptions.{ShellOptions}
 pub on_ok : {A E : Type 0} (P Q : Type 0) (outcome : Result A E) → (P → Q) → OnOk outcome P → OnOk outcome Q
 on_ok P Q (Ok done) follows holds = follows holds
 on_ok P Q (Err fault) follows holds = tt
+
+-- what holds of the value of a result that is Ok, or of its fault
+pub ok_of : {A E : Type 0} (P : A → Type 0) (made : Result A E) (a : A) → made ≡ Ok a → IfOk made P → P a
+ok_of {A} {E} P made a is holds = subst (λ (r : Result A E). IfOk r P) is holds
+
+pub err_of : {A E : Type 0} (P : E → Type 0) (made : Result A E) (e : E) → made ≡ Err e → IfErr made P → P e
+err_of {A} {E} P made e is holds = subst (λ (r : Result A E). IfErr r P) is holds
 
 -- a store that contains the same shows the same world
 same_volume : (s t : StoreState) (w : World) → s.content ≡ t.content → IsVolume s w → IsVolume t w

@@ -2,4 +2,3 @@ pub mod Asked
 pub mod Ranges
 pub mod Talks
 pub mod Volumes
-pub mod Stands

@@ -12,7 +12,7 @@ use Rattle.lfs_audit.specs.declared.fault.RunFault.TheVariants.{Read}
 use Rattle.lfs_live.specs.Held.{Course, Held, Sink}
 use Rattle.lfs_live.specs.Scripts.{IsJournalOf, IsLogFault, Manner, begins_with}
 use Rattle.lfs_live.specs.Talking.{HasHeardSoFar, IsKeptTalk, IsTalk, has_fault_in}
-use Rattle.lfs_programs.specs.Volumes.{HasSaved, IsBegun, IsUnfit, Kind, asked_kind}
+use Rattle.lfs_programs.specs.Volumes.{HasSaved, IsBegun, IsUnfit, Kind, durable_kind, log_kind, share_kind}
 use Rattle.lfs_parts.specs.declared.parts.Parts.{Parts}
 use Rattle.lfs_volume.specs.Seen.{Seen}
 use Rattle.lfs_command.specs.Ends.{EndsUnasked}
@@ -20,8 +20,10 @@ use Rattle.lfs_programs.specs.declared.fault.FilmFault.{FilmFault}
 use Rattle.lfs_programs.specs.declared.fault.ShellFault.{ShellFault}
 use Rattle.lfs_programs.specs.declared.filming.Ending.{Ending}
 use Rattle.lfs_programs.specs.declared.filming.Heard.{Heard}
-use Rattle.lfs_programs.specs.declared.fault.ShellFault.TheVariants.{Film, Image, Journal, Line, PastShare, Talk}
+use Rattle.lfs_programs.specs.declared.fault.ShellFault.TheVariants.{Film, Image, Journal, Line, Talk}
+use Rattle.lfs_programs.specs.declared.fault.ShellFault.TheVariants.{Unfit as NoStand}
 use Rattle.lfs_programs.specs.declared.fault.ShellFault.TheVariants.{Unsaved}
+use Rattle.lfs_stands.specs.declared.unfit.Unfit.{Unfit}
 
 -- how a talk goes: with a sink that takes the entries of its journal or without one, with passes unasked where they
 -- are asked for, and framed as was asked
@@ -112,12 +114,12 @@ IsFilmOf contents (Some reel) = HasPage contents reel
 
 -- a talk may end in this fault: that of the talk or of its beginning; one of a film, a journal or an image only where
 -- such a file is asked for; and one of a line only where that is asked for
-abbrev pub IsShellFault : (Parts → Type 0) → ShellOptions → ShellFault → Type 0
+abbrev pub IsShellFault : (Unfit → Parts → Type 0) → ShellOptions → ShellFault → Type 0
 IsShellFault refuses options (Talk fault) = IsLogFault options.params.segments options.params.inodes options.params.frames fault
 IsShellFault refuses options (Film fault) = IsSome options.film
 IsShellFault refuses options Journal = IsSome options.journal_out
 IsShellFault refuses options (Image fault) = IsSome options.image
-IsShellFault refuses options PastShare = IsUnfit refuses options
+IsShellFault refuses options (NoStand why) = IsUnfit refuses options why
 IsShellFault refuses options Unsaved = IsSome options.image
 IsShellFault refuses options Line = options.strict ≡ true
 
@@ -132,7 +134,7 @@ Finishes contents options (Ok heard) (Ok done) =
     × (options.strict ≡ true → heard.ending.has_fault ≡ false)
 Finishes contents options (Ok heard) (Err (Talk fault)) = ⊥
 Finishes contents options (Ok heard) (Err (Image fault)) = ⊥
-Finishes contents options (Ok heard) (Err PastShare) = ⊥
+Finishes contents options (Ok heard) (Err (NoStand why)) = ⊥
 Finishes contents options (Ok heard) (Err (Film fault)) = IsSome options.film
 Finishes contents options (Ok heard) (Err Journal) = heard.ending.is_kept ≡ false
 Finishes contents options (Ok heard) (Err Unsaved) = (heard.ending.is_kept ≡ true) × (heard.ending.is_saved ≡ false)
@@ -173,14 +175,22 @@ pub record EndsTalk {R W D F S : Type 0} (contents : F → Option (List ℕ)) (k
   pub failed : status ≡ 1 → HasBrokenOff contents kind options known start out
   pub unmade : status ≡ 2 → NeedsFile options × (in_after ≡ in_before) × (out_after ≡ out_before)
 
+-- the same over the kind of store that is asked for: one with a share; else a durable one, where serials are asked for;
+-- else the log store
+abbrev pub EndsAsked : {R W D F : Type 0} → (F → Option (List ℕ)) → Bool → Bool → ShellOptions → Option (List ℕ)
+    → Option (List ℕ) → Option (List ℕ) → ℕ → R → R → W → W → D → D → Type 0
+EndsAsked contents true serials = EndsTalk contents (share_kind contents)
+EndsAsked contents false true = EndsTalk contents (durable_kind contents)
+EndsAsked contents false false = EndsTalk contents (log_kind contents)
+
 -- the same of the lines that were asked for, which are the reader's where no file is named
 pub record EndsShell {R W D F : Type 0} (contents : F → Option (List ℕ)) (options : ShellOptions)
     (known start out : Option (List ℕ)) (status : ℕ) (in_before in_after : R) (out_before out_after : W)
     (err_before err_after : D) : Type 0 where
   pub bytes : Option (List ℕ)
   pub own : options.script ≡ None → bytes ≡ known
-  pub talk : EndsTalk contents (asked_kind contents options.shares) options bytes start out status in_before in_after out_before out_after err_before
-      err_after
+  pub talk : EndsAsked contents options.shares options.serials options bytes start out status in_before in_after
+      out_before out_after err_before err_after
 
 -- `lfs_shell` ends with this status by what it was asked for: options whose numbers are in their ranges, as a talk
 -- ends, or else nothing is read

@@ -1,5 +1,5 @@
 -- The volume that a talk begins with, and the file in which it is kept.
-use Rattle.std.specs.Prelude.{◌≡◌, ◌⊎◌, ℕ, Bool, true, false, List, [], Option, IsSome}
+use Rattle.std.specs.Prelude.{◌≡◌, ◌⊎◌, ℕ, List, [], Option, IsSome}
 use Rattle.lfs_types.specs.StoreStates.{StoreState}
 use Rattle.lfs_types.specs.Tree.{opening_world}
 use Rattle.lfs_types.specs.declared.level.Level.{Level}
@@ -20,9 +20,14 @@ use Rattle.lfs_audit.specs.declared.fault.RunFault.TheVariants as run
 use Rattle.lfs_live.specs.Talkers.{Talker, Texts, texts_of}
 use Rattle.lfs_share.specs.Answering.{ComesTo, shared_state}
 use Rattle.lfs_share.specs.CleanerCalls.{shared_calls}
-use Rattle.lfs_programs.specs.Stands.{Stand, log_stand, share_stand}
+use Rattle.lfs_durable_store.specs.Answering as durable
+use Rattle.lfs_durable_store.specs.CleanerCalls.{durable_calls}
+use Rattle.lfs_durable_store.specs.Keeping.{Durably, IsSettled, durable_state}
+use Rattle.lfs_stands.specs.Stands.{Stand, durable_stand, log_stand, share_stand}
 use Rattle.lfs_programs.specs.declared.fault.ShellFault.{ShellFault}
-use Rattle.lfs_programs.specs.declared.fault.ShellFault.TheVariants.{Talk, Image, PastShare}
+use Rattle.lfs_programs.specs.declared.fault.ShellFault.TheVariants.{Talk, Image}
+use Rattle.lfs_programs.specs.declared.fault.ShellFault.TheVariants.{Unfit as NoStand}
+use Rattle.lfs_stands.specs.declared.unfit.Unfit.{Unfit}
 use Rattle.lfs_programs.specs.declared.options.ShellOptions.{ShellOptions}
 
 -- a volume is that of an image, with the frames and the journal's limit that are asked for, and its journal begins
@@ -49,21 +54,21 @@ abbrev pub IsBegun : {S : Type 0} → (S → StoreState) → Stand S → ShellOp
 IsBegun state stand options v =
     stand.within v.store × (IsFresh state stand options v ⊎ (IsSome options.image × IsOfImage stand options v))
 
--- an image is asked for, and what is loaded of it is a log store on which the store may not stand
-pub record IsUnfit (refuses : Parts → Type 0) (options : ShellOptions) : Type 0 where
+-- an image is asked for, and what is loaded of it is a log store on which the store may not stand, for this reason
+pub record IsUnfit (refuses : Unfit → Parts → Type 0) (options : ShellOptions) (why : Unfit) : Type 0 where
   pub image : IsSome options.image
   pub store : Parts
   pub level : Level
   pub loaded : IsLoaded options.params.frames store level
-  pub refused : refuses store
+  pub refused : refuses why store
 
 -- a talk has no volume to begin with, for this fault
-abbrev pub IsUnbegun : (Parts → Type 0) → ShellOptions → ShellFault → Type 0
+abbrev pub IsUnbegun : (Unfit → Parts → Type 0) → ShellOptions → ShellFault → Type 0
 IsUnbegun refuses options (Talk (run.Format fault)) =
     IsFormatFault options.params.segments options.params.inodes options.params.frames fault
 IsUnbegun refuses options (Talk run.Memory) = Unit {0}
 IsUnbegun refuses options (Image fault) = IsSome options.image
-IsUnbegun refuses options PastShare = IsUnfit refuses options
+IsUnbegun refuses options (NoStand why) = IsUnfit refuses options why
 IsUnbegun refuses options fault = ⊥
 
 -- a kind of store as `lfs_shell` is talked to it, and how it stands on a log store
@@ -96,10 +101,14 @@ abbrev pub share_kind : {F : Type 0} → (F → Option (List ℕ)) → Kind Part
 share_kind contents =
     kind_of contents (cleaner_of shared_state IsFlushed ComesTo shared_calls) log_texts IsCheckTold share_stand
 
--- the kind of store that is asked for: one with a share, or the log store
-abbrev pub asked_kind : {F : Type 0} → (F → Option (List ℕ)) → Bool → Kind Parts
-asked_kind contents true = share_kind contents
-asked_kind contents false = log_kind contents
+-- the texts of the log that a durable store shows, and what is told where that is checked
+abbrev pub durable_texts : Texts Durably
+durable_texts = texts_of (λ s. map_text s.store) (λ s. segment_text s.store) (λ s. space_text s.store)
+
+-- the durable store, over its log
+abbrev pub durable_kind : {F : Type 0} → (F → Option (List ℕ)) → Kind Durably
+durable_kind contents = kind_of contents (cleaner_of durable_state IsSettled durable.ComesTo durable_calls) durable_texts
+    (λ s. IsCheckTold s.store) durable_stand
 
 -- a file got the image of what a talk left of a volume: a store of which nothing waits, and a level, that show the tree
 -- that the journal led to

@@ -3,6 +3,7 @@
 use lfs_audit::fault::{RunFault, ThreadsFault};
 use lfs_audit::undone::Undone;
 use lfs_checking::fault::KeepFault;
+use lfs_stands::Unfit;
 use lfs_types::fault::FormatFault;
 use std::io::ErrorKind;
 use thiserror::Error;
@@ -22,10 +23,9 @@ pub enum ShellFault {
     /// No volume was loaded from the image's file, and nothing is read.
     #[error("{0}")]
     Image(KeepFault),
-    /// The volume of the image takes more than the share that is asked for, or has no two clean segments, and nothing
-    /// is read.
-    #[error("image past its share")]
-    PastShare,
+    /// The store that is asked for may not stand on the log of the image's volume, and nothing is read.
+    #[error("{0}")]
+    Unfit(Unfit),
     /// All was answered, and the volume is not kept in the image's file, which was told by then.
     #[error("image not saved")]
     Unsaved,

@@ -13,7 +13,6 @@ ghost use Rattle.lfs_volume.specs.Cleanings.{cleaner_of};
 
 use crate::fault::{FilmFault, ShellFault};
 use crate::options::ShellOptions;
-use crate::over_log::OverLog;
 use crate::volume::keep;
 use lfs_audit::fault::RunFault;
 use lfs_checking::fault::KeepFault;
@@ -25,6 +24,7 @@ use lfs_live::tended::Tended;
 use lfs_live::watch::{Watch, WatchFault};
 use lfs_live::witnesses::{Teller, Witnesses};
 use lfs_sinks::sink::{JournalSink, LineSink, Nowhere};
+use lfs_stands::OverLog;
 use lfs_types::level::Level;
 use lfs_volume::volume::Volume;
 use std::alloc::{AllocError, Global};

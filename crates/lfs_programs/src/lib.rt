@@ -6,7 +6,6 @@ mod filed;
 mod filming;
 mod journal;
 pub mod options;
-mod over_log;
 mod script;
 pub mod server;
 pub mod shell;

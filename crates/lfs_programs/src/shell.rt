@@ -7,8 +7,8 @@ ghost use Rattle.lfs_command.specs.Ends.{EndsUnasked};
 ghost use Rattle.lfs_audit.specs.declared.fault.RunFault.TheVariants.{Read as Failed};
 ghost use Rattle.lfs_live.specs.Faults.{IsTalkFault};
 ghost use Rattle.lfs_live.specs.Talkers.{texts_of};
-ghost use Rattle.lfs_programs.specs.Volumes.{IsBegun, asked_kind, kind_of};
-ghost use Rattle.lfs_programs.specs.Talks.{EndsShell, EndsTalk, HasTalked, HasTalkedSoFar};
+ghost use Rattle.lfs_programs.specs.Volumes.{IsBegun, kind_of};
+ghost use Rattle.lfs_programs.specs.Talks.{EndsAsked, EndsShell, EndsTalk, HasTalked, HasTalkedSoFar};
 ghost use Rattle.lfs_programs.specs.Talks.{IsShellEnd};
 ghost use Rattle.lfs_volume.specs.Cleanings.{cleaner_of};
 
@@ -16,7 +16,6 @@ use crate::fault::{OpenFault, ShellFault};
 use crate::filming::{Heard, NAME, Outset, finish, hear};
 use crate::journal::make_journal;
 use crate::options::{ShellOptions, shell_options_of};
-use crate::over_log::OverLog;
 use crate::script::open_script;
 use crate::volume::begin;
 use clap::Error;
@@ -25,9 +24,11 @@ use lfs_command::means::Means;
 use lfs_command::refusing::refuse;
 use lfs_command::streams::Streams;
 use lfs_command::words::{texts, words};
+use lfs_durable_store::DurableStore;
 use lfs_io::tell::{end, tell};
 use lfs_logstore::LogStore;
 use lfs_share::SharedStore;
+use lfs_stands::OverLog;
 use lfs_volume::volume::Volume;
 use std::alloc::Global;
 use std::env::Env;
@@ -131,19 +132,21 @@ where
     R: Read,
     W: Write,
     D: Write,
-    ensures { EndsTalk F.File.contents (asked_kind F.File.contents means.now.options.shares)
+    ensures { EndsAsked F.File.contents means.now.options.shares means.now.options.serials
         means.now.options
         (R.remaining reader.old) (W.contents stdout.old) (W.contents stdout.new)
         result reader.old reader.new stdout.old stdout.new stderr.old stderr.new }
 {
     if means.options.shares {
         talk_in::<SharedStore, F, R, W, D>(means, reader, stdout, stderr)
+    } else if means.options.serials {
+        talk_in::<DurableStore, F, R, W, D>(means, reader, stdout, stderr)
     } else {
         talk_in::<LogStore, F, R, W, D>(means, reader, stdout, stderr)
     }
 }
 
-/// The same over a kind of store.
+/// The same over a kind of store, which takes serials where they are asked for.
 fn talk_in<S, F, R, W, D>(
     means: &Means<'_, F, ShellOptions<'_>>,
     reader: &mut R,
@@ -156,6 +159,7 @@ where
     R: Read,
     W: Write,
     D: Write,
+    requires { S.stand.takes means.now.options.serials }
     ensures { let kind = kind_of F.File.contents
         (cleaner_of S.state S.is_flushed S.made S.cleaner)
         (texts_of S.map_text S.segment_text S.space_text) S.checked S.stand in

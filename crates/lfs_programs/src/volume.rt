@@ -8,7 +8,6 @@ ghost use Rattle.lfs_programs.specs.Volumes.{HasSaved, IsBegun, IsFresh, IsUnbeg
 use crate::fault::ShellFault;
 use crate::filming::NAME;
 use crate::options::ShellOptions;
-use crate::over_log::OverLog;
 use lfs_audit::fault::RunFault;
 use lfs_checking::fault::KeepFault;
 use lfs_checking::fresh::fresh_store;
@@ -17,6 +16,7 @@ use lfs_io::tell::tell;
 use lfs_live::tended::Tended;
 use lfs_logstore::LogStore;
 use lfs_sinks::sink::JournalSink;
+use lfs_stands::OverLog;
 use lfs_types::fault::FormatFault;
 use lfs_types::level::Level;
 use lfs_volume::volume::Volume;
@@ -30,12 +30,13 @@ use std::rt::Files;
 /// # Errors
 ///
 /// `Talk` with a fault of the format, or `Memory`; `Image` of a file that can't be read, or is the image of no volume;
-/// `PastShare` of one whose volume isn't within the share that is asked for.
+/// `Unfit` of one on whose log a store of the kind that is asked for may not stand.
 pub(crate) fn begin<S: OverLog + Drop, F: Files>(
     files: &F,
     alloc: Global,
     options: &ShellOptions<'_>,
 ) -> Result<Volume<S>, ShellFault>
+    requires { S.stand.takes options.now.serials }
     ensures begun { IfOk result (IsBegun S.state S.stand options.now) }
     ensures fault { IfErr result (IsUnbegun S.stand.refuses options.now) }
 {
@@ -54,6 +55,7 @@ fn fresh<S: OverLog + Drop>(
     alloc: Global,
     options: &ShellOptions<'_>,
 ) -> Result<Volume<S>, ShellFault>
+    requires { S.stand.takes options.now.serials }
     ensures begun { IfOk result (IsBegun S.state S.stand options.now) }
     ensures fault { IfErr result (IsUnbegun S.stand.refuses options.now) }
 {
@@ -68,15 +70,18 @@ fn laid_out<S: OverLog + Drop>(
     alloc: Global,
     options: &ShellOptions<'_>,
 ) -> Result<Volume<S>, FormatFault>
+    requires { S.stand.takes options.now.serials }
     ensures within { IfOk result (λ volume. S.stand.within volume.store) }
     ensures begun { IfOk result (IsFresh S.state S.stand options.now) }
     ensures fault { IfErr result (IsFormatFault
         options.now.params.segments options.now.params.inodes options.now.params.frames) }
 {
     let store = fresh_store(alloc, options.params, options.serials)?;
-    let Some(store) = S::over_log(store) else {
+    let made = S::over_log(alloc, store)?;
+    let store = match made {
+        Ok(store) => store,
         // Never: by `opens` of `OverLog`.
-        unreachable!()
+        Err(_) => unreachable!(),
     };
     let volume = Volume::new(alloc, store, options.params.journal)?;
     Ok(volume)
@@ -86,7 +91,7 @@ fn laid_out<S: OverLog + Drop>(
 ///
 /// # Errors
 ///
-/// `PastShare` where it isn't within the share that is asked for; `Talk` with `Memory`.
+/// `Unfit` where a store of the kind that is asked for may not stand on it; `Talk` with `Memory`.
 fn over<S: OverLog + Drop>(
     alloc: Global,
     store: LogStore,
@@ -98,8 +103,13 @@ fn over<S: OverLog + Drop>(
     ensures begun { IfOk result (IsBegun S.state S.stand options.now) }
     ensures fault { IfErr result (IsUnbegun S.stand.refuses options.now) }
 {
-    let Some(store) = S::over_log(store) else {
-        return Err(ShellFault::PastShare);
+    let made = match S::over_log(alloc, store) {
+        Ok(made) => made,
+        Err(AllocError) => return Err(ShellFault::Talk(RunFault::Memory)),
+    };
+    let store = match made {
+        Ok(store) => store,
+        Err(why) => return Err(ShellFault::Unfit(why)),
     };
     match Volume::over(alloc, store, level, options.params.journal) {
         Ok(volume) => Ok(volume),

@@ -34,6 +34,9 @@ numbers 3 used of 16
 waiting 0 blocks 0 records
 ";
 
+/// What is told where its image has no serials.
+const UNFIT: &[u8] = b"lfs_shell: image without serials, or with a torn log\n";
+
 /// Runs `lfs_check` with these words on these bytes.
 fn check<R: Files + AllocGlobal>(rt: &R, words: &[&str], input: &[u8]) -> Ended {
     let alloc = rt.alloc();
@@ -71,9 +74,34 @@ fn is_found<R: Files + AllocGlobal>(rt: &R) -> anyhow::Result<bool> {
         "--image=serials.img",
     ];
     let told = found(rt, &words)?;
-    let then = run(rt, &["lfs_shell", "--image=found.img"], BEHIND);
+    let then = run(rt, &["lfs_shell", "--serials", "--image=found.img"], BEHIND);
     let _ = fs::remove_file(rt, FOUND);
     Ok(told.is_done() && then.is_done() && then.answers() == TOLD)
+}
+
+/// Whether the image of a volume without serials is refused where they are asked for, and left as it was.
+fn is_refused<R: Files + AllocGlobal>(rt: &R) -> anyhow::Result<bool> {
+    let _ = fs::remove_file(rt, IMAGE);
+    let _ = run(
+        rt,
+        &[
+            "lfs_shell",
+            "--segments=6",
+            "--inodes=16",
+            "--image=serials.img",
+        ],
+        BEFORE,
+    );
+    let image = fs::read(rt, IMAGE)?;
+    let refused = run(
+        rt,
+        &["lfs_shell", "--serials", "--image=serials.img"],
+        BEHIND,
+    );
+    let left = fs::read(rt, IMAGE)?;
+    let _ = fs::remove_file(rt, IMAGE);
+    let is_told = refused.status == 1 && refused.out.is_empty() && refused.err.as_slice() == UNFIT;
+    Ok(is_told && left == image)
 }
 
 /// Whether none is found in the blocks of one without serials.
@@ -90,7 +118,7 @@ fn is_lost<R: Files + AllocGlobal>(rt: &R) -> anyhow::Result<bool> {
 
 /// Tells whether a volume is found in its blocks exactly where its summaries have serials.
 pub(crate) fn is_found_by_serials<R: Files + AllocGlobal + Print>(rt: &R) -> anyhow::Result<bool> {
-    let both = is_found(rt)? && is_lost(rt)?;
-    println!(rt; "lfs_check --recover: found by its serials, {both}")?;
-    Ok(both)
+    let all = is_found(rt)? && is_lost(rt)? && is_refused(rt)?;
+    println!(rt; "lfs_check --recover: found by its serials, {all}")?;
+    Ok(all)
 }

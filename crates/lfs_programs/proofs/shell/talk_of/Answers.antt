@@ -1,5 +1,5 @@
 use Rattle.std.proofs.Common.{ap, is_some, sym, ◌∙◌}
-use Rattle.lfs_programs.proofs.ShellLemmas.{ends_file}
+use Rattle.lfs_programs.proofs.ShellLemmas.{ends_file, ends_unopened}
 use Rattle.lfs_programs.proofs.shell.talk_of.Goals as goal
 
 pub returns-in-Ok-Some : goal.returns-in-Ok-Some
@@ -8,3 +8,7 @@ returns-in-Ok-Some g c =
     ends_file g.F.File.Write.contents c.args.means.now.options _ _ _ _
     c.in-Ok-Some.lines c.talk_over.new.reader c.args.streams.now.stdin c.args.streams.now.stdout c.talk_over.new.stdout _ _
     (g.F.File.Read.remaining c.in-Ok-Some.lines) named c.talk_over.ensures
+
+pub returns-in-Err : goal.returns-in-Err
+returns-in-Err g c = ends_unopened g.F.File.Write.contents c.args.means.now.options _ _ _ c.args.streams.now.stdin
+    c.args.streams.now.stdout _ _ c.in-Err.ensures.named

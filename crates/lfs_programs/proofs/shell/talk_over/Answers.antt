@@ -1,11 +1,15 @@
-use Rattle.std.proofs.Common.{false, true}
+use Rattle.std.proofs.Common.{false, refl, true}
 use Rattle.lfs_programs.proofs.ShellLemmas.{ends_asked}
 use Rattle.lfs_programs.proofs.shell.talk_over.Goals as goal
 
 pub returns-then-means : goal.returns-then-means
-returns-then-means g c = ends_asked g.F.File.Write.contents true c.args.means.now.options
-    _ _ _ _ _ _ _ _ _ _ c.if-means.true c.talk_in.ensures
+returns-then-means g c = ends_asked g.F.File.Write.contents true c.args.means.now.options.serials
+    c.args.means.now.options _ _ _ _ _ _ _ _ _ _ c.if-means.true refl c.talk_in.ensures
 
-pub returns-else-means : goal.returns-else-means
-returns-else-means g c = ends_asked g.F.File.Write.contents false c.args.means.now.options
-    _ _ _ _ _ _ _ _ _ _ c.if-means.false c.talk_in-else-means.ensures
+pub returns-then-means-2 : goal.returns-then-means-2
+returns-then-means-2 g c = ends_asked g.F.File.Write.contents false true c.args.means.now.options
+    _ _ _ _ _ _ _ _ _ _ c.if-means.false c.if-means-2.true c.talk_in-then-means-2.ensures
+
+pub returns-else-means-2 : goal.returns-else-means-2
+returns-else-means-2 g c = ends_asked g.F.File.Write.contents false false c.args.means.now.options
+    _ _ _ _ _ _ _ _ _ _ c.if-means.false c.if-means-2.false c.talk_in-else-means-2.ensures

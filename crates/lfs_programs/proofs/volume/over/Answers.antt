@@ -1,26 +1,41 @@
-use Rattle.std.proofs.Common.{inr}
-use Rattle.lfs_programs.proofs.StandLemmas.{image_over, within_over, world_over}
+use Rattle.std.proofs.Common.{◌≡◌, inr}
+use Rattle.lfs_stands.proofs.FitLemmas.{loaded_flushed}
+use Rattle.lfs_programs.proofs.StandLemmas.{err_of, image_over, ok_of, within_over, world_over}
 use Rattle.lfs_programs.proofs.volume.over.Goals as goal
 
+pub over_log-requires : goal.over_log-requires
+over_log-requires g c = loaded_flushed _ c.args.store c.args.level c.requires.loaded
+
 pub over-requires : goal.over-requires
-over-requires g c = world_over g.S.FileStore.state g.S.OverLog.stand c.in-Some.store c.args.store
-    (g.met.S.OverLog.contains c.in-Some.store) c.in-Some.ensures.some c.requires.loaded.world
+over-requires g c =
+    let stand = g.S.OverLog.stand in
+    let store = c.in-Ok-made.store in
+    world_over g.S.FileStore.state stand store c.args.store (g.met.S.OverLog.contains store)
+    (ok_of (λ s. stand.parts s ≡ c.args.store) c.in-Ok.made store c.in-Ok-made.is c.in-Ok.ensures.fit)
+    c.requires.loaded.world
 
-pub returns-in-Ok-clause-begun : goal.returns-in-Ok-clause-begun
-returns-in-Ok-clause-begun g c = (
-  within_over g.S.OverLog.stand c.in-Some.store c.in-Ok.volume c.args.level _ c.in-Ok.ensures c.in-Some.ensures.within,
-  inr (
-    c.requires.image,
-    image_over g.S.OverLog.stand c.args.options.now c.args.store c.in-Some.store c.args.level
-        c.in-Ok.volume c.in-Some.ensures.some c.requires.loaded c.in-Ok.ensures,
-  ),
-)
+pub returns-in-Ok-over-clause-begun : goal.returns-in-Ok-over-clause-begun
+returns-in-Ok-over-clause-begun g c =
+    let stand = g.S.OverLog.stand in
+    let store = c.in-Ok-made.store in
+    let made = c.in-Ok.made in
+    let is = c.in-Ok-made.is in (
+      within_over stand store c.in-Ok-over.volume c.args.level _ c.in-Ok-over.ensures
+          (ok_of stand.within made store is c.in-Ok.ensures.within),
+      inr (
+        c.requires.image,
+        image_over stand c.args.options.now c.args.store store c.args.level c.in-Ok-over.volume
+            (ok_of (λ s. stand.parts s ≡ c.args.store) made store is c.in-Ok.ensures.fit) c.requires.loaded
+            c.in-Ok-over.ensures,
+      ),
+    )
 
-pub returns-in_default-clause-fault : goal.returns-in_default-clause-fault
-returns-in_default-clause-fault g c = record {
+pub returns-in-Err-made-clause-fault : goal.returns-in-Err-made-clause-fault
+returns-in-Err-made-clause-fault g c = record {
   image = c.requires.image;
   store = c.args.store;
   level = c.args.level;
   loaded = c.requires.loaded;
-  refused = c.in_default.ensures.none;
+  refused = err_of (λ why. g.S.OverLog.stand.refuses why c.args.store) c.in-Ok.made c.in-Err-made.why c.in-Err-made.is
+      c.in-Ok.ensures.unfit;
 }
