@@ -17,14 +17,13 @@ use Rattle.lfs_sinks.proofs.NumberedLemmas.{numbered-joined}
 use Rattle.lfs_fuse_wire.specs.declared.framing.Frame.{Frame}
 use Rattle.lfs_fuse_wire.specs.declared.header.Header.{Header}
 use Rattle.lfs_types.specs.StoreStates.{StoreState}
-use Rattle.lfs_parts.specs.declared.parts.Parts.{Parts as Log}
 use Rattle.lfs_mount.specs.Runs.{GoesOn}
 use Rattle.lfs_fuse_talk.specs.Filing.{HasFile, HasLines, IsCurrent, IsFirst, IsHandedOut, IsLetGo, IsShut, MovesOn, Stays}
 use Rattle.lfs_fuse_talk.specs.Filing.{Takes, is_open, lost_reply}
 use Rattle.lfs_fuse_talk.specs.Images.{IsKept}
 use Rattle.lfs_fuse_talk.specs.Serving.{Advances, BeginsServing, HasRested, HasServed, IsEntered, IsServed}
 use Rattle.lfs_fuse_talk.specs.Serving.{IsServedOf}
-use Rattle.lfs_fuse_talk.specs.Serving.{IsServedTo, Server, course_of, held, held_over, serving}
+use Rattle.lfs_fuse_talk.specs.Serving.{IsServedTo, Kind, Server, course_of, held, held_over, serving}
 use Rattle.lfs_fuse_talk.specs.Talking.{AreAnswered, Answering, HasTalked, answering_of}
 use Rattle.lfs_fuse_talk.specs.declared.filing.Keeping.{Keeping}
 use Rattle.lfs_fuse_talk.specs.declared.filing.Keeping.TheVariants.{Nowhere, File, Closed}
@@ -367,10 +366,10 @@ current_lines : {W : Type 0} (contents : W → Option (List ℕ)) (first : Optio
 current_lines contents first is_filed keeping handed journal none current =
     lines_with contents first is_filed keeping handed journal (λ _ _. none) current
 
-begun_stands : {F P : Type 0} (contents : F → Option (List ℕ)) (options : Options) (first : Option (List ℕ))
-    (old : Served Log P F) → BeginsServing contents options first old
+begun_stands : {F P W : Type 0} (contents : W → Option (List ℕ)) (kind : Kind F P) (options : Options)
+    (first : Option (List ℕ)) (old : Served F P W) → BeginsServing contents kind options first old
     → Stands contents first (is_some options.journal_out) old []
-begun_stands contents options first old begun =
+begun_stands contents kind options first old begun =
     let current = first_current contents first (is_some options.journal_out) old.ledger.keeping begun.file in
     record {
       lines = current_lines contents first (is_some options.journal_out) old.ledger.keeping []
@@ -405,17 +404,18 @@ asked_for contents None first (File sink) handed current shut = absurd current
 asked_for contents None first Closed handed current shut = absurd current
 
 -- what a mount served, by what it answered
-pub served_all : {F P : Type 0} (contents : F → Option (List ℕ)) (options : Options) (r : Server Log P)
-    (first : Option (List ℕ)) (old new : Served Log P F) (known left start out : Option (List ℕ)) (left_over : Frame)
-    (is_whole is_kept is_saved : Bool) → BeginsServing contents options first old
-    → HasTalked (advancing contents r) left_over old new is_whole known left start out
+pub served_all : {F P W : Type 0} (contents : W → Option (List ℕ)) (kind : Kind F P) (options : Options)
+    (first : Option (List ℕ)) (old new : Served F P W) (known left start out : Option (List ℕ)) (left_over : Frame)
+    (is_whole is_kept is_saved : Bool) → BeginsServing contents kind options first old
+    → HasTalked (advancing contents kind.server) left_over old new is_whole known left start out
     → is_open new.ledger.keeping ≡ is_kept
-    → (is_saved ≡ true → IfSome options.image (λ _. IsKept contents new.mount.tree.volume))
-    → HasServed contents options r known left start out left_over is_whole is_kept is_saved
-served_all contents options r first old new known left start out left_over is_whole is_kept is_saved begun talked opened
-    saved =
+    → (is_saved ≡ true → IfSome options.image (λ _. IsKept contents kind.server.state new.mount.tree.volume))
+    → HasServed contents kind options known left start out left_over is_whole is_kept is_saved
+served_all contents kind options first old new known left start out left_over is_whole is_kept is_saved begun talked
+    opened saved =
+    let r = kind.server in
     let course = course_talk contents r first (is_some options.journal_out) left_over old new [] is_whole known left
-    start out talked (begun_stands contents options first old begun) in
+    start out talked (begun_stands contents kind options first old begun) in
     record {
       first = first;
       old = old;
@@ -433,14 +433,14 @@ served_all contents options r first old new known left start out left_over is_wh
     }
 
 -- its file was asked for, where that took no more
-pub shut_asked : {F P : Type 0} (contents : F → Option (List ℕ)) (options : Options) (r : Server Log P)
-    (first : Option (List ℕ)) (old new : Served Log P F) (known left start out : Option (List ℕ)) (left_over : Frame)
-    (is_whole : Bool) → BeginsServing contents options first old
-    → HasTalked (advancing contents r) left_over old new is_whole known left start out
+pub shut_asked : {F P W : Type 0} (contents : W → Option (List ℕ)) (kind : Kind F P) (options : Options)
+    (first : Option (List ℕ)) (old new : Served F P W) (known left start out : Option (List ℕ)) (left_over : Frame)
+    (is_whole : Bool) → BeginsServing contents kind options first old
+    → HasTalked (advancing contents kind.server) left_over old new is_whole known left start out
     → is_open new.ledger.keeping ≡ false → IsSome options.journal_out
-shut_asked contents options r first old new known left start out left_over is_whole begun talked shut =
-    let course = course_talk contents r first (is_some options.journal_out) left_over old new [] is_whole known left
-    start out talked (begun_stands contents options first old begun) in
+shut_asked contents kind options first old new known left start out left_over is_whole begun talked shut =
+    let course = course_talk contents kind.server first (is_some options.journal_out) left_over old new [] is_whole
+    known left start out talked (begun_stands contents kind options first old begun) in
     asked_for contents options.journal_out first new.ledger.keeping course.0 course.2.current shut
 
 -- what a file holds that was just made, where there is one

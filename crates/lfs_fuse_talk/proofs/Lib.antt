@@ -3,5 +3,6 @@ pub mod EndLemmas
 pub mod FilingLemmas
 pub mod FrontLemmas
 pub mod LedLemmas
+pub mod StandLemmas
 pub mod TalkLemmas
 pub mod VolumeLemmas

@@ -8,6 +8,8 @@ use Rattle.lfs_model.specs.declared.journal.Entry.{Entry}
 use Rattle.lfs_parts.specs.Store.{IsFlushed}
 use Rattle.lfs_parts.specs.declared.parts.Parts.{Parts as Log}
 use Rattle.lfs_logstore.specs.States.{state_of}
+use Rattle.lfs_durable_store.specs.Keeping.{Durably, IsSettled, durable_state}
+use Rattle.lfs_stands.specs.Stands.{Stand, durable_stand, log_stand}
 use Rattle.lfs_nodes.specs.declared.parts.Parts.{Parts}
 use Rattle.lfs_fuse_wire.specs.Header.{header_in}
 use Rattle.lfs_fuse_wire.specs.Said.{said}
@@ -55,11 +57,22 @@ abbrev pub server_of : {F P : Type 0} → (F → StoreState) → (F → Type 0) 
 server_of state is_flushed time groups =
     record { state = state; is_flushed = is_flushed; time = time; groups = groups }
 
--- the same of a log
-abbrev pub log_server : {P : Type 0} → (P → Time → P → Type 0)
-    → (P → Header → Option (List ℕ) → P → Type 0)
-    → Server Log P
-log_server time groups = server_of state_of IsFlushed time groups
+-- the same, and how the store stands on a log store
+pub record Kind (F P : Type 0) : Type 1 where
+  pub server : Server F P
+  pub stand : Stand F
+
+abbrev pub kind_with : {F P : Type 0} → Server F P → Stand F → Kind F P
+kind_with server stand = record { server = server; stand = stand }
+
+-- those of the log store itself, and of a durable store, which a crash leaves whole
+abbrev pub log_kind : {P : Type 0} → (P → Time → P → Type 0)
+    → (P → Header → Option (List ℕ) → P → Type 0) → Kind Log P
+log_kind time groups = kind_with (server_of state_of IsFlushed time groups) log_stand
+
+abbrev pub durable_kind : {P : Type 0} → (P → Time → P → Type 0)
+    → (P → Header → Option (List ℕ) → P → Type 0) → Kind Durably P
+durable_kind time groups = kind_with (server_of durable_state IsSettled time groups) durable_stand
 
 -- the messages that make calls, by their numbers in the protocol
 abbrev pub calling : List ℕ
@@ -217,26 +230,28 @@ Advances contents Does old new =
     × IsCurrent contents first is_filed new.ledger.keeping after
 
 -- a mount begins as was asked: its volume, without an entry, and the file of its journal, where one is asked for
-pub record BeginsServing {F P : Type 0} (contents : F → Option (List ℕ)) (options : Options)
-    (first : Option (List ℕ)) (old : Served Log P F) : Type 0 where
-  pub volume : HasBegun options old.mount.tree.volume
+pub record BeginsServing {F P W : Type 0} (contents : W → Option (List ℕ)) (kind : Kind F P)
+    (options : Options) (first : Option (List ℕ)) (old : Served F P W) : Type 0 where
+  pub volume : HasBegun kind.server.state kind.stand options old.mount.tree.volume
   pub file : IsFirst contents first (is_some options.journal_out) old.ledger.keeping
 
 -- A mount that began as was asked served the messages that were read, up to the end of the input, to a read that failed,
 -- or to what is no message, and their replies were written. All entries since it began are a legal run from the tree and
 -- the level that it began with to those that the messages left. Where the file of its journal took all, it has the line
 -- of each entry; and the volume that the messages left is kept in a file, where an image is asked for.
-pub record HasServed {F P : Type 0} (contents : F → Option (List ℕ)) (options : Options)
-    (r : Server Log P) (known left start out : Option (List ℕ)) (left_over : Frame)
+pub record HasServed {F P W : Type 0} (contents : W → Option (List ℕ)) (kind : Kind F P)
+    (options : Options) (known left start out : Option (List ℕ)) (left_over : Frame)
     (is_whole is_kept is_saved : Bool) : Type 0 where
   pub first : Option (List ℕ)
-  pub old : Served Log P F
-  pub new : Course Log P F
-  pub begun : BeginsServing contents options first old
-  pub talked : HasTalked (serving contents first r) left_over (course_of old []) new is_whole
-      known left start out
-  pub legal : LeadTo r.state old.mount.tree.volume (entered new) new.served.mount.tree.volume
+  pub old : Served F P W
+  pub new : Course F P W
+  pub begun : BeginsServing contents kind options first old
+  pub talked : HasTalked (serving contents first kind.server) left_over (course_of old []) new
+      is_whole known left start out
+  pub legal : LeadTo kind.server.state old.mount.tree.volume (entered new)
+      new.served.mount.tree.volume
   pub kept : is_served new ≡ is_kept
   pub filed : is_kept ≡ true → IfSome options.journal_out (λ _. HasFile contents (entered new))
   pub saved : is_saved ≡ true
-      → IfSome options.image (λ _. IsKept contents new.served.mount.tree.volume)
+      → IfSome options.image
+      (λ _. IsKept contents kind.server.state new.served.mount.tree.volume)

@@ -1,6 +1,7 @@
 //! Why a talk ends before its end, or is none.
 
 use lfs_checking::fault::{CheckFault, VolumeFault};
+use lfs_stands::Unfit;
 use lfs_types::fault::FormatFault;
 use std::alloc::AllocError;
 use thiserror::Error;
@@ -17,6 +18,9 @@ pub enum TalkFault {
     /// What the file of the image has is the image of no volume.
     #[error("image: {0}")]
     Image(VolumeFault),
+    /// The store that is asked for may not stand on the log of the image's volume, and nothing is read.
+    #[error("{0}")]
+    Unfit(Unfit),
     /// The file of the journal was not made.
     #[error("{0}")]
     Open(OpenFault),

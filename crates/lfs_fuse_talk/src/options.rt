@@ -75,7 +75,8 @@ pub struct Options<'a> {
     pub params: Params,
     /// The file from which the volume is loaded, where there is one, and in which it is saved at the end.
     pub image: Option<&'a str>,
-    /// Whether the summaries of a fresh volume have serials, so that it can be found again from its blocks alone.
+    /// Whether the summaries of a fresh volume have serials, so that it can be found again from its blocks alone; and
+    /// whether the volume is over a store that a crash leaves whole.
     pub serials: bool,
     /// The file that is made for the journal's entries, where one is asked for.
     pub journal_out: Option<&'a str>,

@@ -4,8 +4,8 @@ ghost use Rattle.std.specs.Prelude.{◌≡◌, ℕ, List, Option, true, IfErr, I
 ghost use Rattle.clap.specs.Values.{kind_of};
 ghost use Rattle.lfs_fuse_wire.specs.declared.framing.Frame.TheVariants.{Partial};
 ghost use Rattle.lfs_command.specs.Ends.{EndsUnasked};
-ghost use Rattle.lfs_fuse_talk.specs.Ends.{EndsMount, EndsServing, IsBroken, IsFuseEnd, IsUnserved, status_of};
-ghost use Rattle.lfs_fuse_talk.specs.Serving.{BeginsServing, HasServed, log_server};
+ghost use Rattle.lfs_fuse_talk.specs.Ends.{EndsMount, EndsOver, EndsServing, IsBroken, IsFuseEnd, IsUnserved, status_of};
+ghost use Rattle.lfs_fuse_talk.specs.Serving.{BeginsServing, HasServed, kind_with, server_of};
 
 use crate::fault::TalkFault;
 use crate::filing::{Ledger, NAME, open_journal};
@@ -18,8 +18,10 @@ use clap::Error;
 use lfs_command::refusing::refuse;
 use lfs_command::streams::Streams;
 use lfs_command::words::{texts, words};
+use lfs_durable_store::DurableStore;
 use lfs_io::tell::tell;
 use lfs_logstore::LogStore;
+use lfs_stands::OverLog;
 use std::alloc::Global;
 use std::env::Env;
 use std::io::{Read, Write};
@@ -105,7 +107,8 @@ where
     }
 }
 
-/// Answers messages in a world outside, and gives the status with which the program ends.
+/// Answers messages in a world outside, over the kind of store that is asked for, and gives the status with which the
+/// program ends.
 fn mount<P, S, R, W, D>(
     outside: P,
     files: &S,
@@ -119,13 +122,43 @@ where
     R: Read,
     W: Write,
     D: Write,
-    ensures { EndsServing S.File.contents options.now (log_server P.time P.groups)
+    ensures { EndsOver S.File.contents P.time P.groups options.now
         (R.remaining streams.old.stdin) (R.remaining streams.new.stdin)
         (W.contents streams.old.stdout) (W.contents streams.new.stdout)
         result streams.old.stdin streams.new.stdin streams.old.stdout streams.new.stdout
         streams.old.stderr streams.new.stderr }
 {
-    match begin(outside, files, alloc, options) {
+    if options.serials {
+        mount_over::<DurableStore, P, S, R, W, D>(outside, files, alloc, options, streams)
+    } else {
+        mount_over::<LogStore, P, S, R, W, D>(outside, files, alloc, options, streams)
+    }
+}
+
+/// The same over a kind of store, which takes serials where they are asked for.
+fn mount_over<F, P, S, R, W, D>(
+    outside: P,
+    files: &S,
+    alloc: Global,
+    options: &Options<'_>,
+    streams: &mut Streams<R, W, D>,
+) -> u8
+where
+    F: OverLog + Drop,
+    P: Outside + Drop,
+    S: Files,
+    R: Read,
+    W: Write,
+    D: Write,
+    requires { F.stand.takes options.now.serials }
+    ensures { let kind = kind_with (server_of F.state F.is_flushed P.time P.groups) F.stand in
+        EndsServing S.File.contents kind options.now
+        (R.remaining streams.old.stdin) (R.remaining streams.new.stdin)
+        (W.contents streams.old.stdout) (W.contents streams.new.stdout)
+        result streams.old.stdin streams.new.stdin streams.old.stdout streams.new.stdout
+        streams.old.stderr streams.new.stderr }
+{
+    match begin::<F, P, S>(outside, files, alloc, options) {
         Ok(served) => {
             let outcome = serve(served, files, alloc, options, streams);
             finish(&mut streams.stderr, outcome)
@@ -139,15 +172,17 @@ where
 /// # Errors
 ///
 /// Those of `mounted`, before a file is made; `Open`.
-fn begin<P: Outside + Drop, S: Files>(
+fn begin<F: OverLog + Drop, P: Outside + Drop, S: Files>(
     outside: P,
     files: &S,
     alloc: Global,
     options: &Options<'_>,
-) -> Result<Served<LogStore, P, S::File>, TalkFault>
-    ensures begun { IfOk result (λ served. (first : Option (List ℕ))
-        × BeginsServing S.File.contents options.now first served) }
-    ensures fault { IfErr result (IsUnserved options.now) }
+) -> Result<Served<F, P, S::File>, TalkFault>
+    requires { F.stand.takes options.now.serials }
+    ensures begun { let kind = kind_with (server_of F.state F.is_flushed P.time P.groups) F.stand in
+        IfOk result (λ served. (first : Option (List ℕ))
+        × BeginsServing S.File.contents kind options.now first served) }
+    ensures fault { IfErr result (IsUnserved F.stand.refuses options.now) }
 {
     let mut outside = outside;
     let now = outside.now();
@@ -160,28 +195,31 @@ fn begin<P: Outside + Drop, S: Files>(
 
 /// Answers messages on a mount, whose volume is kept behind them where a file is named for it, also where the talk had
 /// a fault, or the file of its journal took no more.
-fn serve<P, S, R, W, D>(
-    served: Served<LogStore, P, S::File>,
+fn serve<F, P, S, R, W, D>(
+    served: Served<F, P, S::File>,
     files: &S,
     alloc: Global,
     options: &Options<'_>,
     streams: &mut Streams<R, W, D>,
 ) -> Result<Talked, TalkFault>
 where
+    F: OverLog + Drop,
     P: Outside + Drop,
     S: Files,
     R: Read,
     W: Write,
     D: Write,
-    requires { (first : Option (List ℕ)) × BeginsServing S.File.contents options.now first served }
-    ensures served { IfOk result (λ talked. HasServed S.File.contents options.now
-        (log_server P.time P.groups)
+    requires { let kind = kind_with (server_of F.state F.is_flushed P.time P.groups) F.stand in
+        (first : Option (List ℕ)) × BeginsServing S.File.contents kind options.now first served }
+    ensures served { let kind = kind_with (server_of F.state F.is_flushed P.time P.groups) F.stand in
+        IfOk result (λ talked. HasServed S.File.contents kind options.now
         (R.remaining streams.old.stdin) (R.remaining streams.new.stdin)
         (W.contents streams.old.stdout) (W.contents streams.new.stdout)
         Partial talked.is_whole true true) }
     ensures silent { OnOk result (streams.new.stderr ≡ streams.old.stderr) }
-    ensures broken { IfErr result (IsBroken options.now ⊥
-        (HasServed S.File.contents options.now (log_server P.time P.groups)
+    ensures broken { let kind = kind_with (server_of F.state F.is_flushed P.time P.groups) F.stand in
+        IfErr result (IsBroken kind.stand.refuses options.now ⊥
+        (HasServed S.File.contents kind options.now
         (R.remaining streams.old.stdin) (R.remaining streams.new.stdin)
         (W.contents streams.old.stdout) (W.contents streams.new.stdout))) }
 {

@@ -2,9 +2,8 @@
 
 ghost use Rattle.std.specs.Prelude.{◌≡◌, ◌⊎◌, IfErr, IfOk, IfSome, IsSome, OnOk};
 ghost use Rattle.lfs_checking.specs.Files.{IsLoaded};
-ghost use Rattle.lfs_fuse_talk.specs.Ends.{IsUnbegun};
+ghost use Rattle.lfs_fuse_talk.specs.Ends.{IsUnbegun, IsUnloaded};
 ghost use Rattle.lfs_fuse_talk.specs.Images.{HasBegun, IsKept};
-ghost use Rattle.lfs_fuse_talk.specs.declared.options.Options.{Options};
 ghost use Rattle.lfs_fuse_talk.specs.declared.fault.TalkFault.TheVariants.{Memory, Save};
 
 use crate::fault::TalkFault;
@@ -15,6 +14,7 @@ use lfs_checking::keeping::{load_file, save_file};
 use lfs_fuse_wire::attributes::Time;
 use lfs_logstore::LogStore;
 use lfs_mount::mount::{Mount, Sizes};
+use lfs_stands::OverLog;
 use lfs_types::fault::FormatFault;
 use lfs_types::level::Level;
 use lfs_types::limits::LEAST_FRAMES;
@@ -23,20 +23,21 @@ use std::alloc::Global;
 use std::rt::Files;
 
 /// A mount of the volume whose image the named file has, and of a fresh one where none is named, or there is no such
-/// file.
+/// file, over a kind of store that takes serials where they are asked for.
 ///
 /// # Errors
 ///
 /// `Format` where the volume can't have so many segments, inode numbers or frames; `Read` where the file can't be read,
-/// `Image` where what it has is the image of no volume; `Memory`.
-pub(crate) fn mounted<S: Files>(
+/// `Image` where what it has is the image of no volume, `Unfit` where the store may not stand on its log; `Memory`.
+pub(crate) fn mounted<F: OverLog + Drop, S: Files>(
     files: &S,
     alloc: Global,
     options: &Options<'_>,
     now: Time,
-) -> Result<Mount<LogStore>, TalkFault>
-    ensures begun { IfOk result (λ mount. HasBegun options.now mount.tree.volume) }
-    ensures fault { IfErr result (IsUnbegun options.now) }
+) -> Result<Mount<F>, TalkFault>
+    requires { F.stand.takes options.now.serials }
+    ensures begun { IfOk result (λ mount. HasBegun F.state F.stand options.now mount.tree.volume) }
+    ensures fault { IfErr result (IsUnbegun F.stand.refuses options.now) }
 {
     let Some(path) = options.image else {
         return fresh(alloc, options, now);
@@ -49,12 +50,22 @@ pub(crate) fn mounted<S: Files>(
 }
 
 /// A mount of a fresh volume, whose root is made now; its summaries have serials where that is asked for.
-fn fresh(alloc: Global, options: &Options<'_>, now: Time) -> Result<Mount<LogStore>, TalkFault>
-    ensures begun { IfOk result (λ mount. HasBegun options.now mount.tree.volume) }
-    ensures fault { IfErr result (IsUnbegun options.now) }
+fn fresh<F: OverLog + Drop>(
+    alloc: Global,
+    options: &Options<'_>,
+    now: Time,
+) -> Result<Mount<F>, TalkFault>
+    requires { F.stand.takes options.now.serials }
+    ensures begun { IfOk result (λ mount. HasBegun F.state F.stand options.now mount.tree.volume) }
+    ensures fault { IfErr result (IsUnbegun F.stand.refuses options.now) }
 {
     let params = options.params;
     let store = fresh_store(alloc, params, options.serials)?;
+    let store = match F::over_log(alloc, store)? {
+        Ok(store) => store,
+        // Never: by `opens` of `OverLog`.
+        Err(_) => unreachable!(),
+    };
     let volume = Volume::new(alloc, store, params.journal)?;
     let sizes = Sizes {
         segments: params.segments,
@@ -64,22 +75,30 @@ fn fresh(alloc: Global, options: &Options<'_>, now: Time) -> Result<Mount<LogSto
 }
 
 /// A mount of the volume of an image.
-fn over(
+///
+/// # Errors
+///
+/// `Unfit` where a store of the kind that is asked for may not stand on its log; `Memory`.
+fn over<F: OverLog + Drop>(
     alloc: Global,
     store: LogStore,
     level: Level,
     options: &Options<'_>,
     now: Time,
-) -> Result<Mount<LogStore>, TalkFault>
+) -> Result<Mount<F>, TalkFault>
     requires image { IsSome options.now.image }
     requires loaded { IsLoaded options.now.params.frames store level }
-    ensures begun { IfOk result (λ mount. HasBegun options.now mount.tree.volume) }
-    ensures fault { IfErr result (IsUnbegun options.now) }
+    ensures begun { IfOk result (λ mount. HasBegun F.state F.stand options.now mount.tree.volume) }
+    ensures fault { IfErr result (IsUnbegun F.stand.refuses options.now) }
 {
     let log = &store.parts().log;
     let sizes = Sizes {
         segments: log.segments(),
         inodes: log.inodes(),
+    };
+    let store = match F::over_log(alloc, store)? {
+        Ok(store) => store,
+        Err(why) => return Err(TalkFault::Unfit(why)),
     };
     let volume = Volume::over(alloc, store, level, options.params.journal)?;
     Ok(Mount::new(alloc, volume, sizes, now)?)
@@ -87,7 +106,7 @@ fn over(
 
 /// Why a volume is not loaded with so many frames.
 fn unloaded(fault: KeepFault, frames: u32) -> TalkFault
-    ensures { (options : Options) → IsSome options.image → IsUnbegun options result }
+    ensures { IsUnloaded result }
 {
     match fault {
         KeepFault::Read(fault) => TalkFault::Read(fault),
@@ -105,14 +124,14 @@ fn unloaded(fault: KeepFault, frames: u32) -> TalkFault
 /// # Errors
 ///
 /// `Save` where what waits or a file was not written, or got no name; `Memory`.
-pub(crate) fn keep<S: Files>(
+pub(crate) fn keep<F: OverLog + Drop, S: Files>(
     files: &S,
     alloc: Global,
-    mount: &mut Mount<LogStore>,
+    mount: &mut Mount<F>,
     options: &Options<'_>,
 ) -> Result<(), TalkFault>
     ensures kept { OnOk result (IfSome options.now.image
-        (λ _. IsKept S.File.contents mount.old.tree.volume)) }
+        (λ _. IsKept S.File.contents F.state mount.old.tree.volume)) }
     ensures fault { IfErr result (λ fault. (fault ≡ Memory)
         ⊎ ((fault ≡ Save) × IsSome options.now.image)) }
 {
@@ -127,16 +146,16 @@ pub(crate) fn keep<S: Files>(
 }
 
 /// Writes what waits, and saves the volume in a file.
-fn save<S: Files>(
+fn save<F: OverLog + Drop, S: Files>(
     files: &S,
     alloc: Global,
-    mount: &mut Mount<LogStore>,
+    mount: &mut Mount<F>,
     path: &str,
 ) -> Result<(), KeepFault>
-    ensures { OnOk result (IsKept S.File.contents mount.old.tree.volume) }
+    ensures { OnOk result (IsKept S.File.contents F.state mount.old.tree.volume) }
 {
     if !mount.flush(alloc)? {
         return Err(KeepFault::Save);
     }
-    save_file(files, alloc, mount.store(), mount.level(), path)
+    save_file(files, alloc, mount.store().log_store(), mount.level(), path)
 }

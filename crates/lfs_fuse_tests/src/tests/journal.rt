@@ -47,6 +47,19 @@ const FILED: &[&[u8]] = &[
     b"--recorded",
 ];
 
+/// Such words that ask for serials besides.
+const FILED_WITH_SERIALS: &[&[u8]] = &[
+    b"lfs_fuse",
+    b"--segments=6",
+    b"--inodes=16",
+    b"--frames=32",
+    b"--journal=512",
+    b"--journal-out=journal.out",
+    b"--image=volume.lfs",
+    b"--serials",
+    b"--recorded",
+];
+
 /// Two look-ups in the root, of names that are missing, by user 1000.
 fn talk(rt: &impl Abort, alloc: Global) -> Vec<u8> {
     let mut bytes = message_of(alloc, 42, 1, b"a\0").expect(rt, "room");
@@ -88,6 +101,18 @@ fn each_line_stands_before_its_reply(rt: HostRuntime) {
     let disk = Disk::new(alloc, false);
     let bytes = talk(&rt, alloc);
     let (status, told) = end_on(&disk, alloc, FILED, &bytes);
+    expect_eq(&rt, status, 0);
+    expect_eq(&rt, told.len(), 0);
+    expect_eq(&rt, disk.is_saved(), true);
+    expect_bytes(&rt, &disk.into_written(), ENTERED);
+}
+
+#[test]
+fn a_durable_store_answers_alike(rt: HostRuntime) {
+    let alloc = rt.alloc();
+    let disk = Disk::new(alloc, false);
+    let bytes = talk(&rt, alloc);
+    let (status, told) = end_on(&disk, alloc, FILED_WITH_SERIALS, &bytes);
     expect_eq(&rt, status, 0);
     expect_eq(&rt, told.len(), 0);
     expect_eq(&rt, disk.is_saved(), true);

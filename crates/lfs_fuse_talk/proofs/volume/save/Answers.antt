@@ -1,22 +1,31 @@
-use Rattle.std.proofs.Common.{subst, rules, tests}
+use Rattle.std.proofs.Common.{ap, subst, sym, rules, tests, ◌∙◌}
 use Rattle.std.specs.Prelude.{OnOk}
 use Rattle.lfs_types.specs.declared.level.Level.{Level}
+use Rattle.lfs_parts.specs.Store.{IsFlushed}
 use Rattle.lfs_parts.specs.declared.parts.Parts.{Parts}
 use Rattle.lfs_checking.specs.Files.{HasImage}
+use Rattle.lfs_fuse_talk.proofs.StandLemmas.{kept_below}
 use Rattle.lfs_fuse_talk.proofs.VolumeLemmas.{ok_map}
 use Rattle.lfs_fuse_talk.proofs.volume.save.Goals as goal
 
+pub save_file-requires : goal.save_file-requires
+save_file-requires g c =
+    let stand = g.F.OverLog.stand in
+    subst (λ (p : Parts). IsFlushed p) (sym (c.log_store.ensures ∙ ap stand.parts c.store.ensures))
+    (g.met.F.OverLog.rests c.flush.new.self.tree.volume.store (c.in_ok-flush.ensures.flushed (search (rules, tests))))
+
 pub returns : goal.returns
 returns g c =
-    let volume = c.flush.new.self.tree.volume in
-    let saved = subst (λ (l : Level). OnOk c.save_file.result (HasImage g.S.File.Write.contents volume.store.log l))
+    let stand = g.F.OverLog.stand in
+    let left = c.flush.new.self.tree.volume in
+    let outcome = c.save_file.result in
+    let at = c.log_store.ensures ∙ ap stand.parts c.store.ensures in
+    let image = subst (λ (l : Level). OnOk outcome (HasImage g.S.File.Write.contents (stand.parts left.store).log l))
     c.level.ensures
-    (subst (λ (s : Parts). OnOk c.save_file.result (HasImage g.S.File.Write.contents s.log c.level.result))
-    c.store.ensures c.save_file.ensures) in
-    ok_map c.save_file.result (λ image. record {
-      store = volume.store;
-      level = volume.level;
-      flushed = c.in_ok-flush.ensures.flushed (search (rules, tests));
-      shown = c.flush.ensures.shown;
-      image = image;
-    }) saved
+    (subst (λ (p : Parts). OnOk outcome (HasImage g.S.File.Write.contents p.log c.level.result)) at
+    c.save_file.ensures) in
+    ok_map outcome
+    (λ i. kept_below g.S.File.Write.contents g.F.FileStore.state stand c.args.mount.now.tree.volume left.store
+    left.level (g.met.F.OverLog.contains left.store)
+    (g.met.F.OverLog.rests left.store (c.in_ok-flush.ensures.flushed (search (rules, tests))))
+    c.flush.ensures.shown i) image
