@@ -7,9 +7,9 @@ TOP = Path(__file__).resolve().parent.parent
 LAYERS = {
     "values, rules and the model": "types rules dirs model laws checks explain why who",
     "calls, volume and sessions": "calls known flatfiles volume trace settle cleaner server rounds",
-    "the log": "segments ifile inodes bmap log recency cache parts staging segwrite logstore share fsck image recovery reach rescue trees view durable_store logged",
+    "the log": "segments ifile inodes bmap log recency cache parts staging segwrite logstore share fsck image recovery reach rescue trees view durable durable_store findable logged disk",
     "a mount": "fuse_wire fuse_reply nodes fuse_calls stamps opens mount fuse_talk",
-    "texts and programs": "words print script journal_lines io sinks audit hearing browse live terminal film programs command auditing checking shell lfsd",
+    "texts and programs": "words print script journal_lines io sinks audit hearing browse live terminal film programs command auditing checking stands shell lfsd",
 }
 
 
