@@ -208,7 +208,7 @@ module _ (p : Parts) (n : SegmentMemory) (d : IsDurable p) (crash : IsCrashOf p 
   chain_was segment [] (inr (inr (inr barren))) chain = tt
   chain_was segment (s ∷ ps) (inr (inr (inr barren))) chain = absurd (barren.torn s chain.0.whole chain.0.place)
 
-  none_new : (s : PartialSegment) → IsLogged n s → IsLogged m s
+  pub none_new : (s : PartialSegment) → IsLogged n s → IsLogged m s
   none_new s l =
       let segments = crash.segments in
       let below = l.below in

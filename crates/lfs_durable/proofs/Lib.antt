@@ -12,3 +12,4 @@ pub mod CrashLemmas
 pub mod FlushLemmas
 pub mod KeptLemmas
 pub mod RunLemmas
+pub mod ListLemmas

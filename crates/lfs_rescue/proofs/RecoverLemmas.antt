@@ -1,55 +1,21 @@
 -- The last of some partial segments (`last_more`), and that of all of a memory (`has_end`); and what a fault of the volume
 -- that is built says of the memory (`build_fault`, `build_none`).
-use Rattle.std.proofs.Common.{◌≡◌, ℕ, zero, suc, ◌<◌, ◌≤◌, true, false, nat_lt, List, []}
+use Rattle.std.proofs.Common.{◌≡◌, ◌<◌, ◌≤◌, true, false, nat_lt, List, []}
 use Rattle.std.proofs.Common.{◌∷◌, ◌++◌, Option, Some, None}
-use Rattle.std.proofs.Common.{refl, sym, ap, subst, ⊎_elim, arith}
+use Rattle.std.proofs.Common.{refl, ap, subst, ⊎_elim, arith}
 use Rattle.std.specs.List.{Contains}
 use Rattle.std.proofs.lemmas.Bool.{cases_lt, le-ltb, lt-ltb}
-use Rattle.std.proofs.lemmas.List.Elements.{Contains-append_cases, Contains-append_left, Contains-append_right}
+use Rattle.std.proofs.lemmas.List.Elements.{Contains-append_left}
 use Rattle.std.proofs.lemmas.List.Elements.{Contains-push, Contains-push_cases}
 use Rattle.lfs_segments.specs.Memory.{SegmentMemory}
 use Rattle.lfs_recovery.specs.declared.places.PartialSegment.{PartialSegment}
-use Rattle.lfs_recovery.specs.Logs.{AreLogs, IsLogged, joined, log_place}
-use Rattle.lfs_recovery.proofs.LogLemmas.{longest_one}
+use Rattle.lfs_recovery.specs.Logs.{AreLogs, IsLogged}
+use Rattle.lfs_durable.proofs.ListLemmas.{listed_logged, logged_listed}
 use Rattle.lfs_rescue.specs.declared.fault.RecoverFault.{RecoverFault}
 use Rattle.lfs_rescue.specs.declared.fault.RecoverFault.TheVariants.{Empty, Volume, Number, LastSerial, Length, Memory}
 use Rattle.lfs_rescue.specs.Building.{IsBuildFault}
 use Rattle.lfs_rescue.specs.Contents.{IsLeftOfNone}
 use Rattle.lfs_rescue.specs.Recovering.{HasEnd, IsLastOf, IsRecoverFaultOf, later}
-
--- ---- logs
-
-joined-there : (logs : ℕ → List PartialSegment) (n : ℕ) (p : PartialSegment) → Contains (joined logs n) p
-    → (segment : ℕ) × ((segment < n) × Contains (logs segment) p)
-joined-there logs zero p there = let below = there.1 in absurd (omega arith)
-joined-there logs (suc n) p there = ⊎_elim
-    (λ (before : Contains (joined logs n) p).
-    let w = joined-there logs n p before in let below = w.1.0 in (w.0, (omega arith, w.1.1)))
-    (λ (here : Contains (logs n) p). (n, (omega arith, here)))
-    (Contains-append_cases (joined logs n) (logs n) p there)
-
-there-joined : (logs : ℕ → List PartialSegment) (n segment : ℕ) (p : PartialSegment) → segment < n
-    → Contains (logs segment) p → Contains (joined logs n) p
-there-joined logs zero segment p below there = absurd (omega arith)
-there-joined logs (suc n) segment p below there = ⊎_elim
-    (λ (lt : segment < n). Contains-append_left (joined logs n) (logs n) p (there-joined logs n segment p lt there))
-    (λ (ge : n ≤ segment). let at : segment ≡ n = omega arith in
-    Contains-append_right (joined logs n) (logs n) p (subst (λ (k : ℕ). Contains (logs k) p) at there))
-    (cases_lt segment n)
-
-pub listed_logged : (m : SegmentMemory) (ps : List PartialSegment) (p : PartialSegment) → AreLogs m ps → Contains ps p
-    → IsLogged m p
-listed_logged m ps p a there =
-    let w = joined-there a.logs m.segments p (subst (λ (xs : List PartialSegment). Contains xs p) a.together there) in
-    record { segment = w.0; log = a.logs w.0; below = w.1.0; is = a.each w.0 w.1.0; there = w.1.1 }
-
-pub logged_listed : (m : SegmentMemory) (ps : List PartialSegment) (p : PartialSegment) → AreLogs m ps → IsLogged m p
-    → Contains ps p
-logged_listed m ps p a l =
-    let same : l.log ≡ a.logs l.segment =
-    longest_one m l.segment (log_place l.segment) 0 l.log (a.logs l.segment) l.is (a.each l.segment l.below) in
-    subst (λ (xs : List PartialSegment). Contains xs p) (sym a.together)
-    (there-joined a.logs m.segments l.segment p l.below (subst (λ (xs : List PartialSegment). Contains xs p) same l.there))
 
 -- ---- the last one
 
