@@ -1,22 +1,19 @@
--- What a store over a log store is kept as, and how a volume over it begins: `fresh_over` and `opening_over` for
--- `laid_out`, `image_over` and `world_over` for `over`, `saved_below` for `save`. Whatever stands over the log store
--- contains what that contains (`same_content`), and which worlds a store shows is a matter of its content
--- (`same_volume`). So over a log that was laid out it shows the opening tree, over one that was loaded the image's, and
--- an image of the log store that is flushed keeps what the store shows at present.
+-- What a store over a log store is kept as, and how a volume over it begins: `fresh_over` for `laid_out`, `image_over` for
+-- `over`, `saved_below` for `save`. An image of the log store that is flushed keeps what the store shows at present, as
+-- both contain the same (`same_volume` of lfs_stands).
 use Rattle.std.proofs.Common.{◌≡◌, ℕ, ◌∙◌, ap, sym, subst, [], Result, Ok, Err, IfErr, IfOk, OnOk, Option, List}
 use Rattle.lfs_types.specs.StoreStates.{StoreState}
-use Rattle.lfs_types.specs.Tree.{Content, World, opening_world}
+use Rattle.lfs_types.specs.Tree.{opening_world}
 use Rattle.lfs_types.specs.declared.level.Level.{Level}
 use Rattle.lfs_types.specs.declared.level.Level.TheVariants.{Insecure}
 use Rattle.lfs_parts.specs.Store.{IsFlushed}
 use Rattle.lfs_parts.specs.declared.parts.Parts.{Parts}
 use Rattle.lfs_logstore.specs.States.{opening_state, state_of}
-use Rattle.lfs_calls.specs.Content.{Shows}
-use Rattle.lfs_calls.specs.Volumes.{HasWorld, IsVolume}
 use Rattle.lfs_volume.specs.Journals.{AtPresent, Begins}
 use Rattle.lfs_volume.specs.Seen.{Seen}
 use Rattle.lfs_checking.specs.Files.{HasImage, IsFreshStore, IsLoaded}
 use Rattle.lfs_stands.specs.Stands.{Stand}
+use Rattle.lfs_stands.proofs.OverLemmas.{same_volume}
 use Rattle.lfs_programs.specs.Volumes.{HasSaved, IsFresh, IsOfImage}
 use Rattle.lfs_programs.specs.declared.options.ShellOptions.{ShellOptions}
 
@@ -31,29 +28,6 @@ ok_of {A} {E} P made a is holds = subst (λ (r : Result A E). IfOk r P) is holds
 
 pub err_of : {A E : Type 0} (P : E → Type 0) (made : Result A E) (e : E) → made ≡ Err e → IfErr made P → P e
 err_of {A} {E} P made e is holds = subst (λ (r : Result A E). IfErr r P) is holds
-
--- a store that contains the same shows the same world
-same_volume : (s t : StoreState) (w : World) → s.content ≡ t.content → IsVolume s w → IsVolume t w
-same_volume s t w same v = record { shows = subst (λ (c : Content). Shows c w) same v.shows; tree = v.tree }
-
--- a store contains what the log store contains of which it is made
-same_content : {S : Type 0} (state : S → StoreState) (stand : Stand S) (s : S) (log : Parts)
-    → (state s).content ≡ (state_of (stand.parts s)).content → stand.parts s ≡ log
-    → (state s).content ≡ (state_of log).content
-same_content state stand s log contains on = contains ∙ ap (λ (p : Parts). (state_of p).content) on
-
--- and shows the world that it shows
-pub world_over : {S : Type 0} (state : S → StoreState) (stand : Stand S) (s : S) (log : Parts)
-    → (state s).content ≡ (state_of (stand.parts s)).content → stand.parts s ≡ log
-    → HasWorld (state_of log) → HasWorld (state s)
-world_over state stand s log contains on h =
-    (h.0, same_volume (state_of log) (state s) h.0 (sym (same_content state stand s log contains on)) h.1)
-
-pub opening_over : {S : Type 0} (state : S → StoreState) (stand : Stand S) (s : S) (log : Parts)
-    → (state s).content ≡ (state_of (stand.parts s)).content → stand.parts s ≡ log
-    → Shows (state_of log).content opening_world → Shows (state s).content opening_world
-opening_over state stand s log contains on shows =
-    subst (λ (c : Content). Shows c opening_world) (sym (same_content state stand s log contains on)) shows
 
 -- a volume over a store, at the beginning of its journal
 abbrev pub first_seen : {S : Type 0} → S → Level → ℕ → Seen S

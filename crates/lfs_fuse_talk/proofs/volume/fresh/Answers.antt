@@ -2,7 +2,8 @@ use Rattle.std.proofs.Common.{◌≡◌, refl}
 use Rattle.lfs_volume.proofs.OpeningLemmas.{shows_opening_state}
 use Rattle.lfs_share.proofs.OpeningLemmas.{enough, no_fault}
 use Rattle.lfs_stands.specs.declared.unfit.Unfit.{Unfit}
-use Rattle.lfs_fuse_talk.proofs.StandLemmas.{fresh_begun, opening_over}
+use Rattle.lfs_stands.proofs.OverLemmas.{opening_over}
+use Rattle.lfs_fuse_talk.proofs.StandLemmas.{fresh_begun}
 use Rattle.lfs_fuse_talk.proofs.VolumeLemmas.{err_at, ok_at}
 use Rattle.lfs_fuse_talk.proofs.volume.fresh.Goals as goal
 

@@ -1,6 +1,7 @@
 use Rattle.std.proofs.Common.{◌≡◌}
 use Rattle.lfs_stands.specs.declared.unfit.Unfit.{Unfit}
-use Rattle.lfs_fuse_talk.proofs.StandLemmas.{image_begun, world_over}
+use Rattle.lfs_stands.proofs.OverLemmas.{world_over}
+use Rattle.lfs_fuse_talk.proofs.StandLemmas.{image_begun}
 use Rattle.lfs_fuse_talk.proofs.VolumeLemmas.{err_at, ok_at}
 use Rattle.lfs_fuse_talk.proofs.volume.over.Goals as goal
 

@@ -3,7 +3,8 @@ use Rattle.lfs_types.specs.declared.level.Level.TheVariants.{Insecure}
 use Rattle.lfs_volume.proofs.OpeningLemmas.{shows_opening_state}
 use Rattle.lfs_share.proofs.OpeningLemmas.{enough, no_fault}
 use Rattle.lfs_stands.proofs.FitLemmas.{fresh_flushed}
-use Rattle.lfs_programs.proofs.StandLemmas.{err_of, fresh_over, ok_of, opening_over, within_over}
+use Rattle.lfs_stands.proofs.OverLemmas.{opening_over}
+use Rattle.lfs_programs.proofs.StandLemmas.{err_of, fresh_over, ok_of, within_over}
 use Rattle.lfs_programs.proofs.volume.laid_out.Goals as goal
 
 pub over_log-requires : goal.over_log-requires

@@ -1,6 +1,7 @@
 use Rattle.std.proofs.Common.{◌≡◌, inr}
 use Rattle.lfs_stands.proofs.FitLemmas.{loaded_flushed}
-use Rattle.lfs_programs.proofs.StandLemmas.{err_of, image_over, ok_of, within_over, world_over}
+use Rattle.lfs_stands.proofs.OverLemmas.{world_over}
+use Rattle.lfs_programs.proofs.StandLemmas.{err_of, image_over, ok_of, within_over}
 use Rattle.lfs_programs.proofs.volume.over.Goals as goal
 
 pub over_log-requires : goal.over_log-requires
