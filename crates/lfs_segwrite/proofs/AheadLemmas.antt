@@ -137,9 +137,9 @@ module _ (old a b new : Parts) (kept : KeepsFiles old a) (fewer : a.log.clean �
           | inl here ↦ inl (before here)
           | inr other ↦ apart x old.log.memory.active old.log.memory.fill other
         ])
-    | inr clean ↦
+    | inr opened ↦
         let was : state_of old.log.tables active
-        ≡ Clean = ap (λ (m : SegmentMemory). state_of old.log.tables m.active) stays.memory ∙ clean in
+        ≡ Clean = ap (λ (m : SegmentMemory). state_of old.log.tables m.active) stays.memory ∙ opened.0 in
         apart x active b.log.memory.fill (λ here. used (ap (state_of old.log.tables) here ∙ was))
   ]
 
@@ -197,6 +197,11 @@ module _ (old a new : Parts) (blocks : ℕ) (is : blocks ≡ waiting_blocks old)
     flushed = flushes.flushed;
     content = flushes.content ∙ kept.content;
     log = writes_ahead old a a new kept fewer (stays-refl a) (store_staged a store) flushes;
+    flush = record { ready = a; end = kept.end; flushes = flushes };
+    stays = λ none. elim (cases_lt (room_of old.log.memory) blocks) [
+      | inl short ↦ let one = (opened short).0 in let clean = flushes.clean in absurd (omega arith)
+      | inr room ↦ flushes.active ∙ ap (λ (p : Parts). p.log.memory.active) (enough room)
+    ];
     used = λ n. flushes.used n ∙ ap (λ (rs : List InodeRow). (row_at rs n).used) kept.rows;
     versions = λ n. flushes.versions n ∙ ap (λ (rs : List InodeRow). (row_at rs n).version) kept.rows;
     still = λ n c low below none.

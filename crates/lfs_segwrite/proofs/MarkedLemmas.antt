@@ -30,7 +30,7 @@ use Rattle.lfs_parts.specs.Keys.{log_state}
 use Rattle.lfs_segwrite.specs.Finishing.{HasRoomToMark, MarksAgain}
 use Rattle.lfs_segwrite.specs.Marking.{AreNamed, IsOnWay, IsRewritten, MarksFlushed}
 use Rattle.lfs_segwrite.specs.Marking.{SameShown, StagesNamed, blocks_to_mark, code_named, keys_to_mark}
-use Rattle.lfs_segwrite.specs.Room.{KeepsFiles}
+use Rattle.lfs_segwrite.specs.Room.{KeepsFiles, MadeReady}
 use Rattle.lfs_parts.specs.Store.{IsFlushed, IsStore}
 use Rattle.lfs_parts.specs.View.{key_of, version_of}
 use Rattle.lfs_segwrite.proofs.CollectingLemmas.{entries_of-length}
@@ -188,6 +188,11 @@ module _ (old mid staged new : Parts) (marks named : List BlockInfo) (keeps : Ke
     counted = refl;
     rewritten = rewritten;
     log = writes_ahead old mid staged new keeps fewer (stays_shown mid staged stages.same) stages.staged flushes;
+    flush = inr (record {
+      ready = staged;
+      end = subst (MadeReady old.log) (sym (ap (λ (l : LogParts). l.memory) log)) keeps.end;
+      flushes = flushes;
+    });
     used = λ n. flushes.used n ∙ ap (λ (rs : List InodeRow). (row_at rs n).used) rows;
     versions = version_all;
     opened =

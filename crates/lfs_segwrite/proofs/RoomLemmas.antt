@@ -255,7 +255,7 @@ module _ (p : Parts) (s : ℕ) (store : IsStore p) (inside : s < p.log.memory.se
           dirty = StaysDirty-opened (log_state p) (log_state q) 0 s store.log opens;
           blocks = λ a used. apart_kept a (λ here. used (ap (state_of p.log.tables) here ∙ was_clean));
           label = label_kept;
-          end = inr was_clean;
+          end = inr (was_clean, refl);
         };
         room = starts s;
         clean = o.clean;

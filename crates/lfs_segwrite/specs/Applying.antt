@@ -19,7 +19,7 @@ use Rattle.lfs_segments.specs.Memory.{next_address, room_of}
 use Rattle.lfs_parts.specs.declared.parts.Parts.{Parts}
 use Rattle.lfs_staging.specs.Changing.{StaysInLog, frames_of, length_codes, records_of, version_after}
 use Rattle.lfs_segwrite.specs.Collecting.{blocks_of_entries, entries_of, inode_blocks}
-use Rattle.lfs_segwrite.specs.Flushing.{Waits, WritesAhead}
+use Rattle.lfs_segwrite.specs.Flushing.{FlushesAhead, Waits, WritesAhead}
 use Rattle.lfs_ifile.specs.Tables.{row_of}
 use Rattle.lfs_cache.specs.Contents.{IsLocked}
 use Rattle.lfs_cache.specs.declared.cache.TheConstants.{LOCKED_LIMIT}
@@ -169,12 +169,14 @@ pub record HasRoom (p : Parts) : Type 0 where
 
 -- All that waited was written as one partial segment: where the log ended, or at the start of a segment that was opened
 -- for it, where it had no room. The content is the same, nothing waits, and each key that did not wait has the place
--- that it had. The cache holds each block that it held, clean now.
+-- that it had. The cache holds each block that it held, clean now. Where no segment was opened the active one stays.
 pub record WritesWaiting (old new : Parts) : Type 0 where
   pub store : IsStore new
   pub flushed : IsFlushed new
   pub content : content_of new ≡ content_of old
   pub log : WritesAhead old new
+  pub flush : FlushesAhead old new
+  pub stays : new.log.clean ≡ old.log.clean → new.log.memory.active ≡ old.log.memory.active
   pub used : (number : ℕ) → (row_of new.log.tables number).used
       ≡ (row_of old.log.tables number).used
   pub versions : (number : ℕ) → version_of new number ≡ version_of old number

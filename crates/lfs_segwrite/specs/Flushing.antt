@@ -13,6 +13,7 @@ use Rattle.lfs_bmap.specs.Moves.{DirtyIn, Moves, StaysDirty}
 use Rattle.lfs_parts.specs.declared.parts.Parts.{Parts}
 use Rattle.lfs_segwrite.specs.Ordered.{IsOrdered}
 use Rattle.lfs_segwrite.specs.Collecting.{blocks_of_entries, entries_of}
+use Rattle.lfs_segwrite.specs.Room.{MadeReady}
 use Rattle.lfs_staging.specs.Frames.{KeepsFrames}
 use Rattle.lfs_parts.specs.Files.{content_of}
 use Rattle.lfs_parts.specs.Keys.{log_state}
@@ -77,3 +78,11 @@ pub record Flushes (old new : Parts) : Type 0 where
       → WritesEntries old.log.memory new.log.memory (entries_of old)
   pub whole : IsRecoverable old.log.memory → IsRecoverable new.log.memory
   pub ordered : IsRecoverable old.log.memory → IsOrdered old.log → IsOrdered new.log
+
+-- What was to be written was written in one flush: where the log ended, or in a segment that was opened for it, which
+-- was clean. So no block of a clean segment changed but of that one. (`ready` is the store before the flush: what was to
+-- be written waits in it.)
+pub record FlushesAhead (old new : Parts) : Type 0 where
+  pub ready : Parts
+  pub end : MadeReady old.log ready.log.memory
+  pub flushes : Flushes ready new

@@ -20,7 +20,7 @@ use Rattle.lfs_bmap.specs.Reading.{address, data_block}
 use Rattle.lfs_bmap.specs.Ways.{IsBlockWay, codes_on, way_of}
 use Rattle.lfs_parts.specs.declared.parts.Parts.{Parts}
 use Rattle.lfs_segwrite.specs.Collecting.{inode_blocks}
-use Rattle.lfs_segwrite.specs.Flushing.{Waits, WritesAhead}
+use Rattle.lfs_segwrite.specs.Flushing.{FlushesAhead, Waits, WritesAhead}
 use Rattle.lfs_parts.specs.Keys.{log_state}
 use Rattle.lfs_staging.specs.Staging.{IsStaged, TakesOnly}
 use Rattle.lfs_parts.specs.View.{key_of, record_of, tree_of, version_of, waiting_in}
@@ -120,15 +120,16 @@ pub record IsRewritten (old new : LogState) (info : BlockInfo) : Type 0 where
   pub elsewhere : new.at info.ino (code_named info.lbn) ≢ old.at info.ino (code_named info.lbn)
   pub outside : DirtyIn old (seg_of (new.at info.ino (code_named info.lbn))) → ⊥
 
--- The blocks that some infos name were written again, so many, and nothing was done where none is named. Each key that
--- is on no way to one of them has the place that it had, and the log grew by no more than the blocks that they take:
--- where it ended, or from the start of a segment that was opened for them, where they had no room.
+-- The blocks that some infos name were written again, so many, in one flush, and nothing was done where none is named.
+-- Each key that is on no way to one of them has the place that it had, and the log grew by no more than the blocks that
+-- they take: where it ended, or from the start of a segment that was opened for them, where they had no room.
 pub record MarksFlushed (marks : List BlockInfo) (count : ℕ) (old new : Parts) : Type 0 where
   pub named : List BlockInfo
   pub are_named : AreNamed (log_state old) marks named
   pub counted : count ≡ length named
   pub rewritten : All (IsRewritten (log_state old) (log_state new)) named
   pub log : WritesAhead old new
+  pub flush : (new ≡ old) ⊎ FlushesAhead old new
   pub used : (number : ℕ) → (row_of new.log.tables number).used
       ≡ (row_of old.log.tables number).used
   pub versions : (number : ℕ) → version_of new number ≡ version_of old number

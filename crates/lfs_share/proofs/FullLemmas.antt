@@ -30,3 +30,9 @@ pub refused_full : (by : Reserve) (changes : List Change) (p : Parts) (result : 
     → told ≡ is_ok result → told ≡ false → IsFullFor by changes p
 refused_full by changes p (Ok done) told may not value fails = absurd (cc)
 refused_full by changes p (Err fault) told may not value fails = full_for by changes p may not
+
+-- and nothing changed
+pub refused_same : (old new : Parts) (result : Result (Unit {0}) StoreRefusal) (told : Bool) → OnErr result (new ≡ old)
+    → told ≡ is_ok result → told ≡ false → new ≡ old
+refused_same old new (Ok done) told same value fails = absurd (cc)
+refused_same old new (Err fault) told same value fails = same
