@@ -1,12 +1,14 @@
 -- What changes of a durable store come to that were made (`came`), what it keeps behind them (`came_kept`), and its
 -- state (`came_applies`).
-use Rattle.std.proofs.Common.{◌≡◌, ◌⊎◌, Bool, true, false, List, All, Ok, sym, ap, subst, inl, inr, ◌∙◌, arith}
+use Rattle.std.proofs.Common.{◌≡◌, ◌⊎◌, Bool, true, false, List, All, Ok, Err, sym, ap, subst, inl, inr, ◌∙◌, arith}
 use Rattle.std.proofs.lemmas.Bool.{false≢true}
 use Rattle.lfs_types.specs.StoreStates.{Applies, StoreState}
 use Rattle.lfs_types.specs.declared.store.Change.{Change}
 use Rattle.lfs_types.specs.declared.store.Reserve.{Reserve}
+use Rattle.lfs_types.specs.declared.store.StoreRefusal.{StoreRefusal}
 use Rattle.lfs_segments.specs.Memory.{room_of}
 use Rattle.lfs_staging.specs.Changing.{StaysInLog}
+use Rattle.lfs_staging.proofs.StagedLemmas.{stays-refl}
 use Rattle.lfs_parts.specs.declared.parts.Parts.{Parts}
 use Rattle.lfs_parts.specs.Store.{IsFlushed}
 use Rattle.lfs_segwrite.specs.Applying.{IsInReach, MakesChanges}
@@ -14,7 +16,7 @@ use Rattle.lfs_logstore.specs.Answering as log
 use Rattle.lfs_logstore.specs.States.{state_of}
 use Rattle.lfs_durable.proofs.KeptLemmas.{writes_can_be_found}
 use Rattle.lfs_durable_store.specs.Answering.{ComesTo, SettlesIfPast, WritesFirst}
-use Rattle.lfs_durable_store.specs.Fitting.{FitsWith}
+use Rattle.lfs_durable_store.specs.Fitting.{Fits, FitsWith}
 use Rattle.lfs_durable_store.specs.declared.mark.Mark.{Mark}
 use Rattle.lfs_durable_store.specs.Keeping.{Durably, IsKept, durable_state, settled}
 use Rattle.lfs_durable_store.proofs.CallLemmas.{came_base, durable_applies, settled_state, written_applies}
@@ -96,6 +98,11 @@ module _ (changes : List Change) (by : Reserve) (old before : Durably) (p : Part
     refused = tt;
   }
 
+  -- from the store that way was made to
+  pub came_from : (at : Durably) → before ≡ at → (c : ComesTo old changes by (Ok tt) new) × (c.before ≡ at)
+  unfolding came
+  came_from at same = (came, same)
+
   pub came_applies : Applies (state_of before.store) changes (Ok tt) (state_of p)
       → Applies (durable_state old) changes (Ok tt) (durable_state new)
   came_applies applies =
@@ -109,3 +116,26 @@ module _ (changes : List Change) (by : Reserve) (old before : Durably) (p : Part
             (sym nothing.1) from
         | inr wrote ↦ written_applies old.store changes p new.store wrote.1 from
       ]) (came_base old new changes by (Ok tt) came)
+
+-- What changes come to that were refused: all is as it was behind what was written first.
+module _ (changes : List Change) (by : Reserve) (old before : Durably) (refusal : StoreRefusal) (p : Parts)
+    (kept : IsKept before) (way : WritesFirst changes old before)
+    (comes : log.ComesTo before.store changes by (Err refusal) p) where
+  abbrev left_so : Durably
+  left_so = record { store = p; base = before.base; mark = before.mark }
+
+  pub refused_from : (new at : Durably) → new ≡ left_so → before ≡ at
+      → (c : ComesTo old changes by (Err refusal) new) × (c.before ≡ at)
+  refused_from new at is same =
+      let stood : p ≡ before.store = comes.refused in (
+        record {
+          before = before;
+          first = way;
+          staged = p;
+          comes = comes;
+          stays = subst (StaysInLog before.store) (sym stood) (stays-refl before.store);
+          behind = inl (subst Fits (sym stood) kept.fits, is);
+          refused = is ∙ (λ i. record { store = stood i; base = before.base; mark = before.mark });
+        },
+        same,
+      )

@@ -6,7 +6,7 @@ ghost use Rattle.lfs_types.specs.Changes.{CanApply};
 ghost use Rattle.lfs_types.specs.StoreStates.{Applies};
 ghost use Rattle.lfs_types.specs.Stored.{Reads, bytes_of, slice_of};
 ghost use Rattle.lfs_durable_store.specs.Answering.{ComesTo, FillsFrames, SettlesIfPast, SettlesInPlace, WritesFirst};
-ghost use Rattle.lfs_durable_store.specs.Keeping.{IsSettled, durable_state};
+ghost use Rattle.lfs_durable_store.specs.Keeping.{Durably, IsSettled, durable_state};
 
 use crate::fitting::{fits, fits_with};
 use crate::store::{DurableStore, settle};
@@ -16,8 +16,9 @@ use lfs_types::store::{Change, FileStore, Reserve, StoreRefusal};
 use std::snapshot::Snapshot;
 
 impl DurableStore {
-    /// Writes what waits where with changes it might not fit the active segment.
-    fn make_way(&mut self, changes: &[Change<'_>])
+    /// Writes what waits where with changes it might not fit the active segment: the first part of `apply`, for a caller
+    /// that has something to do behind each flush.
+    pub fn make_way(&mut self, changes: &[Change<'_>])
         requires { CanApply (durable_state self.old).shape.numbers changes.now
             (durable_state self.old).content }
         ensures { WritesFirst changes.now self.old self.new }
@@ -26,6 +27,29 @@ impl DurableStore {
             settle(&mut self.store, &mut self.base);
             self.mark = self.mark.turned();
         }
+    }
+
+    /// Makes changes for which way was made, all of them, in order, or none: the rest of `apply`. What waits is written
+    /// behind them where it doesn't fit the active segment.
+    ///
+    /// # Errors
+    ///
+    /// Those of `apply`.
+    pub fn make_changes(&mut self, changes: &[Change<'_>], by: Reserve) -> Result<(), StoreRefusal>
+        requires can { CanApply (durable_state self.old).shape.numbers changes.now
+            (durable_state self.old).content }
+        requires way { (before : Durably) × WritesFirst changes.now before self.old }
+        ensures applies { (before : Durably) → WritesFirst changes.now before self.old
+            → Applies (durable_state before) changes.now result (durable_state self.new) }
+        ensures made { (before : Durably) → WritesFirst changes.now before self.old
+            → (c : ComesTo before changes.now by result self.new) × (c.before ≡ self.old) }
+    {
+        match self.store.apply(changes, by) {
+            Ok(()) => {}
+            Err(refusal) => return Err(refusal),
+        }
+        self.mark.is_whole = settle_if_past(&mut self.store, &mut self.base);
+        Ok(())
     }
 }
 
@@ -84,9 +108,7 @@ impl FileStore for DurableStore {
         ensures made { ComesTo self.old changes.now by result self.new }
     {
         self.make_way(changes);
-        self.store.apply(changes, by)?;
-        self.mark.is_whole = settle_if_past(&mut self.store, &mut self.base);
-        Ok(())
+        self.make_changes(changes, by)
     }
 
     /// Writes what waits. It always has room, and opens no segment.
