@@ -37,7 +37,7 @@ impl Model for Logged {
 }
 
 impl Logged {
-    /// That of a volume in whose store nothing waits: a crash would leave all entries.
+    /// That of a volume whose store tells that its base is whole: a crash would leave all entries.
     pub fn over(volume: Volume<DurableStore>) -> Logged
         requires { volume.store.mark.is_whole ≡ true }
         ensures { result ≡ record { volume = volume; kept = length volume.journal } }
