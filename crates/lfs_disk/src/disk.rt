@@ -7,8 +7,9 @@ ghost use Rattle.lfs_disk.specs.Disk.{Elapses, LandsOrNot, Only};
 use crate::fault::DiskFault;
 use lfs_types::block::Block;
 
-/// A disk of blocks. A block that is written lands whole or not at all, at any time until a sync: a crash leaves the
-/// old one or the new one, and never a mixture. So a block has to be what the device writes as a whole, a sector.
+/// A disk of blocks, as who writes it sees it. A block that is written lands whole or not at all, at any time until a
+/// sync: a crash leaves the old one or the new one, and never a mixture. So a block has to be what the device writes as
+/// a whole, a sector.
 pub trait BlockDisk {
     /// The blocks that a read sees, by their addresses.
     ghost seen: { Self → List (List ℕ) };
@@ -24,22 +25,6 @@ pub trait BlockDisk {
 
     /// Whether the disk has failed.
     ghost has_failed: { Self → Bool };
-
-    /// Reads the block at an address.
-    ///
-    /// # Errors
-    ///
-    /// `Read` where the disk fails.
-    fn read(&mut self, address: u32) -> Result<Block, DiskFault>
-        requires inside { address < length (seen self.old) }
-        ensures block { IfOk result (λ block. block ≡ slice_index_or (seen self.old) address []) }
-        ensures seen { seen self.new ≡ seen self.old }
-        ensures crash { (c : List (List ℕ)) → may_leave self.new c → may_leave self.old c }
-        ensures elapses { Elapses (time self.old) (time self.new) (left_since self.old)
-            (left_since self.new) (may_leave self.new) }
-        ensures fault { IfErr result (λ fault. fault ≡ DiskFault.Read) }
-        ensures cause { OnErr result (has_failed self.new ≡ true) }
-        ensures failed { has_failed self.old ≡ true → has_failed self.new ≡ true };
 
     /// Writes a block over the one at an address. Until a sync a crash may leave either, beside either of each other
     /// block that was written, in whatever order they were.
@@ -79,4 +64,23 @@ pub trait BlockDisk {
     /// Since this moment there is no other.
     ghost only_now: { (disk : Self) (c : List (List ℕ)) → left_since disk (time disk) c
         → may_leave disk c };
+}
+
+/// A disk of blocks that tells what it has: a read gives what is seen.
+pub trait ReadableDisk: BlockDisk {
+    /// Reads the block at an address.
+    ///
+    /// # Errors
+    ///
+    /// `Read` where the disk fails.
+    fn read(&mut self, address: u32) -> Result<Block, DiskFault>
+        requires inside { address < length (Self.seen self.old) }
+        ensures block { IfOk result (λ block. block ≡ slice_index_or (Self.seen self.old) address []) }
+        ensures seen { Self.seen self.new ≡ Self.seen self.old }
+        ensures crash { (c : List (List ℕ)) → Self.may_leave self.new c → Self.may_leave self.old c }
+        ensures elapses { Elapses (Self.time self.old) (Self.time self.new) (Self.left_since self.old)
+            (Self.left_since self.new) (Self.may_leave self.new) }
+        ensures fault { IfErr result (λ fault. fault ≡ DiskFault.Read) }
+        ensures cause { OnErr result (Self.has_failed self.new ≡ true) }
+        ensures failed { Self.has_failed self.old ≡ true → Self.has_failed self.new ≡ true };
 }

@@ -5,7 +5,7 @@ ghost use Rattle.lfs_disk.specs.Calls.{behind_call, seen_after};
 ghost use Rattle.lfs_disk.specs.Disk.{Only};
 
 use crate::calls::Call;
-use crate::disk::BlockDisk;
+use crate::disk::{BlockDisk, ReadableDisk};
 use crate::fault::DiskFault;
 use lfs_segments::segments::Segments;
 use lfs_types::block::Block;
@@ -94,10 +94,6 @@ impl BlockDisk for MemoryDisk {
 
     ghost only_now = { λ d c. only_last (first_blocks d) (calls_of d) c };
 
-    fn read(&mut self, address: u32) -> Result<Block, DiskFault> {
-        Ok(*block_behind(&self.first, &self.calls, address))
-    }
-
     fn write(&mut self, address: u32, block: &Block) -> Result<(), DiskFault> {
         let call = Call::Written {
             address,
@@ -120,5 +116,11 @@ impl BlockDisk for MemoryDisk {
                 Err(DiskFault::Sync)
             }
         }
+    }
+}
+
+impl ReadableDisk for MemoryDisk {
+    fn read(&mut self, address: u32) -> Result<Block, DiskFault> {
+        Ok(*block_behind(&self.first, &self.calls, address))
     }
 }

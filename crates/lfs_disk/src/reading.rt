@@ -3,7 +3,7 @@
 ghost use Rattle.std.specs.Prelude.{◌≡◌, IfOk, length};
 ghost use Rattle.lfs_disk.specs.Disk.{LeavesOnly};
 
-use crate::disk::BlockDisk;
+use crate::disk::ReadableDisk;
 use crate::fault::DiskFault;
 use lfs_types::block::Block;
 use std::alloc::Global;
@@ -13,7 +13,7 @@ use std::alloc::Global;
 /// # Errors
 ///
 /// `Read` where the disk fails; `Memory` where a growth is refused.
-pub fn read_all<D: BlockDisk>(
+pub fn read_all<D: ReadableDisk>(
     alloc: Global,
     disk: &mut D,
     count: u32,

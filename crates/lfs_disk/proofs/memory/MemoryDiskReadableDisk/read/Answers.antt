@@ -1,6 +1,6 @@
 use Rattle.std.proofs.Common.{ap, length, arith}
 use Rattle.lfs_disk.proofs.CallLemmas.{length-seen}
-use Rattle.lfs_disk.proofs.memory.MemoryDiskBlockDisk.read.Goals as goal
+use Rattle.lfs_disk.proofs.memory.MemoryDiskReadableDisk.read.Goals as goal
 
 pub block_behind-requires : goal.block_behind-requires
 block_behind-requires c =
