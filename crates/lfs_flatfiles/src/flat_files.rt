@@ -6,6 +6,7 @@ ghost use Rattle.std.specs.Vec.{vec_len};
 ghost use Rattle.lfs_types.specs.Changes.{CanChange, CanChangeAll, changed, changed_at, applied};
 ghost use Rattle.lfs_types.specs.Tree.{attrs_of, fresh_root, file_of};
 ghost use Rattle.lfs_types.specs.Ranges.{least_inodes, most_inodes};
+ghost use Rattle.lfs_types.specs.Stored.{bytes_of};
 ghost use Rattle.lfs_flatfiles.specs.FlatFiles.{content_of, file_in, room_in, end_of, with_attrs, with_bytes, with_length, opening_state, IsInReach, HasRoom, KeepsRoom, CanHold, HasFile};
 
 mod place;
@@ -63,6 +64,16 @@ impl FlatFiles {
             places,
             least_free: FIRST_FILE,
         })
+    }
+
+    /// The bytes of a number's file, none where it has no file.
+    pub fn bytes(&self, ino: u32) -> &[u8]
+        ensures { result.now ≡ bytes_of (content_of self.now.places.items) ino }
+    {
+        match self.places.get(ino as usize) {
+            Some(place) => place.bytes(),
+            None => &[],
+        }
     }
 
     /// Makes room for what changes put. No file changes.

@@ -4,7 +4,7 @@
 -- a world. If the answers differ the checker must stand where it stood, which holds as a call that isn't served changes
 -- nothing and one served with another answer only looked (`left_alone`); a changing call that showed something would
 -- break that.
-use Rattle.std.proofs.Common.{◌≡◌, ◌≢◌, ℕ, List, None, Some, refl, sym, ap, subst, ◌∙◌, arith, ⊎_elim}
+use Rattle.std.proofs.Common.{◌≡◌, ◌≢◌, ℕ, List, None, Some, refl, sym, ap, subst, ◌∙◌, ⊎_elim}
 use Rattle.std.specs.Prelude.{Result, Ok, Err, Option, MatchOption}
 use Rattle.lfs_types.specs.Caller.{Caller}
 use Rattle.lfs_types.specs.StoreStates.{Shape, StoreState}
@@ -21,7 +21,6 @@ use Rattle.lfs_types.specs.declared.request.Request.TheVariants.{Mkdir, Unlink, 
 use Rattle.lfs_types.specs.declared.request.Request.TheVariants.{SetLevel, Sync}
 use Rattle.lfs_model.specs.Effects.{answer_of}
 use Rattle.lfs_model.specs.Steps.{IsAnswer, after_answer}
-use Rattle.lfs_model.proofs.LevelLemmas.{level_after}
 use Rattle.lfs_calls.specs.Calls.{IsCall, IsCallAt, LooksOn, answered}
 use Rattle.lfs_calls.specs.Content.{Shows}
 use Rattle.lfs_calls.specs.Outcomes.{IsOutcome}

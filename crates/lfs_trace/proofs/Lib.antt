@@ -1,3 +1,6 @@
+mod AlikeLemmas
+mod ListedLemmas
+mod PieceLemmas
 mod CheckLemmas
 mod Uncrowded
 mod StandingLemmas

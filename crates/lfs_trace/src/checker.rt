@@ -9,11 +9,13 @@ ghost use Rattle.lfs_model.specs.Steps.{AllUsed, LacksInodes};
 ghost use Rattle.lfs_calls.specs.Volumes.{HasWorld, InWorld};
 ghost use Rattle.lfs_explain.specs.Asked.{asked};
 ghost use Rattle.lfs_explain.specs.Trails.{IsTrail, first_names, second_names};
+ghost use Rattle.lfs_trace.specs.Alike.{TellsDifference};
 ghost use Rattle.lfs_trace.specs.Checking.{IsChecked, IsLooking, IsPlain, IsRowAt, IsRuled, IsSameStanding, MayShow, StandsAt, numbers_of, plain_state, standing};
 ghost use Rattle.lfs_types.specs.declared.attrs.Attrs.{Attrs};
 ghost use Rattle.lfs_who.specs.Who.{IsWho};
 ghost use Rattle.lfs_who.specs.WhoText.{IsWhoTold};
 
+use crate::alike::difference;
 use crate::answers::{may_be_refused, one_answer, wants_number};
 use crate::cleaning::is_cleaning;
 use crate::copying::copy_of;
@@ -269,6 +271,24 @@ impl Checker {
         ensures same { IsSameStanding self.old self.new }
     {
         tell_who(self.alloc, &mut self.store, self.level, request)
+    }
+
+    /// A number at which the tree where the checker stands differs from the one that a store shows, or none where they
+    /// are the same. It is looked for from a number on, round once.
+    pub fn difference<F: FileStore>(
+        &mut self,
+        store: &mut F,
+        from: u32,
+    ) -> Result<Option<u32>, AllocError>
+        requires world { HasWorld (F.state store.old) }
+        requires within { (n : ℕ) → IsSome (map.get (F.state store.old).content n)
+            → n < numbers_of self.old }
+        ensures tells { IfOk result (TellsDifference self.old (F.state store.old)) }
+        ensures same { IsSameStanding self.old self.new }
+        ensures state { F.state store.new ≡ F.state store.old }
+    {
+        is_plain(&self.store);
+        difference(self.alloc, &mut self.store, store, self.numbers, from)
     }
 
     /// Whether a number has a file where the checker stands.

@@ -1,6 +1,7 @@
 //! Whether the entries of a trace are a legal run: each is judged by what the rules decide of its call.
 #![tactic(auto)]
 
+mod alike;
 pub mod answers;
 pub mod checker;
 pub mod cleaning;

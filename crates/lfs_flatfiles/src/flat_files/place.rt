@@ -5,7 +5,7 @@ ghost use Rattle.std.specs.Vec.{vec_capacity, vec_len};
 ghost use Rattle.lfs_types.specs.declared.limits.TheConstants.{FILE_BYTES};
 ghost use Rattle.lfs_types.specs.Tree.{attrs_of, file_of};
 ghost use Rattle.lfs_types.specs.Splicing.{splice};
-ghost use Rattle.lfs_types.specs.Stored.{Reads, slice_of};
+ghost use Rattle.lfs_types.specs.Stored.{Reads, bytes_of_file, slice_of};
 ghost use Rattle.lfs_flatfiles.specs.FlatFiles.{file_at, end_of, with_attrs, with_bytes, with_length};
 
 use lfs_types::attrs::Attrs;
@@ -59,6 +59,16 @@ impl Place {
         let count = into.len().min(bytes.len() - start);
         into[..count].copy_from_slice(&bytes[start..start + count]);
         count
+    }
+
+    /// The bytes of the file, none where no file is there.
+    pub fn bytes(&self) -> &[u8]
+        ensures { result.now ≡ bytes_of_file (file_at self.now) }
+    {
+        match self.attrs {
+            Some(_) => self.bytes.as_slice(),
+            None => &[],
+        }
     }
 
     /// Makes room for this many bytes in all. No file changes.
