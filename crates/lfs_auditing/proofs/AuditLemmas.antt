@@ -5,7 +5,7 @@
 -- they tell: as many, with numbers one behind another (`told_more`).
 use Rattle.std.proofs.Common.{◌≡◌, ℕ, ◌+◌, List, [], ◌∷◌, ◌++◌, length, Option, sym, ap, subst, ◌∙◌, arith}
 use Rattle.std.proofs.Common.{append_assoc, length-append}
-use Rattle.std.specs.Prelude.{Ok}
+use Rattle.std.specs.Prelude.{MatchOption, None, Ok, Some}
 use Rattle.std.specs.Io.KnownBytes.{Consumes}
 use Rattle.std.specs.List.{All}
 use Rattle.std.proofs.KnownBytes.{Consumes-nil, Consumes-trans}
@@ -20,7 +20,7 @@ use Rattle.lfs_words.specs.Lines.{HasNoLineFeed}
 use Rattle.lfs_trace.specs.Checking.{IsSameStanding, Standing, StandsAt, numbers_of}
 use Rattle.lfs_trace.specs.Errors.{IsCheckedAs, IsLegalAs}
 use Rattle.lfs_trace.proofs.ErrorLemmas.{legal_as-append}
-use Rattle.lfs_auditing.specs.Audits.{AreTold, HasRead, HasReadOn, StopsAtLine, StopsBehind, behind}
+use Rattle.lfs_auditing.specs.Audits.{AreTold, HasRead, HasReadLine, HasReadOn, StopsAtLine, StopsBehind, behind}
 use Rattle.lfs_auditing.specs.Audits.{lines_text, told_as}
 use Rattle.lfs_auditing.specs.Users.{AreCounted}
 use Rattle.lfs_auditing.specs.declared.audit.Audit.{Audit}
@@ -57,7 +57,7 @@ module _ (from : World) (old new : Audit) (mid : Standing) (es : List Entry) (e 
 
 -- ---- lines
 
-told_more : (number : ℕ) (lines : List (List ℕ)) (more : List Entry) (line : List ℕ) (e : Entry)
+pub told_more : (number : ℕ) (lines : List (List ℕ)) (more : List Entry) (line : List ℕ) (e : Entry)
     → AreTold number lines more → told_as (number + length more) line ≡ Ok e
     → AreTold number (lines ++ line ∷ []) (more ++ e ∷ [])
 told_more number [] [] line e told is = let none : number + 0 ≡ number = omega arith in
@@ -77,7 +77,7 @@ pub record SoFar (known left : Option (List ℕ)) (from : World) (es : List Entr
   pub taken : Consumes known left (lines_text lines)
   pub read : HasRead from a (es ++ more)
 
-pub none_so_far : (known : Option (List ℕ)) (from : World) (es : List Entry) (a : Audit) → HasRead from a es
+unfoldable pub none_so_far : (known : Option (List ℕ)) (from : World) (es : List Entry) (a : Audit) → HasRead from a es
     → SoFar known known from es a
 none_so_far known from es a read = record {
   lines = [];
@@ -88,7 +88,7 @@ none_so_far known from es a read = record {
   read = subst (HasRead from a) (sym (append-nil es)) read;
 }
 
-pub one_more : (known left rest : Option (List ℕ)) (from : World) (es : List Entry) (old new : Audit) (line : List ℕ) (e : Entry)
+unfoldable pub one_more : (known left rest : Option (List ℕ)) (from : World) (es : List Entry) (old new : Audit) (line : List ℕ) (e : Entry)
     → (so : SoFar known left from es old)
     → HasNoLineFeed line → Consumes left rest (line ++ 10 ∷ [])
     → told_as (length (es ++ so.more) + 1) line ≡ Ok e → HasRead from new ((es ++ so.more) ++ e ∷ [])
@@ -117,7 +117,25 @@ stops_at left rest from a es line (stops.Unread whys.TooLong) feedless takes at 
 stops_at left rest from a es line (stops.Unread whys.Gap) feedless takes at = (line, feedless, takes, at)
 stops_at left rest from a es line (stops.Unread (whys.Line fault)) feedless takes at = (line, feedless, takes, at)
 
-pub stopped : (known left rest : Option (List ℕ)) (from : World) (es : List Entry) (old new : Audit) (stop : Stop)
+-- what a line says, as far as an audit reads it
+pub lined : (known left : Option (List ℕ)) (from : World) (a : Audit) (es : List Entry) (line : List ℕ) (o : Option Stop)
+    → HasNoLineFeed line → Consumes known left (line ++ 10 ∷ [])
+    → MatchOption o
+    ((entry : Entry) × (told_as (length es + 1) line ≡ Ok entry) × HasRead from a (es ++ entry ∷ []))
+    (λ stop. StopsAtLine from a es line stop × HasRead from a es)
+    → MatchOption o (HasReadLine known left from es a) (λ stop. HasRead from a es × StopsBehind known left from a es stop)
+lined known left from a es line None feedless takes is = record {
+  line = line;
+  entry = is.0;
+  whole = feedless;
+  taken = takes;
+  told = is.1;
+  read = is.2;
+}
+lined known left from a es line (Some stop) feedless takes is =
+    (is.1, stops_at known left from a es line stop feedless takes is.0)
+
+unfoldable pub stopped : (known left rest : Option (List ℕ)) (from : World) (es : List Entry) (old new : Audit) (stop : Stop)
     → (so : SoFar known left from es old)
     → HasRead from new (es ++ so.more) → StopsBehind left rest from new (es ++ so.more) stop → HasReadOn known rest from es new stop
 stopped known left rest from es old new stop so read stops = record {

@@ -1,5 +1,6 @@
 mod AuditLemmas
 mod BeginLemmas
 mod EndLemmas
+mod PlaceLemmas
 mod JsonLemmas
 mod UserLemmas

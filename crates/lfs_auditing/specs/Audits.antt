@@ -107,6 +107,17 @@ StopsBehind known left from a entries stop =
     (line : List ℕ) × HasNoLineFeed line × Consumes known left (line ++ 10 ∷ [])
     × StopsAtLine from a entries line stop
 
+-- an audit that had read these entries read a line more, from these bytes, where they are known: it
+-- tells a legal entry
+pub record HasReadLine (known left : Option (List ℕ)) (from : World) (entries : List Entry)
+    (a : Audit) : Type 0 where
+  pub line : List ℕ
+  pub entry : Entry
+  pub whole : HasNoLineFeed line
+  pub taken : Consumes known left (line ++ 10 ∷ [])
+  pub told : told_as (length entries + 1) line ≡ Ok entry
+  pub read : HasRead from a (entries ++ entry ∷ [])
+
 -- An audit that has read these entries, of a journal that begins in this world, read on, from these
 -- bytes, where they are known: lines that tell more entries, all of them legal, up to where it
 -- stopped.

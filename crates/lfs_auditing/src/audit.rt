@@ -5,7 +5,7 @@ ghost use Rattle.lfs_types.specs.Tree.{World, opening_world};
 ghost use Rattle.lfs_logstore.specs.States.{state_of};
 ghost use Rattle.lfs_calls.specs.Volumes.{HasWorld, InWorld};
 ghost use Rattle.lfs_trace.specs.Checking.{IsSameStanding, StandsAt, numbers_of};
-ghost use Rattle.lfs_auditing.specs.Audits.{HasRead, HasReadNone, HasReadOn, IsIllegalBehind, IsOfSame, NotesOnly, StopsAtLine, told_as};
+ghost use Rattle.lfs_auditing.specs.Audits.{HasRead, HasReadLine, HasReadNone, HasReadOn, IsIllegalBehind, IsOfSame, NotesOnly, StopsAtLine, StopsBehind, told_as};
 ghost use Rattle.lfs_auditing.specs.Users.{AreCounted};
 
 use crate::fault::{AuditFault, EntryLineFault};
@@ -138,17 +138,37 @@ impl Audit {
     {
         let mut line = Vec::new(self.alloc);
         for _ in 0..u64::MAX {
-            match read_line(reader, &mut line)? {
-                Piece::Line => match self.line(&line)? {
-                    None => (),
-                    Some(stop) => return Ok(stop),
-                },
-                Piece::End => return Ok(Stop::End),
-                Piece::Cut => return Ok(Stop::Unread(EntryLineFault::Cut)),
-                Piece::TooLong => return Ok(Stop::Unread(EntryLineFault::TooLong)),
+            match self.next(reader, &mut line)? {
+                None => (),
+                Some(stop) => return Ok(stop),
             }
         }
         Err(AuditFault::Read)
+    }
+
+    /// Reads a line, and checks the entry that it tells; where it tells none, or there is something against it, or the
+    /// input has ended, the audit stops there.
+    pub(crate) fn next<R: Read>(
+        &mut self,
+        reader: &mut R,
+        line: &mut Vec<u8>,
+    ) -> Result<Option<Stop>, AuditFault>
+        requires { (from : World) × (entries : List Entry) × HasRead from self.old entries }
+        ensures read { IfOk result (λ stop. (from : World) (entries : List Entry)
+            → HasRead from self.old entries
+            → MatchOption stop
+            (HasReadLine (R.remaining reader.old) (R.remaining reader.new) from entries self.new)
+            (λ stop. HasRead from self.new entries
+            × StopsBehind (R.remaining reader.old) (R.remaining reader.new)
+            from self.new entries stop)) }
+        ensures same { IsOfSame self.old self.new }
+    {
+        match read_line(reader, line)? {
+            Piece::Line => self.line(line),
+            Piece::End => Ok(Some(Stop::End)),
+            Piece::Cut => Ok(Some(Stop::Unread(EntryLineFault::Cut))),
+            Piece::TooLong => Ok(Some(Stop::Unread(EntryLineFault::TooLong))),
+        }
     }
 
     /// Checks the entry that a line tells, behind its number where one stands before it; where there is something

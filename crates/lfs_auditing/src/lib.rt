@@ -8,6 +8,7 @@ mod json;
 pub mod last;
 pub mod lines;
 pub mod options;
+pub mod placing;
 pub mod program;
 mod telling;
 pub mod users;

@@ -31,6 +31,13 @@ impl Audit {
         Ok(text)
     }
 
+    /// What an audit found that stopped there, as lines of text.
+    pub(crate) fn tell_stop(&mut self, stop: &Stop) -> Result<Vec<u8>, AllocError> {
+        let mut text = Vec::new(self.alloc);
+        self.push_finding(&mut text, stop)?;
+        Ok(text)
+    }
+
     /// Appends who could act by a path behind the legal entries.
     fn push_path(&mut self, out: &mut Vec<u8>, path: &Path) -> Result<(), AllocError> {
         out.extend_from_slice(b"who could by")?;
