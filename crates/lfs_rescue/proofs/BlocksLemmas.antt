@@ -1,17 +1,20 @@
 -- Bytes that are whole segments are a memory's blocks (`whole_blocks`); no other memory has other blocks
--- (`same_blocks`). So what is found in the memory of bytes is found in the bytes (`finds_all_in`), and what is found in
--- none of them in no bytes (`none_of`, `none_long`).
-use Rattle.std.proofs.Common.{◌≡◌, ◌≤◌, ℕ, suc, ◌*◌, ◌++◌, ◌∷◌, ◌∙◌, List, [], All, drop, length, take, refl, sym}
+-- (`same_blocks`). So what is found in the memory of bytes is found in the bytes (`finds_all_in`), and found again there
+-- (`findable_in`), and what is found in none of them in no bytes (`none_of`, `none_long`).
+use Rattle.std.proofs.Common.{◌≡◌, ◌≤◌, ℕ, suc, ◌+◌, ◌*◌, ◌++◌, ◌∷◌, ◌∙◌, List, [], All, drop, get_or, length, take, refl, sym}
 use Rattle.std.proofs.Common.{ap, append-nil, length-append, arith}
 use Rattle.std.specs.List.{flat_map}
 use Rattle.std.proofs.Math.Seq.{drop-append_seam, take-append_seam}
 use Rattle.std.proofs.lemmas.List.{drop_all}
-use Rattle.lfs_segments.specs.Memory.{SegmentMemory}
+use Rattle.lfs_segments.specs.Memory.{SegmentMemory, block_at}
+use Rattle.lfs_recovery.specs.declared.places.PartialSegment.{PartialSegment}
+use Rattle.lfs_recovery.specs.Logs.{IsLogged, log_place}
 use Rattle.lfs_parts.specs.declared.parts.Parts.{Parts}
+use Rattle.lfs_durable.proofs.ChainLemmas.{chain_logged, chain_same}
 use Rattle.lfs_durable.proofs.CrashLemmas.{crash_same, crash_spares}
 use Rattle.lfs_rescue.specs.declared.fault.RecoverFault.TheVariants.{Length}
-use Rattle.lfs_rescue.specs.Blocks.{FindsAllIn, IsBlocksFaultOf, IsLeftOfNoneIn, IsMemoryOf}
-use Rattle.lfs_rescue.specs.Contents.{FindsAllOf, IsLeftOfNone}
+use Rattle.lfs_rescue.specs.Blocks.{FindsAllIn, IsBlocksFaultOf, IsFindableIn, IsLeftOfNoneIn, IsMemoryOf}
+use Rattle.lfs_rescue.specs.Contents.{EndsInOrder, FindsAllOf, IsFindableAgain, IsLeftOfNone}
 
 pub whole_blocks : (bytes : List ℕ) (blocks : List (List ℕ)) (count : ℕ) → length bytes ≤ 512 * count
     → flat_map (λ block. block) blocks ++ drop (512 * count) bytes ≡ bytes → flat_map (λ block. block) blocks ≡ bytes
@@ -60,6 +63,33 @@ finds_all_in bytes m q is finds = λ p n d shown other crash.
     let whole = is.whole in
     let whole_too = other.whole in
     finds p d shown (crash_spares p m d (crash_same p n m same (omega arith) crash))
+
+-- the blocks alone tell the order
+logged_same : (m n : SegmentMemory) (p : PartialSegment) → m.blocks ≡ n.blocks → m.segments ≡ n.segments → IsLogged m p
+    → IsLogged n p
+logged_same m n p same size l =
+    let below = l.below in
+    let at_block : (x : ℕ) → block_at n x ≡ block_at m x =
+    λ x. ap (λ (bs : List (List ℕ)). get_or bs x []) (sym same) in
+    chain_logged n l.segment l.log p (omega arith)
+    (chain_same m n l.segment (log_place l.segment) 0 l.log
+    (λ q there. (at_block q.address, at_block (q.address + q.count))) l.is.chain) l.there
+
+same_order : (m n : SegmentMemory) → m.blocks ≡ n.blocks → m.segments ≡ n.segments → EndsInOrder n → EndsInOrder m
+same_order m n same size order = λ last p q there latest first second other at.
+    order last p q (logged_same m n last same size there)
+    (λ s l. latest s (logged_same n m s (sym same) (sym size) l)) (logged_same m n p same size first)
+    (logged_same m n q same size second) other at
+
+pub findable_in : (bytes : List ℕ) (m : SegmentMemory) (q : Parts) → IsMemoryOf bytes m → IsFindableAgain m q
+    → IsFindableIn bytes q
+findable_in bytes m q is finds = λ p n d shown other crash order.
+    let same : m.blocks ≡ n.blocks = same_blocks m.blocks n.blocks is.each other.each (is.spelled ∙ sym other.spelled) in
+    let long = ap (λ (bs : List (List ℕ)). length bs) same in
+    let whole = is.whole in
+    let whole_too = other.whole in
+    let size : m.segments ≡ n.segments = omega arith in
+    finds p d shown (crash_same p n m same size crash) (same_order m n same size order)
 
 pub none_of : (bytes : List ℕ) (m : SegmentMemory) → IsMemoryOf bytes m → IsLeftOfNone m → IsLeftOfNoneIn bytes
 none_of bytes m is none = λ p n d shown other crash.

@@ -1,9 +1,9 @@
--- The parts of the log that is built are well formed: its memory (`laid`, `kept_in`), its tables (`formed`), and both
--- together (`joined`). A log that is built of the same with the same live bytes is the same one (`built_one`), and with
--- other ones it has the same blocks and rows (`same_memory`, `same_rows`). It is what the memory tells, where the numbers
--- that names lead to have records (`recovered_of`).
+-- The parts of the log that is built are well formed: its memory (`laid`), its tables (`formed`), and both together
+-- (`joined`). Its blocks are kept (`kept`). A log that is built of the same with the same live bytes is the same one
+-- (`built_one`), and with other ones it has the same rows (`same_rows`) and, but for what is left over, the same blocks
+-- (`same_kept`). It is what the memory tells, where the numbers that names lead to have records (`recovered_of`).
 use Rattle.std.proofs.Common.{◌≡◌, ◌≢◌, ℕ, zero, suc, ◌+◌, ◌*◌, ◌/◌, ◌^◌, ◌<◌, ◌≤◌, inl, inr, Bool, true, false, List, []}
-use Rattle.std.proofs.Common.{Option, None, Some, All, IsSome, get_or, length, refl, sym, ap, subst, ◌∙◌, arith}
+use Rattle.std.proofs.Common.{Option, None, Some, All, IsSome, get_or, length, refl, sym, ap, subst, ⊎_elim, ◌∙◌, arith}
 use Rattle.std.proofs.lemmas.Bool.{cases_eq, cases_lt, cond-false, cond-true, eq-eqb, false≢true, ne_eqb}
 use Rattle.std.proofs.lemmas.List.{ext_get_or, get_or_default}
 use Rattle.lfs_ifile.specs.declared.inode.InodeRow.{InodeRow}
@@ -21,8 +21,10 @@ use Rattle.lfs_recovery.specs.Logs.{IsLogged, log_place}
 use Rattle.lfs_recovery.specs.Newest.{IsNewest}
 use Rattle.lfs_durable.proofs.ChainLemmas.{in_chain}
 use Rattle.lfs_image.specs.Image.{IsLabelled}
-use Rattle.lfs_rescue.specs.Building.{HaveRecords, IsBuilt, IsFoundOf, IsToldAt, row_told, state_told, tables_of}
-use Rattle.lfs_rescue.specs.Recovering.{AreGivenBack, AreKept, GoesOn, HasNewest, IsRecovered, newest_version}
+use Rattle.lfs_rescue.specs.Building.{EndsOne, HaveRecords, IsBlockFrom, IsBuilt, IsFoundOf, IsZerosFrom, row_told}
+use Rattle.lfs_rescue.specs.Building.{state_told, tables_of}
+use Rattle.lfs_rescue.specs.Recovering.{AreGivenBack, AreKept, GoesOn, HasNewest, IsKept, IsLeftOver, IsRecovered}
+use Rattle.lfs_rescue.specs.Recovering.{newest_version}
 
 -- ---- the memory
 
@@ -64,13 +66,26 @@ laid m blocks active fill serial is many each inside some few counted low =
       told = (counted, low);
     }
 
-pub kept_in : (m : SegmentMemory) (blocks : List (List ℕ)) (active fill end serial : ℕ) → end ≡ active * 64 + fill
-    → ((a : ℕ) → a < m.segments * 64 → IsToldAt m active end a (get_or blocks a []))
-    → AreKept m (seen_with (Some serial) blocks active fill)
-kept_in m blocks active fill end serial is told = λ a low. record {
-  same = λ ahead. (told a low).same (λ behind. let past = behind.1 in ahead (behind.0, omega arith));
-  zeros = λ behind. let past = behind.1 in (told a low).zeros (behind.0, omega arith);
-}
+-- zeros begin in one place
+one_from : (m : SegmentMemory) (last : PartialSegment) (live : List ℕ) (segment x one other : ℕ) → x / 64 ≡ segment
+    → IsZerosFrom m last live segment one → IsZerosFrom m last live segment other → one ≤ x → other ≤ x
+one_from m last live segment x one other here a b past = elim (cases_eq segment (last.address / 64)) [
+  | inl active ↦ let first = a.active active in let second = b.active active in omega arith
+  | inr apart ↦ elim (cases_eq (get_or live segment 0) 0) [
+    | inl none ↦
+        let end = a.empty apart none in
+        let too = b.empty apart none in
+        let from = end.from in
+        ⊎_elim
+        (λ (begins : other ≡ log_place segment). omega arith)
+        (λ (ends : EndsOne m segment other).
+        let before = end.past ends.0 ends.1.0 ends.1.1.0 in
+        let at = ends.1.1.1 in
+        omega arith)
+        too.one
+    | inr some ↦ let high = a.used apart some in absurd (omega arith)
+  ]
+]
 
 -- ---- the tables
 
@@ -217,13 +232,67 @@ module _ (m : SegmentMemory) (last : PartialSegment) (places : List (Option Reco
               ∙ sym is ∙ clean))
         ]
 
+    -- zeros stand behind the logs of clean segments
+    told_kept : (x from : ℕ) → x < m.segments * 64 → IsZerosFrom m last live (x / 64) from
+        → IsBlockFrom m from x (block_at l.memory x) → IsKept m l x
+    told_kept x from low is told =
+        let segments = b.segments in
+        let active = b.ends.active in
+        let end = b.ends.end in
+        let state : state_of l.tables (x / 64) ≡ state_told l.memory.active (x / 64) (get_or live (x / 64) 0) =
+        b.states (x / 64) (omega arith) in
+        record {
+          same = λ ahead not_over. elim (cases_lt x from) [
+            | inl before ↦ told.same before
+            | inr past ↦ elim (cases_eq (x / 64) (last.address / 64)) [
+              | inl here ↦ let at = is.active here in absurd (ahead (here ∙ sym active, omega arith))
+              | inr apart ↦ elim (cases_eq (get_or live (x / 64) 0) 0) [
+                | inl none ↦
+                    let ends = is.empty apart none in
+                    absurd (not_over (record {
+                      clean = state ∙ ap (state_told l.memory.active (x / 64)) none
+                          ∙ told_clean l.memory.active (x / 64) (λ e. apart (e ∙ active));
+                      past = record {
+                        from = let first = ends.from in omega arith;
+                        past = λ q logged own. let before = ends.past q logged own in omega arith;
+                      };
+                    }))
+                | inr some ↦ let high = is.used apart some in absurd (omega arith)
+              ]
+            ]
+          ];
+          zeros = λ behind.
+              let at = is.active (behind.0 ∙ active) in let past = behind.1 in told.zeros (omega arith);
+          wiped = λ over. elim (cases_eq (x / 64) (last.address / 64)) [
+            | inl here ↦ absurd (clean_active (sym over.clean
+                ∙ ap (state_of l.tables) (here ∙ sym active) ∙ b.parts.is_active))
+            | inr apart ↦ elim (cases_eq (get_or live (x / 64) 0) 0) [
+              | inl none ↦
+                  let first = over.past.from in
+                  told.zeros (⊎_elim
+                  (λ (begins : from ≡ log_place (x / 64)). omega arith)
+                  (λ (ends : EndsOne m (x / 64) from).
+                  let before = over.past.past ends.0 ends.1.0 ends.1.1.0 in
+                  let at = ends.1.1.1 in
+                  omega arith)
+                  (is.empty apart none).one)
+              | inr some ↦ absurd (dirty_clean (sym (told_dirty l.memory.active (x / 64) (get_or live (x / 64) 0)
+                  (λ e. apart (e ∙ active)) some) ∙ sym state ∙ over.clean))
+            ]
+          ];
+        }
+
+    pub kept : AreKept m l
+    kept x low = let t = b.told x low in told_kept x t.from low t.is t.told
+
     pub labelled : IsLabelled l
     labelled =
         let laid_out = f.laid_out in
         let least = laid_out.at_least in
         let end = b.ends.end in
         let first : block_at l.memory 0 ≡ block_at m 0 =
-        (b.kept 0 (omega arith)).same (λ behind. let past = behind.1 in absurd (omega arith)) in
+        (kept 0 (omega arith)).same (λ behind. let past = behind.1 in absurd (omega arith))
+        (λ over. let from = over.past.from in absurd (omega arith)) in
         first ∙ f.labelled ∙ ap (λ (s : ℕ). label s inodes) (sym b.segments)
         ∙ ap (label l.memory.segments) (sym b.many)
 
@@ -275,49 +344,86 @@ module _ (m : SegmentMemory) (last : PartialSegment) (places : List (Option Reco
       ends = b.ends;
       segments = b.segments;
       given_back = given_back;
-      kept = b.kept;
+      kept = kept;
     }
 
-  -- ---- one log
+  -- ---- the same rows
   module _ (one other : List ℕ) (l k : LogParts) (a : IsBuilt m last places marks inodes one l)
       (b : IsBuilt m last places marks inodes other k) where
+    pub same_rows : l.tables.rows ≡ k.tables.rows
+    same_rows =
+        let many = a.many in
+        let many_too = b.many in
+        ext_get_or fresh_row l.tables.rows k.tables.rows (omega arith)
+        (λ n low. a.rows n (omega arith) ∙ sym (b.rows n (omega arith)))
+
     goes_one : (o : Option ℕ) (serial : ℕ) → GoesOn o serial → o ≡ Some (serial + 1)
     goes_one None serial h = absurd h
     goes_one (Some next) serial h = ap Some h
 
-    same_active : l.memory.active ≡ k.memory.active
+    -- and the same end
+    pub same_segments : l.memory.segments ≡ k.memory.segments
+    same_segments = a.segments ∙ sym b.segments
+
+    pub same_active : l.memory.active ≡ k.memory.active
     same_active = a.ends.active ∙ sym b.ends.active
 
     same_next : next_address l.memory ≡ next_address k.memory
     same_next = a.ends.end ∙ sym b.ends.end
 
-    same_block : (x : ℕ) → x < m.segments * 64 → block_at l.memory x ≡ block_at k.memory x
-    same_block x low = elim (cases_eq (x / 64) l.memory.active) [
-      | inl here ↦ elim (cases_lt x (next_address l.memory)) [
-        | inl before ↦
-            let next = same_next in
-            (a.kept x low).same (λ behind. let past = behind.1 in absurd (omega arith))
-            ∙ sym ((b.kept x low).same (λ behind. let past = behind.1 in absurd (omega arith)))
-        | inr past ↦
-            let next = same_next in
-            (a.kept x low).zeros (here, past) ∙ sym ((b.kept x low).zeros (here ∙ same_active, omega arith))
-      ]
-      | inr apart ↦ (a.kept x low).same (λ behind. apart behind.0)
-          ∙ sym ((b.kept x low).same (λ behind. apart (behind.0 ∙ sym same_active)))
-    ]
+    pub same_fill : l.memory.fill ≡ k.memory.fill
+    same_fill = let active = same_active in let next = same_next in omega arith
 
-    pub same_memory : l.memory ≡ k.memory
+    pub same_serial : l.memory.serial ≡ k.memory.serial
+    same_serial = goes_one l.memory.serial last.serial a.ends.serial
+        ∙ sym (goes_one k.memory.serial last.serial b.ends.serial)
+
+    -- where neither has zeros in place of what is left over, the same blocks
+    pub same_kept : (x : ℕ) → x < m.segments * 64 → (IsLeftOver m l x → ⊥) → (IsLeftOver m k x → ⊥)
+        → block_at l.memory x ≡ block_at k.memory x
+    same_kept x low not_over not_over_too =
+        let first = kept one l a x low in
+        let second = kept other k b x low in
+        elim (cases_eq (x / 64) l.memory.active) [
+          | inl here ↦ elim (cases_lt x (next_address l.memory)) [
+            | inl before ↦
+                let next = same_next in
+                first.same (λ behind. let past = behind.1 in absurd (omega arith)) not_over
+                ∙ sym (second.same (λ behind. let past = behind.1 in absurd (omega arith)) not_over_too)
+            | inr past ↦
+                let next = same_next in
+                first.zeros (here, past) ∙ sym (second.zeros (here ∙ same_active, omega arith))
+          ]
+          | inr apart ↦ first.same (λ behind. apart behind.0) not_over
+              ∙ sym (second.same (λ behind. apart (behind.0 ∙ sym same_active)) not_over_too)
+        ]
+
+  -- ---- one log
+  module _ (live : List ℕ) (l k : LogParts) (a : IsBuilt m last places marks inodes live l)
+      (b : IsBuilt m last places marks inodes live k) where
+    same_block : (x : ℕ) → x < m.segments * 64 → block_at l.memory x ≡ block_at k.memory x
+    same_block x low =
+        let t = a.told x low in
+        let u = b.told x low in
+        elim (cases_lt x t.from) [
+          | inl before ↦ elim (cases_lt x u.from) [
+            | inl too ↦ t.told.same before ∙ sym (u.told.same too)
+            | inr past ↦ let other = one_from m last live (x / 64) x u.from t.from refl u.is t.is past in absurd (omega arith)
+          ]
+          | inr past ↦ t.told.zeros past
+              ∙ sym (u.told.zeros (one_from m last live (x / 64) x t.from u.from refl t.is u.is past))
+        ]
+
+    same_memory : l.memory ≡ k.memory
     same_memory =
         let many = a.parts.laid_out.whole in
         let many_too = b.parts.laid_out.whole in
         let size = a.segments in
         let size_too = b.segments in
-        let active = same_active in
-        let next = same_next in
-        let segments : l.memory.segments ≡ k.memory.segments = size ∙ sym size_too in
-        let fill : l.memory.fill ≡ k.memory.fill = omega arith in
-        let serial : l.memory.serial ≡ k.memory.serial =
-        goes_one l.memory.serial last.serial a.ends.serial ∙ sym (goes_one k.memory.serial last.serial b.ends.serial) in
+        let segments = same_segments live live l k a b in
+        let active = same_active live live l k a b in
+        let fill = same_fill live live l k a b in
+        let serial = same_serial live live l k a b in
         let blocks : l.memory.blocks ≡ k.memory.blocks =
         ext_get_or [] l.memory.blocks k.memory.blocks (omega arith) (λ x low. same_block x (omega arith)) in
         λ i. record {
@@ -328,13 +434,6 @@ module _ (m : SegmentMemory) (last : PartialSegment) (places : List (Option Reco
           blocks = blocks i;
         }
 
-    pub same_rows : l.tables.rows ≡ k.tables.rows
-    same_rows =
-        let many = a.many in
-        let many_too = b.many in
-        ext_get_or fresh_row l.tables.rows k.tables.rows (omega arith)
-        (λ n low. a.rows n (omega arith) ∙ sym (b.rows n (omega arith)))
-
   pub built_as : (one other : List ℕ) (l : LogParts) → one ≡ other → IsBuilt m last places marks inodes one l
       → IsBuilt m last places marks inodes other l
   built_as one other l same is = subst (λ (live : List ℕ). IsBuilt m last places marks inodes live l) same is
@@ -342,7 +441,7 @@ module _ (m : SegmentMemory) (last : PartialSegment) (places : List (Option Reco
   pub built_one : (live : List ℕ) (l k : LogParts) → IsBuilt m last places marks inodes live l
       → IsBuilt m last places marks inodes live k → l ≡ k
   built_one live l k a b =
-      let memory = same_memory live live l k a b in
+      let memory = same_memory live l k a b in
       let rows = same_rows live live l k a b in
       let bytes : l.tables.live ≡ k.tables.live = a.counts ∙ sym b.counts in
       let agree = a.parts.agree in

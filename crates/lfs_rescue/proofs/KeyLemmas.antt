@@ -23,6 +23,7 @@ use Rattle.lfs_bmap.proofs.BlockLemmas.{block_with-code_of}
 use Rattle.lfs_bmap.proofs.WayLemmas.{way_of-code_of}
 use Rattle.lfs_log.specs.Parts.{LogParts, state_of}
 use Rattle.lfs_log.proofs.NameLemmas.{named_at-same}
+use Rattle.lfs_recovery.specs.Logs.{log_place}
 use Rattle.lfs_parts.specs.declared.parts.Parts.{Parts}
 use Rattle.lfs_parts.specs.Keys.{log_state}
 use Rattle.lfs_parts.specs.Store.{IsBlockCode, IsWithin}
@@ -37,6 +38,7 @@ use Rattle.lfs_durable.specs.Names.{IsDurable}
 use Rattle.lfs_durable.specs.Spared.{IsHeld}
 use Rattle.lfs_durable.proofs.NameLemmas.{IsUsed}
 use Rattle.lfs_rescue.specs.Recovering.{GoesOn, IsBehind}
+use Rattle.lfs_rescue.proofs.OverLemmas.{held_ahead}
 use Rattle.lfs_rescue.proofs.SameLemmas.{IsAgain, kept_held, same_numbers, same_place, same_record, same_row}
 use Rattle.lfs_rescue.proofs.SameLemmas.{same_segments, spares}
 
@@ -108,6 +110,12 @@ module _ (p : Parts) (m : SegmentMemory) (l : LogParts) (g : IsAgain p m l) (dir
       let inside : x / 64 ≡ a / 64 = omega arith in
       (g.draft.recovered.kept x (omega arith)).same
       (λ behind. let past = behind.1 in before_end a held (sym inside ∙ behind.0, omega arith))
+      (λ over.
+      let first = over.past.from in
+      held_ahead p m d g.crash a held (record {
+        from = subst (λ (s : ℕ). log_place s ≤ a) inside (omega arith);
+        past = λ q logged own. let before = over.past.past q logged (own ∙ sym inside) in omega arith;
+      }))
       ∙ left_before a x held from below (g.crash.each (a / 64) (omega arith))
 
   pub same_entry : (a : ℕ) → IsHeld p a → entry_at l.memory a ≡ entry_at p.log.memory a

@@ -5,10 +5,15 @@ pub mod ContentLemmas
 pub mod DraftLemmas
 pub mod EndLemmas
 pub mod FitLemmas
+pub mod FindableLemmas
 pub mod FoundLemmas
 pub mod KeyLemmas
 pub mod LabelLemmas
+pub mod OverLemmas
 pub mod RebuiltLemmas
 pub mod RecoverLemmas
+mod PlacingLemmas
 pub mod SameLemmas
 pub mod StoredLemmas
+pub mod WipedLemmas
+pub mod WipingLemmas

@@ -30,7 +30,6 @@ use Rattle.lfs_reach.specs.Reach.{Reaches}
 use Rattle.lfs_fsck.specs.Stored.{flushed, keys_of}
 use Rattle.lfs_fsck.proofs.FlushedLemmas.{used_row}
 use Rattle.lfs_fsck.proofs.KeyLemmas.{free_nowhere}
-use Rattle.lfs_durable.specs.Contents.{IsMadeOf}
 use Rattle.lfs_durable.specs.Crashes.{IsCrashOf}
 use Rattle.lfs_durable.specs.Names.{IsDurable}
 use Rattle.lfs_durable.specs.Spared.{IsHeld, Spares}
@@ -41,8 +40,8 @@ use Rattle.lfs_durable.proofs.OwnLemmas.{held_named}
 use Rattle.lfs_durable.proofs.PlaceLemmas.{logged, newest_one, place_is, some_address, there}
 use Rattle.lfs_durable.proofs.SparedLemmas.{block_held, record_held}
 use Rattle.lfs_rescue.specs.Rebuilt.{IsDraft}
-use Rattle.lfs_rescue.specs.Recovering.{HasNewest}
-use Rattle.lfs_rescue.proofs.ContentLemmas.{makes_it}
+use Rattle.lfs_rescue.specs.Recovering.{HasNewest, IsRecovered}
+use Rattle.lfs_rescue.proofs.OverLemmas.{held_ahead}
 
 -- a store that showed a tree, what a crash left of its log, and a log that is built again from that
 pub record IsAgain (p : Parts) (m : SegmentMemory) (l : LogParts) : Type 0 where
@@ -78,8 +77,8 @@ module _ (p : Parts) (m : SegmentMemory) (l : LogParts) (g : IsAgain p m l) wher
   pub spares : Spares p m
   spares = crash_spares p m d g.crash
 
-  pub made : IsMadeOf m l
-  made = makes_it m l g.draft.recovered g.draft.labelled
+  abbrev r : IsRecovered m l
+  r = g.draft.recovered
 
   pub same_segments : l.memory.segments ≡ p.log.memory.segments
   same_segments = g.draft.recovered.segments ∙ g.crash.segments
@@ -91,30 +90,36 @@ module _ (p : Parts) (m : SegmentMemory) (l : LogParts) (g : IsAgain p m l) wher
       let most = d.store.whole.parts.formed.inodes_most in
       let most_too = g.draft.parts.formed.inodes_most in
       let segments = g.crash.segments in
+      let end = r.ends.end in
       let first : block_at l.memory 0 ≡ block_at m 0 =
-      made.kept 0 (omega arith) (λ past. let behind = past.1 in absurd (omega arith)) in
+      (r.kept 0 (omega arith)).same (λ behind. let past = behind.1 in absurd (omega arith))
+      (λ over. let from = over.past.from in absurd (omega arith)) in
       numbers_one l.memory.segments (length l.tables.rows) p.log.memory.segments (length p.log.tables.rows)
-      (omega arith) (omega arith) (sym made.labelled ∙ first ∙ g.crash.label ∙ d.labelled)
+      (omega arith) (omega arith) (sym g.draft.labelled ∙ first ∙ g.crash.label ∙ d.labelled)
 
   -- a block that the store holds is kept
   pub kept_held : (address : ℕ) → IsHeld p address → block_at l.memory address ≡ block_at p.log.memory address
   kept_held address held =
       let inside = (held_named p d address held).inside in
       let segments = g.crash.segments in
-      made.kept address (omega arith) (spares.ends made.last made.logged made.latest address held)
+      let end = r.ends.end in
+      (r.kept address (omega arith)).same
+      (λ behind. let past = behind.1 in
+      spares.ends r.last r.logged r.latest address held (behind.0 ∙ r.ends.active, omega arith))
+      (λ over. held_ahead p m d g.crash address held over.past)
       ∙ spares.held address held
 
   -- ---- numbers
   -- names lead to those in use
-  leads_to : (number : ℕ) → Reaches m made.places number ↔ IsUsed p number
+  leads_to : (number : ℕ) → Reaches m r.places number ↔ IsUsed p number
   leads_to number =
-      let w = g.shown.1 in finds_spared_names p m g.shown.0 made.places number d spares w.shows w.tree made.newest
+      let w = g.shown.1 in finds_spared_names p m g.shown.0 r.places number d spares w.shows w.tree (record { each = r.newest })
 
   pub was_used : (number : ℕ) → number < length p.log.tables.rows → (at : InodePlace)
       → place_of l.tables number ≡ Some at → IsUsed p number
   was_used number low at is =
       let numbers = same_numbers in
-      (leads_to number).0 ((made.named number (omega arith)).0 (present is))
+      (leads_to number).0 ((r.named number (omega arith)).0 (present is))
 
   none_by : (number : ℕ) → number < length p.log.tables.rows → (row_of p.log.tables number).used ≡ false
       → (o : Option InodePlace) → place_of l.tables number ≡ o → o ≡ None
@@ -129,9 +134,8 @@ module _ (p : Parts) (m : SegmentMemory) (l : LogParts) (g : IsAgain p m l) wher
   same_row number low used =
       let numbers = same_numbers in
       let most = d.store.whole.parts.formed.inodes_most in
-      let r = g.draft.recovered in
-      let reached : Reaches m made.places number = (leads_to number).1 used in
-      let some = there_of (place_of l.tables number) ((made.named number (omega arith)).1 reached) in
+      let reached : Reaches m r.places number = (leads_to number).1 used in
+      let some = there_of (place_of l.tables number) ((r.named number (omega arith)).1 reached) in
       let row = used_row (row_of l.tables number) some.value some.is in
       let s = there p d number used in
       let same : get_or r.places number None ≡ Some s.newest =

@@ -14,11 +14,13 @@ use Rattle.lfs_calls.specs.Volumes.{HasWorld}
 use Rattle.lfs_fsck.specs.Stored.{IsStored, flushed}
 use Rattle.lfs_image.specs.Image.{IsLabelled}
 use Rattle.lfs_durable.specs.Crashes.{IsCrashOf}
+use Rattle.lfs_durable.specs.Kept.{CanBeFound}
 use Rattle.lfs_durable.specs.Names.{IsDurable}
 use Rattle.lfs_checking.specs.Files.{HasImage}
 use Rattle.lfs_checking.specs.Volumes.{well_text}
 use Rattle.lfs_rescue.specs.declared.fault.RecoverFault.{RecoverFault}
 use Rattle.lfs_rescue.specs.declared.fault.RecoverFault.TheVariants.{Empty, Volume, Number, LastSerial, Length, Memory}
+use Rattle.lfs_rescue.specs.Contents.{EndsInOrder}
 use Rattle.lfs_rescue.specs.Recovering.{IsRecovered, IsRecoverFaultOf}
 
 -- bytes are the blocks of a memory's segments, of 512 bytes each, from address 0 on
@@ -43,6 +45,11 @@ FindsAllIn bytes found = (p : Parts) (m : SegmentMemory) → IsDurable p → Has
 abbrev pub IsLeftOfNoneIn : List ℕ → Type 0
 IsLeftOfNoneIn bytes = (p : Parts) (m : SegmentMemory) → IsDurable p → HasWorld (state_of p) → IsMemoryOf bytes m
     → IsCrashOf p m → ⊥
+
+-- A store found in them can be found again, where their segments were written one after the other.
+abbrev pub IsFindableIn : List ℕ → Parts → Type 0
+IsFindableIn bytes found = (p : Parts) (m : SegmentMemory) → IsDurable p → HasWorld (state_of p) → IsMemoryOf bytes m
+    → IsCrashOf p m → EndsInOrder m → CanBeFound found
 
 -- what a fault says of the memory of bytes
 abbrev pub IsFaultIn : List ℕ → RecoverFault → Type 0
@@ -72,7 +79,8 @@ abbrev pub IsFaultLine : RecoverFault → List ℕ → Type 0
 IsFaultLine fault text = IfSome (fault_words fault) (λ words. text ≡ codes "fault: " ++ (words ++ codes "\n"))
 
 -- a volume is found in bytes, whose block 0 is its label and whose names show a tree, with all that a store contained
--- whose bytes these are, and of which this is told; and a file got its image, where one is asked for
+-- whose bytes these are, and that can be found again, and of which this is told; and a file got its image, where one is
+-- asked for
 pub record IsFound {F S : Type 0} (contents : F → Option (List ℕ)) (save : Option S) (bytes text : List ℕ) : Type 0 where
   pub log : LogParts
   pub found : IsFoundIn bytes log
@@ -80,6 +88,7 @@ pub record IsFound {F S : Type 0} (contents : F → Option (List ℕ)) (save : O
   pub labelled : IsLabelled log
   pub world : HasWorld (state_of (flushed log))
   pub content : FindsAllIn bytes (flushed log)
+  pub findable : IsFindableIn bytes (flushed log)
   pub told : text ≡ well_text log
   pub kept : IfSome save (λ _. HasImage contents log HighlySecure)
 

@@ -1,6 +1,6 @@
 -- What is built of what recovery finds in a volume's blocks.
-use Rattle.std.specs.Prelude.{◌≡◌, ℕ, ◌/◌, ◌<◌, ◌≤◌, ◌↔◌, ◌==◌, Bool, true, false, List, Option, Some, None}
-use Rattle.std.specs.Prelude.{IsSome, length, slice_index, slice_index_or, if◌then◌else◌, ⊤}
+use Rattle.std.specs.Prelude.{◌≡◌, ◌≢◌, ℕ, ◌+◌, ◌*◌, ◌/◌, ◌<◌, ◌≤◌, ◌⊎◌, ◌↔◌, ◌==◌, Bool, true, false, List}
+use Rattle.std.specs.Prelude.{Option, Some, None, IsSome, length, slice_index, slice_index_or, if◌then◌else◌, ⊤}
 use Rattle.lfs_types.specs.declared.limits.TheConstants.{SEGMENT_BLOCKS}
 use Rattle.lfs_types.specs.Blocks.{zero_block}
 use Rattle.lfs_types.specs.Ranges.{least_inodes, most_inodes}
@@ -13,7 +13,7 @@ use Rattle.lfs_ifile.specs.Tables.{Tables, row_of}
 use Rattle.lfs_log.specs.Parts.{IsParts, LogParts, state_of}
 use Rattle.lfs_recovery.specs.declared.places.PartialSegment.{PartialSegment}
 use Rattle.lfs_recovery.specs.declared.places.RecordPlace.{RecordPlace}
-use Rattle.lfs_recovery.specs.Logs.{IsLogged}
+use Rattle.lfs_recovery.specs.Logs.{IsLogged, log_place}
 use Rattle.lfs_recovery.specs.Newest.{IsNewest}
 use Rattle.lfs_reach.specs.Reach.{Reaches}
 use Rattle.lfs_types.specs.StoreStates.{StoreState}
@@ -26,7 +26,7 @@ use Rattle.lfs_fsck.specs.Faults.{IsFileFaultOf}
 use Rattle.lfs_rescue.specs.declared.fault.RecoverFault.{RecoverFault}
 use Rattle.lfs_rescue.specs.declared.fault.RecoverFault.TheVariants.{Empty, Volume, Number, LastSerial, Length, Memory}
 use Rattle.lfs_rescue.specs.Contents.{IsLeftOfNone}
-use Rattle.lfs_rescue.specs.Recovering.{AreKept, EndsBehind, last_serial}
+use Rattle.lfs_rescue.specs.Recovering.{EndsBehind, last_serial}
 
 -- Recovery found this in a memory of blocks: the newest record of each number, whether names lead to it, and the partial
 -- segment of the highest serial, which isn't the last serial; and block 0 is the label of so many inode numbers.
@@ -66,10 +66,40 @@ abbrev pub state_told : ℕ → ℕ → ℕ → SegState
 state_told active segment live =
     if segment == active then Active else (if live == 0 then Clean else Dirty)
 
--- a block is as it was, but zeros behind the end of the active segment's log
-pub record IsToldAt (m : SegmentMemory) (active end address : ℕ) (block : List ℕ) : Type 0 where
-  pub same : ((address / SEGMENT_BLOCKS ≡ active) × (end ≤ address) → ⊥) → block ≡ block_at m address
-  pub zeros : (address / SEGMENT_BLOCKS ≡ active) × (end ≤ address) → block ≡ zero_block
+-- one of the partial segments in the log of a segment ends right before an address
+abbrev pub EndsOne : SegmentMemory → ℕ → ℕ → Type 0
+EndsOne m segment end = (p : PartialSegment)
+    × (IsLogged m p × ((p.address / SEGMENT_BLOCKS ≡ segment) × (end ≡ p.address + p.count + 1)))
+
+-- the log of a segment ends behind its last partial segment, or where it begins, if it has none
+pub record IsLogEnd (m : SegmentMemory) (segment end : ℕ) : Type 0 where
+  pub from : log_place segment ≤ end
+  pub past : (p : PartialSegment) → IsLogged m p → p.address / SEGMENT_BLOCKS ≡ segment → p.address + p.count < end
+  pub one : (end ≡ log_place segment) ⊎ EndsOne m segment end
+
+-- Where zeros begin in a segment: behind a partial segment in that one's, which is active; behind its log where nothing
+-- is live in it; and nowhere in another one.
+pub record IsZerosFrom (m : SegmentMemory) (last : PartialSegment) (live : List ℕ) (segment from : ℕ) : Type 0 where
+  pub active : segment ≡ last.address / SEGMENT_BLOCKS → from ≡ last.address + last.count + 1
+  pub empty : segment ≢ last.address / SEGMENT_BLOCKS → slice_index live segment ≡ 0 → IsLogEnd m segment from
+  pub used : segment ≢ last.address / SEGMENT_BLOCKS → slice_index live segment ≢ 0
+      → (segment + 1) * SEGMENT_BLOCKS ≤ from
+
+-- a block is as it was, but zeros from an address on
+pub record IsBlockFrom (m : SegmentMemory) (from address : ℕ) (block : List ℕ) : Type 0 where
+  pub same : address < from → block ≡ block_at m address
+  pub zeros : from ≤ address → block ≡ zero_block
+
+-- or from where zeros begin in its segment
+pub record IsToldAt (m : SegmentMemory) (last : PartialSegment) (live : List ℕ) (address : ℕ) (block : List ℕ) : Type 0 where
+  pub from : ℕ
+  pub is : IsZerosFrom m last live (address / SEGMENT_BLOCKS) from
+  pub told : IsBlockFrom m from address block
+
+-- so is each
+abbrev pub AreTold : SegmentMemory → PartialSegment → List ℕ → SegmentMemory → Type 0
+AreTold m last live n = (address : ℕ) → address < m.segments * SEGMENT_BLOCKS
+    → IsToldAt m last live address (block_at n address)
 
 -- the tables with these live bytes, states and rows
 abbrev pub tables_of : List ℕ → List SegState → List InodeRow → Tables
@@ -81,7 +111,7 @@ pub record IsBuilt (m : SegmentMemory) (last : PartialSegment) (places : List (O
   pub parts : IsParts l
   pub segments : l.memory.segments ≡ m.segments
   pub ends : EndsBehind last l.memory
-  pub kept : AreKept m l.memory
+  pub told : AreTold m last live l.memory
   pub counts : l.tables.live ≡ live
   pub states : (s : ℕ) → s < m.segments → state_of l.tables s ≡ state_told l.memory.active s (slice_index live s)
   pub many : length l.tables.rows ≡ inodes

@@ -12,7 +12,7 @@ use Rattle.lfs_ifile.specs.Tables.{place_of, row_of}
 use Rattle.lfs_log.specs.Parts.{LogParts, live_of, state_of}
 use Rattle.lfs_recovery.specs.declared.places.PartialSegment.{PartialSegment}
 use Rattle.lfs_recovery.specs.declared.places.RecordPlace.{RecordPlace}
-use Rattle.lfs_recovery.specs.Logs.{IsLogged}
+use Rattle.lfs_recovery.specs.Logs.{IsLogged, log_place}
 use Rattle.lfs_recovery.specs.Newest.{IsNewest}
 use Rattle.lfs_reach.specs.Reach.{Reaches}
 use Rattle.lfs_rescue.specs.declared.fault.RecoverFault.{RecoverFault}
@@ -36,10 +36,24 @@ newest_version (Some newest) = newest.version
 abbrev pub IsBehind : SegmentMemory → ℕ → Type 0
 IsBehind m address = (address / SEGMENT_BLOCKS ≡ m.active) × (next_address m ≤ address)
 
--- a block is as it was; behind the end of the log there are zeros
-pub record IsKept (old new : SegmentMemory) (address : ℕ) : Type 0 where
-  pub same : (IsBehind new address → ⊥) → block_at new address ≡ block_at old address
-  pub zeros : IsBehind new address → block_at new address ≡ zero_block
+-- an address stands behind each partial segment in the log of its segment
+pub record IsPastLog (m : SegmentMemory) (address : ℕ) : Type 0 where
+  pub from : log_place (address / SEGMENT_BLOCKS) ≤ address
+  pub past : (p : PartialSegment) → IsLogged m p → p.address / SEGMENT_BLOCKS ≡ address / SEGMENT_BLOCKS
+      → p.address + p.count < address
+
+-- What a memory has at an address is left over: it stands behind the log of a segment that is clean now, as what a crash
+-- tore there.
+pub record IsLeftOver (m : SegmentMemory) (l : LogParts) (address : ℕ) : Type 0 where
+  pub clean : state_of l.tables (address / SEGMENT_BLOCKS) ≡ Clean
+  pub past : IsPastLog m address
+
+-- a block is as it was; behind the end of the log, and in place of what is left over, there are zeros
+pub record IsKept (m : SegmentMemory) (l : LogParts) (address : ℕ) : Type 0 where
+  pub same : (IsBehind l.memory address → ⊥) → (IsLeftOver m l address → ⊥)
+      → block_at l.memory address ≡ block_at m address
+  pub zeros : IsBehind l.memory address → block_at l.memory address ≡ zero_block
+  pub wiped : IsLeftOver m l address → block_at l.memory address ≡ zero_block
 
 -- the last serial, 2 ^ 32 - 1, which each summary gets from then on: so it doesn't tell which is the newest
 abbrev pub last_serial : ℕ
@@ -63,9 +77,10 @@ pub record EndsBehind (last : PartialSegment) (m : SegmentMemory) : Type 0 where
 
 -- A log is what a memory of blocks tells. Of each number there is one newest record; a number is in use exactly where
 -- names lead to it from the root on, and then has its newest record. The log ends behind the partial segment of the
--- highest serial, which isn't the last serial that there is, goes on with the serial behind that, and all other blocks
--- are the memory's. Each other segment in which nothing is live is clean, and a number that is free keeps the version of
--- its newest record, which it goes on from when it is given out again.
+-- highest serial, which isn't the last serial that there is, and goes on with the serial behind that. All other blocks
+-- are the memory's, but that zeros stand behind the logs of clean segments too. Each other segment in which nothing is
+-- live is clean, and a number that is free keeps the version of its newest record, which it goes on from when it is given
+-- out again.
 pub record IsRecovered (m : SegmentMemory) (l : LogParts) : Type 0 where
   pub places : List (Option RecordPlace)
   pub newest : (n : ℕ) → n < most_inodes → IsNewest m n (slice_index_or places n None)
@@ -80,7 +95,7 @@ pub record IsRecovered (m : SegmentMemory) (l : LogParts) : Type 0 where
   pub ends : EndsBehind last l.memory
   pub segments : l.memory.segments ≡ m.segments
   pub given_back : (segment : ℕ) → segment < l.memory.segments → IsGivenBack l segment
-  pub kept : (address : ℕ) → address < m.segments * SEGMENT_BLOCKS → IsKept m l.memory address
+  pub kept : (address : ℕ) → address < m.segments * SEGMENT_BLOCKS → IsKept m l address
 
 -- Two memories tell the same: their logs have the same partial segments, and each number has the same newest record. So
 -- what is recovered can be recovered again.
@@ -112,8 +127,8 @@ abbrev pub AreGivenBack : LogParts → Type 0
 AreGivenBack l = (segment : ℕ) → segment < l.memory.segments → IsGivenBack l segment
 
 -- and each block
-abbrev pub AreKept : SegmentMemory → SegmentMemory → Type 0
-AreKept old new = (address : ℕ) → address < old.segments * SEGMENT_BLOCKS → IsKept old new address
+abbrev pub AreKept : SegmentMemory → LogParts → Type 0
+AreKept m l = (address : ℕ) → address < m.segments * SEGMENT_BLOCKS → IsKept m l address
 
 -- the one of the higher serial
 abbrev pub later : Option PartialSegment → PartialSegment → PartialSegment

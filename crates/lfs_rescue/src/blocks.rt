@@ -7,7 +7,8 @@ ghost use Rattle.lfs_logstore.specs.States.{state_of};
 ghost use Rattle.lfs_fsck.specs.Stored.{IsStored, stored};
 ghost use Rattle.lfs_image.specs.Image.{IsLabelled};
 ghost use Rattle.lfs_rescue.specs.declared.fault.RecoverFault.TheVariants.{Length, Memory};
-ghost use Rattle.lfs_rescue.specs.Blocks.{FindsAllIn, IsBlocksFaultOf, IsFoundIn, IsLeftOfNoneIn, IsMemoryOf};
+ghost use Rattle.lfs_rescue.specs.Blocks.{FindsAllIn, IsBlocksFaultOf, IsFindableIn, IsFoundIn, IsLeftOfNoneIn};
+ghost use Rattle.lfs_rescue.specs.Blocks.{IsMemoryOf};
 
 use crate::fault::RecoverFault;
 use crate::recovering::recover;
@@ -34,6 +35,7 @@ pub fn recover_blocks(alloc: Global, bytes: &[u8], frames: u32) -> Result<LogSto
     ensures flushed { IfOk result (λ store. store ≡ stored frames store.log) }
     ensures world { IfOk result (λ store. HasWorld (state_of store)) }
     ensures content { IfOk result (FindsAllIn bytes.now) }
+    ensures findable { IfOk result (IsFindableIn bytes.now) }
     ensures fault { IfErr result (IsBlocksFaultOf bytes.now) }
     // Of what a crash left of a store that lay in its log, and showed a tree, a volume is found, but for want of memory.
     ensures none { IfErr result (λ fault. (fault ≡ Memory → ⊥) → IsLeftOfNoneIn bytes.now) }

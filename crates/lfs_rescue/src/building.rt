@@ -6,12 +6,14 @@ ghost use Rattle.lfs_types.specs.declared.block.TheConstants.{BLOCK_SIZE};
 ghost use Rattle.lfs_types.specs.Ranges.{least_frames, most_frames};
 ghost use Rattle.lfs_segments.specs.Memory.{IsLaidOut};
 ghost use Rattle.lfs_ifile.specs.declared.segment.SegState.TheVariants.{Clean};
+ghost use Rattle.lfs_recovery.specs.Logs.{IsLogged};
 ghost use Rattle.lfs_fsck.specs.Stored.{IsStored, stored};
-ghost use Rattle.lfs_rescue.specs.Building.{IsBuilt, IsFoundOf, IsToldAt, state_told};
-ghost use Rattle.lfs_rescue.specs.Recovering.{AreKept, EndsBehind, last_serial};
+ghost use Rattle.lfs_rescue.specs.Building.{AreTold, IsBlockFrom, IsBuilt, IsFoundOf, state_told};
+ghost use Rattle.lfs_rescue.specs.Recovering.{EndsBehind, last_serial};
 
 use crate::ifile::ifile_of;
 use crate::rows::rows_of;
+use crate::wiping::zeros_from;
 use lfs_ifile::SegState;
 use lfs_log::Log;
 use lfs_logstore::LogStore;
@@ -48,7 +50,7 @@ pub(crate) fn log_of(alloc: Global, found: Found<'_>, live: &[u32]) -> Result<Lo
         found.entry.places.now found.entry.marks.now found.entry.inodes live.now) }
 {
     let active = found.last.address / SEGMENT_BLOCKS;
-    let segments = segments_of(alloc, found.memory, &found.last)?;
+    let segments = segments_of(alloc, found.memory, &found.last, live)?;
     let states = states_of(alloc, live, active)?;
     let rows = rows_of(alloc, found)?;
     let ifile = ifile_of(alloc, live, &states, &rows)?;
@@ -59,25 +61,29 @@ pub(crate) fn log_of(alloc: Global, found: Found<'_>, live: &[u32]) -> Result<Lo
     Ok(log)
 }
 
-/// The memory that ends behind a partial segment, and goes on with the serial behind its.
+/// The memory that ends behind a partial segment, and goes on with the serial behind its. Zeros stand behind the logs of
+/// segments without live bytes.
 fn segments_of(
     alloc: Global,
     memory: &Segments,
     last: &PartialSegment,
+    live: &[u32],
 ) -> Result<Segments, AllocError>
     requires laid_out { IsLaidOut memory.now }
+    requires logged { IsLogged memory.now last.now }
     requires inside { last.now.address / 64 < memory.now.segments }
     requires end { last.now.address + last.now.count < (last.now.address / 64 + 1) * 64 }
     requires counted { last.now.serial < last_serial }
+    requires many { length live.now ≡ memory.now.segments }
     ensures laid_out { IfOk result IsLaidOut }
     ensures segments { IfOk result (λ segments. segments.segments ≡ memory.now.segments) }
     ensures ends { IfOk result (EndsBehind last.now) }
-    ensures kept { IfOk result (AreKept memory.now) }
+    ensures told { IfOk result (AreTold memory.now last.now live.now) }
 {
+    let from = zeros_from(alloc, memory, last, live)?;
+    let blocks = blocks_of(alloc, memory, &from)?;
     let active = last.address / SEGMENT_BLOCKS;
-    let end = last.address + last.count + 1;
-    let blocks = blocks_of(alloc, memory, active, end)?;
-    let fill = end - active * SEGMENT_BLOCKS;
+    let fill = last.address + last.count + 1 - active * SEGMENT_BLOCKS;
     let Some(segments) = Segments::over_as(blocks, active, fill, Some(last.serial + 1)) else {
         // Never: by `inside` and `end`.
         unreachable!()
@@ -85,33 +91,31 @@ fn segments_of(
     Ok(segments)
 }
 
-/// The blocks, with zeros in the active segment from an address on.
-fn blocks_of(
-    alloc: Global,
-    memory: &Segments,
-    active: u32,
-    end: u32,
-) -> Result<Vec<Block>, AllocError>
+/// The blocks, with zeros in each segment from an address on.
+fn blocks_of(alloc: Global, memory: &Segments, from: &[u32]) -> Result<Vec<Block>, AllocError>
+    requires { length from.now ≡ memory.now.segments }
     ensures many { IfOk result (λ blocks. length blocks.items ≡ memory.now.segments * 64) }
     ensures each { IfOk result (λ blocks.
         All (λ block. length block ≡ BLOCK_SIZE) blocks.items) }
     ensures told { IfOk result (λ blocks. (a : ℕ) → a < memory.now.segments * 64
-        → IsToldAt memory.now active end a (slice_index_or blocks.items a [])) }
+        → IsBlockFrom memory.now (slice_index from.now (a / 64)) a
+        (slice_index_or blocks.items a [])) }
 {
     let mut blocks = Vec::new(alloc);
     for address in 0..memory.segments() * SEGMENT_BLOCKS {
-        blocks.push(told_at(memory, active, end, address))?;
+        let zeros = from[(address / SEGMENT_BLOCKS) as usize];
+        blocks.push(block_from(memory, zeros, address))?;
     }
     Ok(blocks)
 }
 
-/// The block at an address.
-fn told_at(memory: &Segments, active: u32, end: u32, address: u32) -> Block
+/// The block at an address, of zeros from another one on.
+fn block_from(memory: &Segments, from: u32, address: u32) -> Block
     requires { address < memory.now.segments * 64 }
-    ensures told { IsToldAt memory.now active end address result }
+    ensures told { IsBlockFrom memory.now from address result }
     ensures long { length result ≡ BLOCK_SIZE }
 {
-    if address / SEGMENT_BLOCKS == active && end <= address {
+    if from <= address {
         return ZERO_BLOCK;
     }
     *memory.block(address)

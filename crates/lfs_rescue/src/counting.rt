@@ -4,8 +4,9 @@ ghost use Rattle.std.specs.Prelude.{◌≡◌, ◌<◌, ◌≤◌, ℕ, [], IfEr
 ghost use Rattle.lfs_segments.specs.Log.{Expects};
 ghost use Rattle.lfs_log.specs.Parts.{LogParts};
 ghost use Rattle.lfs_fsck.specs.Checks.{AreChecked, IsCounted};
-ghost use Rattle.lfs_fsck.specs.Stored.{IsStored};
+ghost use Rattle.lfs_fsck.specs.Stored.{IsStored, flushed};
 ghost use Rattle.lfs_rescue.specs.Building.{IsBuildFault, IsBuilt, IsFilesFault, IsFoundOf};
+ghost use Rattle.lfs_rescue.specs.Contents.{FindsAllOf};
 
 use crate::building::{Found, log_of};
 use crate::fault::RecoverFault;
@@ -33,6 +34,10 @@ pub(crate) fn live_of(alloc: Global, found: Found<'_>) -> Result<Vec<u32>, Recov
         → IsBuilt found.entry.memory.now found.entry.last
         found.entry.places.now found.entry.marks.now found.entry.inodes live.items l
         → IsStored l) }
+    ensures content { IfOk result (λ live. (l : LogParts)
+        → IsBuilt found.entry.memory.now found.entry.last
+        found.entry.places.now found.entry.marks.now found.entry.inodes live.items l
+        → FindsAllOf found.entry.memory.now (flushed l)) }
     ensures fault { IfErr result (IsBuildFault found.entry.memory.now) }
 {
     let full = vec![in alloc; SEGMENT_BYTES; found.memory.segments() as usize]?;

@@ -4,8 +4,9 @@ ghost use Rattle.std.specs.Prelude.{◌≡◌};
 ghost use Rattle.lfs_checking.specs.declared.fault.CheckFault.TheVariants.{Memory as NoMemory};
 ghost use Rattle.lfs_checking.specs.declared.fault.CheckFault.TheVariants.{Write};
 ghost use Rattle.lfs_rescue.specs.declared.fault.RecoverFault.TheVariants.{Memory};
-ghost use Rattle.lfs_rescue.specs.declared.fault.RescueFault.TheVariants.{Check};
+ghost use Rattle.lfs_rescue.specs.declared.fault.RescueFault.TheVariants.{Check, Journal};
 
+use lfs_auditing::fault::AuditFault;
 use lfs_checking::fault::{CheckFault, KeepFault, VolumeFault};
 use lfs_io::output::WriteFault;
 use std::alloc::AllocError;
@@ -73,6 +74,17 @@ pub enum RescueFault {
     /// The image of what is found is not kept.
     #[error("{0}")]
     Keep(KeepFault),
+    /// The journal is not read.
+    #[error("{0}")]
+    Journal(AuditFault),
+}
+
+impl From<AuditFault> for RescueFault {
+    ghost from_gives = { λ audit fault. fault ≡ Journal audit };
+
+    fn from(fault: AuditFault) -> RescueFault {
+        RescueFault::Journal(fault)
+    }
 }
 
 impl From<CheckFault> for RescueFault {

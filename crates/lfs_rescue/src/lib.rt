@@ -14,6 +14,7 @@ pub mod program;
 mod recovering;
 mod rows;
 mod telling;
+mod wiping;
 
 pub use blocks::recover_blocks;
 pub use fault::{RecoverFault, RescueFault};

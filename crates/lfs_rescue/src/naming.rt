@@ -8,6 +8,7 @@ ghost use Rattle.lfs_parts.specs.Files.{content_of};
 ghost use Rattle.lfs_trees.specs.Faults.{IsBelow};
 ghost use Rattle.lfs_fsck.specs.Stored.{IsStored, flushed};
 ghost use Rattle.lfs_rescue.specs.Building.{IsBuildFault, IsBuilt, IsFoundOf, IsNamesFault};
+ghost use Rattle.lfs_rescue.specs.Contents.{FindsAllOf};
 
 use crate::building::{Found, log_of, store_over};
 use crate::fault::RecoverFault;
@@ -27,6 +28,8 @@ pub(crate) fn check_names(alloc: Global, found: Found<'_>, live: &[u32]) -> Resu
     requires few { (s : ℕ) → slice_index live.now s ≤ 32768 }
     requires stored { (l : LogParts) → IsBuilt found.memory.now found.last found.places.now
         found.marks.now found.inodes live.now l → IsStored l }
+    requires content { (l : LogParts) → IsBuilt found.memory.now found.last found.places.now
+        found.marks.now found.inodes live.now l → FindsAllOf found.memory.now (flushed l) }
     ensures world { OnOk result ((l : LogParts)
         → IsBuilt found.entry.memory.now found.entry.last
         found.entry.places.now found.entry.marks.now found.entry.inodes live.now l

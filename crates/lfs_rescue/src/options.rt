@@ -26,6 +26,13 @@ const SAVE: TextOption = TextOption {
     help: "With --recover, writes the image of the volume that is found to FILE, at the highest securelevel",
 };
 
+/// The option for the file of the journal.
+const JOURNAL: TextOption = TextOption {
+    name: "journal",
+    value: "FILE",
+    help: "With --recover, tells behind which entry of the volume's journal, whose lines FILE has, the tree that is found stands",
+};
+
 /// The word for the file of the image or of the blocks.
 const IMAGE: Operand = Operand {
     name: "image",
@@ -36,7 +43,8 @@ const IMAGE: Operand = Operand {
 /// What `--help` tells behind the options.
 const MORE: &str =
     "Status 0: the image is that of a volume, or one is found in the blocks, and how full it is is told; 1: it is none,
-and why is told in a line, or a fault; 2: wrong arguments.";
+and why is told in a line, or no legal journal leads to its tree, or a fault; 2: wrong arguments. A journal begins when
+the volume was fresh; its lines are those that lfs_audit_trail reads.";
 
 /// What `lfs_check` is asked to do.
 #[derive(Clone, Copy, Debug)]
@@ -47,19 +55,23 @@ pub struct Options<'a> {
     pub recovers: bool,
     /// The file that the image of the volume that is found is kept in, where one is asked for.
     pub save: Option<&'a str>,
+    /// The file of the volume's journal, where it is asked at which place of it the tree that is found stands.
+    pub journal: Option<&'a str>,
 }
 
 /// The options that words ask for; the first word is the program's name.
 ///
 /// # Errors
 ///
-/// What the parser tells, with its exit code: 2 for a word that is no option, for `--save` alone, and for words that
-/// are no text, 0 for `--help`; or want of memory.
+/// What the parser tells, with its exit code: 2 for a word that is no option, for `--save` or `--journal` alone, and for
+/// words that are no text, 0 for `--help`; or want of memory.
 pub fn options_of<'a, S: AsStr>(
     alloc: Global,
     words: Result<&'a [S], WordsFault>,
 ) -> Result<Options<'a>, Error>
     ensures saved { IfOk result (λ options. IsSome options.save → options.recovers ≡ true) }
+    ensures journaled { IfOk result (λ options. IsSome options.journal
+        → options.recovers ≡ true) }
     ensures unread { IfErr words.entry (λ _. IsErrAnd result (λ error. IsRefusal (kind_of error))) }
 {
     let mut command = command(alloc)?;
@@ -69,10 +81,15 @@ pub fn options_of<'a, S: AsStr>(
     if save.is_some() && !recovers {
         return Err(wrong_value(&mut command, "--save takes --recover"));
     }
+    let journal = JOURNAL.text(&matches);
+    if journal.is_some() && !recovers {
+        return Err(wrong_value(&mut command, "--journal takes --recover"));
+    }
     Ok(Options {
         image: IMAGE.text(&matches),
         recovers,
         save,
+        journal,
     })
 }
 
@@ -85,5 +102,6 @@ fn command<'a>(alloc: Global) -> Result<Command<'a>, AllocError> {
         .after_help(MORE)
         .arg(RECOVER.arg(alloc))?
         .arg(SAVE.arg(alloc))?
+        .arg(JOURNAL.arg(alloc))?
         .arg(IMAGE.arg(alloc))
 }

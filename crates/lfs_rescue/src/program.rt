@@ -34,7 +34,7 @@ where
     R: Read,
     W: Write,
     D: Write,
-    ensures { IsCheckEnd F.File.contents (R.remaining streams.old.stdin)
+    ensures { IsCheckEnd F.File.contents F.File.remaining (R.remaining streams.old.stdin)
         (W.contents streams.old.stdout) (W.contents streams.new.stdout)
         result streams.old.stdin streams.new.stdin streams.old.stdout streams.new.stdout
         streams.old.stderr streams.new.stderr }
@@ -57,7 +57,7 @@ where
     R: Read,
     W: Write,
     D: Write,
-    ensures run { IfOk asked.entry (λ options. EndsCheck F.File.contents options
+    ensures run { IfOk asked.entry (λ options. EndsCheck F.File.contents F.File.remaining options
         (R.remaining streams.old.stdin)
         (W.contents streams.old.stdout) (W.contents streams.new.stdout)
         result streams.old.stdin streams.new.stdin streams.old.stdout streams.new.stdout
@@ -86,7 +86,8 @@ where
     R: Read,
     W: Write,
     D: Write,
-    ensures { EndsCheck F.File.contents means.now.options (R.remaining streams.old.stdin)
+    ensures { EndsCheck F.File.contents F.File.remaining means.now.options
+        (R.remaining streams.old.stdin)
         (W.contents streams.old.stdout) (W.contents streams.new.stdout)
         result streams.old.stdin streams.new.stdin streams.old.stdout streams.new.stdout
         streams.old.stderr streams.new.stderr }
@@ -121,7 +122,7 @@ where
     R: Read,
     W: Write,
     D: Write,
-    ensures { EndsReading F.File.contents means.now.options
+    ensures { EndsReading F.File.contents F.File.remaining means.now.options
         (R.remaining reader.old) (W.contents stdout.old) (W.contents stdout.new)
         result stdout.old stdout.new stderr.old stderr.new }
 {

@@ -10,7 +10,7 @@ ghost use Rattle.lfs_fsck.specs.Stored.{IsStored, stored};
 ghost use Rattle.lfs_image.specs.Image.{IsLabelled};
 ghost use Rattle.lfs_rescue.specs.declared.fault.RecoverFault.TheVariants.{Memory};
 ghost use Rattle.lfs_rescue.specs.Building.{IsBuildFault, IsFoundOf};
-ghost use Rattle.lfs_rescue.specs.Contents.{FindsAllOf, IsLeftOfNone};
+ghost use Rattle.lfs_rescue.specs.Contents.{FindsAllOf, IsFindableAgain, IsLeftOfNone};
 ghost use Rattle.lfs_rescue.specs.Recovering.{IsLastOf, IsRecovered, IsRecoverFaultOf};
 ghost use Rattle.lfs_rescue.specs.Recovering.{TellsTheSame, last_serial, later};
 
@@ -28,8 +28,8 @@ use std::alloc::Global;
 
 /// The store of the volume whose blocks a memory has, at any moment of a flush too, with a cache of so many frames, 32
 /// to 1,024, all empty. Nothing waits in the store. Its summaries have serials, and the next one gets that behind the
-/// highest: so what it writes is found again too. Each block is read some few times, and copied three times, of which
-/// one copy stays.
+/// highest: so what it writes is found again too. What a crash tore is not in it. Each block is read some few times, and
+/// copied three times, of which one copy stays.
 ///
 /// # Errors
 ///
@@ -44,6 +44,8 @@ pub fn recover(alloc: Global, memory: &Segments, frames: u32) -> Result<LogStore
     ensures labelled { IfOk result (λ store. IsLabelled store.log) }
     // It contains what the store contained whose blocks these are, or what a crash left of them.
     ensures content { IfOk result (FindsAllOf memory.now) }
+    // So it can be found again, and what is torn is not in the way.
+    ensures findable { IfOk result (IsFindableAgain memory.now) }
     ensures stored { IfOk result (λ store. IsStored store.log) }
     ensures flushed { IfOk result (λ store. store ≡ stored frames store.log) }
     ensures world { IfOk result (λ store. HasWorld (state_of store)) }
@@ -79,6 +81,7 @@ fn store_behind(
     ensures stored { IfOk result (λ store. IsStored store.log) }
     ensures flushed { IfOk result (λ store. store ≡ stored frames store.log) }
     ensures world { IfOk result (λ store. HasWorld (state_of store)) }
+    ensures content { IfOk result (FindsAllOf memory.now) }
     ensures fault { IfErr result (IsBuildFault memory.now) }
 {
     let inodes = inodes_told(memory)?;
@@ -105,6 +108,7 @@ fn store_of(alloc: Global, found: Found<'_>, frames: u32) -> Result<LogStore, Re
     ensures stored { IfOk result (λ store. IsStored store.log) }
     ensures flushed { IfOk result (λ store. store ≡ stored frames store.log) }
     ensures world { IfOk result (λ store. HasWorld (state_of store)) }
+    ensures content { IfOk result (FindsAllOf found.entry.memory.now) }
     ensures fault { IfErr result (IsBuildFault found.entry.memory.now) }
 {
     let live = live_of(alloc, found)?;

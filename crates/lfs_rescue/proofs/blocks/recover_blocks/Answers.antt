@@ -1,4 +1,4 @@
-use Rattle.lfs_rescue.proofs.BlocksLemmas.{finds_all_in, none_of}
+use Rattle.lfs_rescue.proofs.BlocksLemmas.{findable_in, finds_all_in, none_of}
 use Rattle.lfs_rescue.proofs.blocks.recover_blocks.Goals as goal
 
 pub returns-in-Ok-clause-found : goal.returns-in-Ok-clause-found
@@ -11,6 +11,11 @@ returns-in-Ok-clause-found c = record {
 pub returns-in-Ok-clause-content : goal.returns-in-Ok-clause-content
 returns-in-Ok-clause-content c =
     finds_all_in c.args.bytes.now c.in_ok-memory.memory c.in-Ok.store c.in_ok-memory.ensures.memory c.in-Ok.ensures.content
+
+pub returns-in-Ok-clause-findable : goal.returns-in-Ok-clause-findable
+returns-in-Ok-clause-findable c =
+    findable_in c.args.bytes.now c.in_ok-memory.memory c.in-Ok.store c.in_ok-memory.ensures.memory
+    c.in-Ok.ensures.findable
 
 pub returns-clause-none : goal.returns-clause-none
 returns-clause-none c = λ other.

@@ -3,8 +3,8 @@ use Rattle.lfs_segments.specs.Memory.{IsLaidOut}
 use Rattle.lfs_rescue.proofs.BuildLemmas.{laid}
 use Rattle.lfs_rescue.proofs.building.segments_of.Goals as goal
 
-pub overflow_add-end-2 : goal.overflow_add-end-2
-overflow_add-end-2 c =
+pub overflow_add-fill-2 : goal.overflow_add-fill-2
+overflow_add-fill-2 c =
     let most = c.requires.laid_out.at_most in
     let inside = c.requires.inside in
     let end = c.requires.end in

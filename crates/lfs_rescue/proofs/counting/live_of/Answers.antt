@@ -3,7 +3,7 @@ use Rattle.std.specs.Prelude.{IfErr}
 use Rattle.std.proofs.lemmas.Result.{err_from_is_err_and}
 use Rattle.lfs_rescue.specs.Building.{IsBuildFault}
 use Rattle.lfs_rescue.proofs.BuildLemmas.{built_as}
-use Rattle.lfs_rescue.proofs.FoundLemmas.{all_full, files_fault, stands}
+use Rattle.lfs_rescue.proofs.FoundLemmas.{all_full, files_fault, finds_all, stands}
 use Rattle.lfs_rescue.proofs.StoredLemmas.{counts_most}
 use Rattle.lfs_rescue.proofs.counting.live_of.Goals as goal
 
@@ -39,8 +39,29 @@ returns-clause-stored c = λ l is.
     let found = c.args.found in
     let counts = c.in_ok-counts.counts.items in
     let draft = c.in_ok-draft.draft in
+    let full = c.deref.result.now in
+    let some : (s : ℕ) → s < found.memory.now.segments → get_or full s 0 ≢ 0 =
+    λ s low. let many = c.segments.ensures.segments in
+    all_full full c.segments.result
+    (c.deref.ensures.value ∙ c.in_ok-full.ensures.items_if_clones_equal (λ y e. e)) s (omega arith) in
     stands found.memory.now found.last found.places.now found.marks.now
-    found.inodes c.requires.found c.deref.result.now counts draft l c.in_ok-draft.ensures c.in_ok-counts.ensures.end
-    c.in_ok-counts.ensures.counted c.in_ok-counts.ensures.files
+    found.inodes c.requires.found full counts draft l some c.in_ok-draft.ensures
     (built_as found.memory.now found.last found.places.now found.marks.now
     found.inodes c.requires.found c.in_ok-live.live.items counts l (c.in_ok-live.ensures ∙ c.deref-2.ensures.value) is)
+    c.in_ok-counts.ensures.end c.in_ok-counts.ensures.counted c.in_ok-counts.ensures.files
+
+pub returns-clause-content : goal.returns-clause-content
+returns-clause-content c = λ l is.
+    let found = c.args.found in
+    let counts = c.in_ok-counts.counts.items in
+    let draft = c.in_ok-draft.draft in
+    let full = c.deref.result.now in
+    let some : (s : ℕ) → s < found.memory.now.segments → get_or full s 0 ≢ 0 =
+    λ s low. let many = c.segments.ensures.segments in
+    all_full full c.segments.result
+    (c.deref.ensures.value ∙ c.in_ok-full.ensures.items_if_clones_equal (λ y e. e)) s (omega arith) in
+    finds_all found.memory.now found.last found.places.now found.marks.now
+    found.inodes c.requires.found full counts draft l some c.in_ok-draft.ensures
+    (built_as found.memory.now found.last found.places.now found.marks.now
+    found.inodes c.requires.found c.in_ok-live.live.items counts l (c.in_ok-live.ensures ∙ c.deref-2.ensures.value) is)
+    c.in_ok-counts.ensures.end c.in_ok-counts.ensures.counted c.in_ok-counts.ensures.files

@@ -34,8 +34,8 @@ returns c = record {
       found.inodes c.requires.found (state_of c.in_ok-store.store)
       (λ p d shown crash.
       let world = shows_tree found.memory.now found.last found.places.now found.marks.now
-      found.inodes c.requires.found p d shown crash c.args.live.now c.in_ok-log.log c.in_ok-log.ensures 32
-      (c.requires.stored c.in_ok-log.log c.in_ok-log.ensures) in
+      found.inodes c.requires.found p d shown crash c.args.live.now c.in_ok-log.log c.in_ok-log.ensures
+      (c.requires.content c.in_ok-log.log c.in_ok-log.ensures) in
       subst (λ (q : Parts). HasWorld (state_of q)) (sym c.in_ok-store.ensures) world)
       c.in-Err.fault c.in-Err.ensures.fault;
 }

@@ -1,16 +1,13 @@
-use Rattle.std.proofs.Common.{◌≡◌, refl, sym, subst, arith}
+use Rattle.std.proofs.Common.{◌≡◌, sym, subst, arith}
 use Rattle.std.proofs.lemmas.Result.{err_from_is_err_and}
 use Rattle.std.specs.Prelude.{IfErr}
-use Rattle.lfs_parts.specs.declared.parts.Parts.{Parts}
-use Rattle.lfs_parts.specs.Store.{IsFlushed, IsStore}
-use Rattle.lfs_fsck.specs.Stored.{stored}
 use Rattle.lfs_rescue.specs.declared.fault.RecoverFault.{RecoverFault}
 use Rattle.lfs_rescue.specs.declared.fault.RecoverFault.TheVariants.{Memory}
-use Rattle.lfs_rescue.specs.Contents.{IsLeftOfNone}
+use Rattle.lfs_rescue.specs.Contents.{IsFindableAgain, IsLeftOfNone}
 use Rattle.lfs_rescue.specs.Recovering.{IsRecoverFaultOf}
 use Rattle.lfs_rescue.proofs.AgainLemmas.{recovered_same}
-use Rattle.lfs_rescue.proofs.ContentLemmas.{finds_all}
 use Rattle.lfs_rescue.proofs.EndLemmas.{serial_low, some_logged}
+use Rattle.lfs_rescue.proofs.FindableLemmas.{findable_again}
 use Rattle.lfs_rescue.proofs.RecoverLemmas.{build_fault, build_none, end_of, last_latest, last_logged, none_logged}
 use Rattle.lfs_rescue.proofs.recovering.recover.Goals as goal
 
@@ -29,15 +26,11 @@ returns-clause-again c =
     recovered_same c.args.memory.now _ c.in_ok-partials.partials.items c.in_ok-partials.ensures.logs
     c.in_ok-store.ensures.recovered
 
-pub returns-clause-content : goal.returns-clause-content
-returns-clause-content c =
-    let frames = c.args.frames in
-    let l = c.in_ok-store.store.log in
-    let flushed = c.in_ok-store.ensures.flushed in
-    let is : IsStore (stored frames l) = c.in_ok-store.ensures.stored frames in
-    finds_all c.args.memory.now c.in_ok-store.store c.in_ok-store.ensures.recovered c.in_ok-store.ensures.labelled
-    (subst (λ (p : Parts). IsStore p) (sym flushed) is)
-    (subst (λ (p : Parts). IsFlushed p) (sym flushed) (record { no_record = refl; no_frame = refl }))
+pub returns-clause-findable : goal.returns-clause-findable
+returns-clause-findable c =
+    subst (IsFindableAgain c.args.memory.now) (sym c.in_ok-store.ensures.flushed)
+    (findable_again c.args.memory.now c.in_ok-store.store.log c.args.frames c.in_ok-store.ensures.recovered
+    c.in_ok-store.ensures.labelled c.in_ok-store.ensures.stored)
 
 pub returns-in_default-clause-fault : goal.returns-in_default-clause-fault
 returns-in_default-clause-fault c =
