@@ -6,6 +6,7 @@ use Rattle.lfs_share.specs.Answering.{shared_state}
 use Rattle.lfs_share.specs.Share.{IsWithinShare, share_of, taken}
 use Rattle.lfs_durable.specs.Kept.{CanBeFound}
 use Rattle.lfs_durable_store.specs.Keeping.{Durably, IsKept}
+use Rattle.lfs_disk_store.specs.Keeping.{IsOnDisk, OnDisk}
 use Rattle.lfs_stands.specs.declared.unfit.Unfit.{Unfit}
 use Rattle.lfs_stands.specs.declared.unfit.Unfit.TheVariants.{Lost, PastShare}
 
@@ -46,5 +47,14 @@ durable_stand = record {
   parts = λ s. s.store;
   within = IsKept;
   refuses = λ why p. (why ≡ Lost) × (CanBeFound p → ⊥);
+  takes = λ serials. serials ≡ true;
+}
+
+-- a durable store on a disk: so it is; and nothing waits, all is on the disk, and that has not failed
+abbrev pub disk_stand : {D : Type 0} → Stand (OnDisk D)
+disk_stand = record {
+  parts = λ s. s.store.store;
+  within = λ s. IsKept s.store × IsOnDisk s;
+  refuses = λ why p. ⊥;
   takes = λ serials. serials ≡ true;
 }

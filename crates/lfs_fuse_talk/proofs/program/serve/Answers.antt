@@ -10,7 +10,7 @@ use Rattle.lfs_fuse_talk.proofs.program.serve.Goals as goal
 pub returns-in_err-talked-clause-broken : goal.returns-in_err-talked-clause-broken
 returns-in_err-talked-clause-broken g c =
     let kind = kind_with (server_of g.F.FileStore.state g.F.FileStore.is_flushed g.P.Outside.time g.P.Outside.groups)
-    g.F.OverLog.stand in
+    g.F.OnLog.stand in
     let contents = g.S.File.Write.contents in
     let exit = err_from_is_err_and c.from_residual.result c.from_residual.ensures.1 in
     rw (exit.1, exit.2)
@@ -23,7 +23,7 @@ returns-in_err-talked-clause-broken g c =
 pub returns-in_err-saved-clause-broken : goal.returns-in_err-saved-clause-broken
 returns-in_err-saved-clause-broken g c =
     let kind = kind_with (server_of g.F.FileStore.state g.F.FileStore.is_flushed g.P.Outside.time g.P.Outside.groups)
-    g.F.OverLog.stand in
+    g.F.OnLog.stand in
     let contents = g.S.File.Write.contents in
     let exit = err_from_is_err_and c.from_residual-in_err-saved.result
     c.from_residual-in_err-saved.ensures.1 in
@@ -37,7 +37,7 @@ returns-in_err-saved-clause-broken g c =
 pub returns-then-is_kept-clause-served : goal.returns-then-is_kept-clause-served
 returns-then-is_kept-clause-served g c =
     let kind = kind_with (server_of g.F.FileStore.state g.F.FileStore.is_flushed g.P.Outside.time g.P.Outside.groups)
-    g.F.OverLog.stand in
+    g.F.OnLog.stand in
     let contents = g.S.File.Write.contents in
     served_all contents kind c.args.options.now c.requires.0 c.args.served
     c.talk-talked.new.answerer _ _ _ _ Partial c.in_ok-talked.talked.is_whole true true c.requires.1
@@ -48,7 +48,7 @@ returns-then-is_kept-clause-served g c =
 pub returns-clause-broken : goal.returns-clause-broken
 returns-clause-broken g c =
     let kind = kind_with (server_of g.F.FileStore.state g.F.FileStore.is_flushed g.P.Outside.time g.P.Outside.groups)
-    g.F.OverLog.stand in
+    g.F.OnLog.stand in
     let contents = g.S.File.Write.contents in
     let shut = sym c.is_open-is_kept.ensures ∙ c.if-is_kept.false in (
       shut_asked contents kind c.args.options.now c.requires.0 c.args.served c.talk-talked.new.answerer _ _ _ _ Partial

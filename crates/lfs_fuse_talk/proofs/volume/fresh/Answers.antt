@@ -14,21 +14,21 @@ unreachable-requires g c =
     let made = c.in_ok-store.ensures in
     g.met.F.OverLog.opens p c.args.options.now.serials log c.in-Err.field-0 c.requires made.laid_out made.whole
     made.ordered made.opening (enough p.segments p.inodes p.frames (λ few. no_fault _ _ (made.too_few.1 few)))
-    (err_at (λ (why : Unfit). g.F.OverLog.stand.refuses why log) c.in_ok-store-2.field-0 c.in-Err.field-0 c.in-Err.is
+    (err_at (λ (why : Unfit). g.F.OnLog.stand.refuses why log) c.in_ok-store-2.field-0 c.in-Err.field-0 c.in-Err.is
     c.in_ok-store-2.ensures.unfit)
 
 pub new-requires : goal.new-requires
 new-requires g c =
     let log = c.in_ok-store.store in
-    let on = ok_at (λ over. g.F.OverLog.stand.parts over ≡ log) c.in_ok-store-2.field-0 c.in-Ok.store c.in-Ok.is
+    let on = ok_at (λ over. g.F.OnLog.stand.parts over ≡ log) c.in_ok-store-2.field-0 c.in-Ok.store c.in-Ok.is
     c.in_ok-store-2.ensures.fit in
-    opening_over g.F.FileStore.state g.F.OverLog.stand c.in-Ok.store log (g.met.F.OverLog.contains c.in-Ok.store) on
+    opening_over g.F.FileStore.state g.F.OnLog.stand c.in-Ok.store log (g.met.F.OnLog.contains c.in-Ok.store) on
     (shows_opening_state _ _ c.in_ok-store.ensures.opening refl)
 
 pub returns-clause-begun : goal.returns-clause-begun
 returns-clause-begun g c =
     let log = c.in_ok-store.store in
-    let stand = g.F.OverLog.stand in
+    let stand = g.F.OnLog.stand in
     let over = c.in-Ok.store in
     fresh_begun g.F.FileStore.state stand c.args.options.now log over c.in_ok-volume.volume
     c.in_ok-new.field-0.tree.volume _

@@ -7,14 +7,14 @@ use Rattle.lfs_fuse_talk.proofs.volume.over.Goals as goal
 
 pub over-requires : goal.over-requires
 over-requires g c =
-    let on = ok_at (λ over. g.F.OverLog.stand.parts over ≡ c.args.store) c.in_ok-store.field-0 c.in-Ok.store c.in-Ok.is
+    let on = ok_at (λ over. g.F.OnLog.stand.parts over ≡ c.args.store) c.in_ok-store.field-0 c.in-Ok.store c.in-Ok.is
     c.in_ok-store.ensures.fit in
-    world_over g.F.FileStore.state g.F.OverLog.stand c.in-Ok.store c.args.store
-    (g.met.F.OverLog.contains c.in-Ok.store) on c.requires.loaded.world
+    world_over g.F.FileStore.state g.F.OnLog.stand c.in-Ok.store c.args.store
+    (g.met.F.OnLog.contains c.in-Ok.store) on c.requires.loaded.world
 
 pub returns-clause-begun : goal.returns-clause-begun
 returns-clause-begun g c =
-    let stand = g.F.OverLog.stand in
+    let stand = g.F.OnLog.stand in
     let over = c.in-Ok.store in
     image_begun g.F.FileStore.state stand c.args.options.now c.args.store over c.args.level c.in_ok-volume.volume
     c.in_ok-new.field-0.tree.volume _
@@ -28,6 +28,6 @@ returns-in-Err-clause-fault g c = record {
   store = c.args.store;
   level = c.args.level;
   loaded = c.requires.loaded;
-  refused = err_at (λ (why : Unfit). g.F.OverLog.stand.refuses why c.args.store) c.in_ok-store.field-0 c.in-Err.why
+  refused = err_at (λ (why : Unfit). g.F.OnLog.stand.refuses why c.args.store) c.in_ok-store.field-0 c.in-Err.why
       c.in-Err.is c.in_ok-store.ensures.unfit;
 }

@@ -10,13 +10,13 @@ use Rattle.lfs_fuse_talk.proofs.volume.save.Goals as goal
 
 pub save_file-requires : goal.save_file-requires
 save_file-requires g c =
-    let stand = g.F.OverLog.stand in
+    let stand = g.F.OnLog.stand in
     subst (λ (p : Parts). IsFlushed p) (sym (c.log_store.ensures ∙ ap stand.parts c.store.ensures))
-    (g.met.F.OverLog.rests c.flush.new.self.tree.volume.store (c.in_ok-flush.ensures.flushed (search (rules, tests))))
+    (g.met.F.OnLog.rests c.flush.new.self.tree.volume.store (c.in_ok-flush.ensures.flushed (search (rules, tests))))
 
 pub returns : goal.returns
 returns g c =
-    let stand = g.F.OverLog.stand in
+    let stand = g.F.OnLog.stand in
     let left = c.flush.new.self.tree.volume in
     let outcome = c.save_file.result in
     let at = c.log_store.ensures ∙ ap stand.parts c.store.ensures in
@@ -26,6 +26,6 @@ returns g c =
     c.save_file.ensures) in
     ok_map outcome
     (λ i. kept_below g.S.File.Write.contents g.F.FileStore.state stand c.args.mount.now.tree.volume left.store
-    left.level (g.met.F.OverLog.contains left.store)
-    (g.met.F.OverLog.rests left.store (c.in_ok-flush.ensures.flushed (search (rules, tests))))
+    left.level (g.met.F.OnLog.contains left.store)
+    (g.met.F.OnLog.rests left.store (c.in_ok-flush.ensures.flushed (search (rules, tests))))
     c.flush.ensures.shown i) image
