@@ -51,7 +51,9 @@ def escaped(text):
 
 def lines_of(source, chain):
     """The lines of a page for a program's options, with help, which each has."""
-    found = [option(source, it) for it in re.findall(r"\.arg\((\w+)\.arg\(alloc\)\)", chain)]
+    # an option that goes not with others is made by a function: that of DISK is disk_arg
+    made = re.findall(r"\.arg\((?:(\w+)\.arg\(alloc\)|(\w+)_arg\(alloc\)\?)\)", chain)
+    found = [option(source, constant or function.upper()) for constant, function in made]
     found.append(("-h, --help", "Prints help"))
     if ".version(" in chain:
         found.append(("-V, --version", "Prints version"))

@@ -1,6 +1,7 @@
-pub mod ServerLemmas
-pub mod ShellLemmas
-pub mod VolumeLemmas
-pub mod StandLemmas
+pub mod DiskLemmas
 pub mod FiledLemmas
 pub mod OptionLemmas
+pub mod ServerLemmas
+pub mod ShellLemmas
+pub mod StandLemmas
+pub mod VolumeLemmas

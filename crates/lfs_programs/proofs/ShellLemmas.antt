@@ -16,13 +16,13 @@ use Rattle.lfs_film.specs.Films.{Reel}
 use Rattle.lfs_live.specs.Faults.{IsTalkFault}
 use Rattle.lfs_live.specs.Scripts.{IsLogFault}
 use Rattle.lfs_programs.specs.Talks.{EndsAsked, EndsShell, EndsTalk, Finishes, HasBrokenOff, HasTalked, HasTalkedSoFar}
-use Rattle.lfs_programs.specs.Talks.{IsFilmOf, IsFilmed, IsShellFault, whole_with}
+use Rattle.lfs_programs.specs.Talks.{IsFilmOf, IsFilmed, IsShellFault, IsToBeKept, whole_with}
 use Rattle.lfs_programs.specs.declared.fault.ShellFault.{ShellFault}
-use Rattle.lfs_programs.specs.declared.fault.ShellFault.TheVariants.{Film, Image, Journal, Line, Talk}
+use Rattle.lfs_programs.specs.declared.fault.ShellFault.TheVariants.{Disk, Film, Image, Journal, Line, Talk}
 use Rattle.lfs_programs.specs.declared.fault.ShellFault.TheVariants.{Unfit as NoStand}
 use Rattle.lfs_programs.specs.declared.fault.ShellFault.TheVariants.{Unsaved}
 use Rattle.lfs_stands.specs.declared.unfit.Unfit.{Unfit}
-use Rattle.lfs_programs.specs.Volumes.{IsUnbegun, Kind, durable_kind, log_kind, share_kind}
+use Rattle.lfs_programs.specs.Volumes.{IsUnbegun, Kind, disk_kind, durable_kind, log_kind, share_kind}
 use Rattle.lfs_parts.specs.declared.parts.Parts.{Parts}
 use Rattle.lfs_programs.specs.declared.filming.Ending.{Ending}
 use Rattle.lfs_programs.specs.declared.filming.Heard.{Heard}
@@ -68,6 +68,7 @@ unbegun_cause refuses options (Talk run.TooLong) cause = absurd cause
 unbegun_cause refuses options (Talk run.Write) cause = absurd cause
 unbegun_cause refuses options (Talk (run.Script fault)) cause = absurd cause
 unbegun_cause refuses options (Image fault) cause = cause
+unbegun_cause refuses options (Disk fault) cause = cause
 unbegun_cause refuses options (NoStand why) cause = cause
 unbegun_cause refuses options (Film fault) cause = absurd cause
 unbegun_cause refuses options Journal cause = absurd cause
@@ -135,7 +136,7 @@ pub ends_talk : {R W D F S : Type 0} (contents : F → Option (List ℕ)) (kind 
     → IfOk heard (λ h. HasTalked contents kind options h.ending known start out)
     → IfOk heard (λ h. h.ending.is_kept ≡ true → h.ending.is_saved ≡ true → err_between ≡ err_before)
     → IfOk heard (λ h. h.ending.is_kept ≡ false → IsSome options.journal_out)
-    → IfOk heard (λ h. h.ending.is_saved ≡ false → IsSome options.image)
+    → IfOk heard (λ h. h.ending.is_saved ≡ false → IsToBeKept options)
     → IfErr heard (λ fault. fault ≡ Read → HasTalkedSoFar contents kind options known start out)
     → IfErr heard IsTalkFault
     → Finishes contents options heard outcome
@@ -167,6 +168,8 @@ ends_talk contents kind options known start out status in_before in_after out_be
     err_after (Ok heard) (Err (Image fault)) talked silent kept saved so_far cause finishes is untold = absurd finishes
 ends_talk contents kind options known start out status in_before in_after out_before out_after err_before err_between
     err_after (Ok heard) (Err (NoStand why)) talked silent kept saved so_far cause finishes is untold = absurd finishes
+ends_talk contents kind options known start out status in_before in_after out_before out_after err_before err_between
+    err_after (Ok heard) (Err (Disk fault)) talked silent kept saved so_far cause finishes is untold = absurd finishes
 ends_talk contents kind options known start out status in_before in_after out_before out_after err_before err_between
     err_after (Ok heard) (Err (Film why)) talked silent kept saved so_far cause finishes is untold =
     ends_broken contents kind options known start out status in_before in_after out_before out_after err_before err_after is
@@ -241,14 +244,17 @@ unopened contents kind options known start out here there err_before err_after n
   unmade = λ _. (inr named, refl, refl);
 }
 
-unopened_asked : {R W D F : Type 0} (contents : F → Option (List ℕ)) (shares serials : Bool) (options : ShellOptions)
-    (known start out : Option (List ℕ)) (here : R) (there : W) (err_before err_after : D) → IsSome options.script
-    → EndsAsked contents shares serials options known start out 2 here here there there err_before err_after
-unopened_asked contents true serials options known start out here there err_before err_after named =
+unopened_asked : {R W D F : Type 0} (contents : F → Option (List ℕ)) (on_disk shares serials : Bool)
+    (options : ShellOptions) (known start out : Option (List ℕ)) (here : R) (there : W) (err_before err_after : D)
+    → IsSome options.script
+    → EndsAsked contents on_disk shares serials options known start out 2 here here there there err_before err_after
+unopened_asked contents true shares serials options known start out here there err_before err_after named =
+    unopened contents (disk_kind contents) options known start out here there err_before err_after named
+unopened_asked contents false true serials options known start out here there err_before err_after named =
     unopened contents (share_kind contents) options known start out here there err_before err_after named
-unopened_asked contents false true options known start out here there err_before err_after named =
+unopened_asked contents false false true options known start out here there err_before err_after named =
     unopened contents (durable_kind contents) options known start out here there err_before err_after named
-unopened_asked contents false false options known start out here there err_before err_after named =
+unopened_asked contents false false false options known start out here there err_before err_after named =
     unopened contents (log_kind contents) options known start out here there err_before err_after named
 
 pub ends_unopened : {R W D F : Type 0} (contents : F → Option (List ℕ)) (options : ShellOptions)
@@ -257,8 +263,8 @@ pub ends_unopened : {R W D F : Type 0} (contents : F → Option (List ℕ)) (opt
 ends_unopened contents options known start out here there err_before err_after named = record {
   bytes = known;
   own = λ none. refl;
-  talk = unopened_asked contents options.shares options.serials options known start out here there err_before err_after
-      named;
+  talk = unopened_asked contents (is_some options.disk) options.shares options.serials options known start out here there
+      err_before err_after named;
 }
 
 -- a talk over another reader, of which nothing is told
@@ -277,22 +283,27 @@ ends_elsewhere contents kind options known start out status there_before there_a
       unmade = λ two. let u = ends.unmade two in (u.0, refl, u.2);
     }
 
-asked_elsewhere : {R T W D F : Type 0} (contents : F → Option (List ℕ)) (shares serials : Bool) (options : ShellOptions)
-    (known start out : Option (List ℕ)) (status : ℕ) (there_before there_after : T) (here : R)
+asked_elsewhere : {R T W D F : Type 0} (contents : F → Option (List ℕ)) (on_disk shares serials : Bool)
+    (options : ShellOptions) (known start out : Option (List ℕ)) (status : ℕ) (there_before there_after : T) (here : R)
     (out_before out_after : W) (err_before err_after : D)
-    → EndsAsked contents shares serials options known start out status there_before there_after out_before out_after
-    err_before err_after
-    → EndsAsked contents shares serials options known start out status here here out_before out_after err_before err_after
-asked_elsewhere contents true serials options known start out status there_before there_after here out_before out_after
-    err_before err_after ends =
+    → EndsAsked contents on_disk shares serials options known start out status there_before there_after out_before
+    out_after err_before err_after
+    → EndsAsked contents on_disk shares serials options known start out status here here out_before out_after err_before
+    err_after
+asked_elsewhere contents true shares serials options known start out status there_before there_after here out_before
+    out_after err_before err_after ends =
+    ends_elsewhere contents (disk_kind contents) options known start out status there_before there_after here
+    out_before out_after err_before err_after ends
+asked_elsewhere contents false true serials options known start out status there_before there_after here out_before
+    out_after err_before err_after ends =
     ends_elsewhere contents (share_kind contents) options known start out status there_before there_after here
     out_before out_after err_before err_after ends
-asked_elsewhere contents false true options known start out status there_before there_after here out_before out_after
-    err_before err_after ends =
+asked_elsewhere contents false false true options known start out status there_before there_after here out_before
+    out_after err_before err_after ends =
     ends_elsewhere contents (durable_kind contents) options known start out status there_before there_after here
     out_before out_after err_before err_after ends
-asked_elsewhere contents false false options known start out status there_before there_after here out_before out_after
-    err_before err_after ends =
+asked_elsewhere contents false false false options known start out status there_before there_after here out_before
+    out_after err_before err_after ends =
     ends_elsewhere contents (log_kind contents) options known start out status there_before there_after here
     out_before out_after err_before err_after ends
 
@@ -303,31 +314,34 @@ pub ends_file : {R T W D F : Type 0} (contents : F → Option (List ℕ)) (optio
     (known start out : Option (List ℕ)) (status : ℕ) (there_before there_after : T) (here : R)
     (out_before out_after : W) (err_before err_after : D) (bytes : Option (List ℕ))
     → true ≡ is_some options.script
-    → EndsAsked contents options.shares options.serials options bytes start out status there_before there_after
-    out_before out_after err_before err_after
+    → EndsAsked contents (is_some options.disk) options.shares options.serials options bytes start out status there_before
+    there_after out_before out_after err_before err_after
     → EndsShell contents options known start out status here here out_before out_after err_before err_after
 ends_file contents options known start out status there_before there_after here out_before out_after err_before
     err_after
     bytes named ends = record {
       bytes = bytes;
       own = λ none. let other : true ≡ false = rw none at named in absurd (cc);
-      talk = asked_elsewhere contents options.shares options.serials options bytes start out status there_before
-          there_after here out_before out_after err_before err_after ends;
+      talk = asked_elsewhere contents (is_some options.disk) options.shares options.serials options bytes start out status
+          there_before there_after here out_before out_after err_before err_after ends;
     }
 
 -- ---- over which kind of store
 
 -- the one that is asked for
-pub ends_asked : {R W D F : Type 0} (contents : F → Option (List ℕ)) (shares serials : Bool) (options : ShellOptions)
-    (known start out : Option (List ℕ)) (status : ℕ) (in_before in_after : R) (out_before out_after : W)
-    (err_before err_after : D) → options.shares ≡ shares → options.serials ≡ serials
-    → EndsAsked contents shares serials options known start out status in_before in_after out_before out_after
+pub ends_asked : {R W D F : Type 0} (contents : F → Option (List ℕ)) (on_disk shares serials : Bool)
+    (options : ShellOptions) (known start out : Option (List ℕ)) (status : ℕ) (in_before in_after : R)
+    (out_before out_after : W) (err_before err_after : D) → is_some options.disk ≡ on_disk → options.shares ≡ shares
+    → options.serials ≡ serials
+    → EndsAsked contents on_disk shares serials options known start out status in_before in_after out_before out_after
     err_before err_after
-    → EndsAsked contents options.shares options.serials options known start out status in_before in_after out_before
-    out_after err_before err_after
-ends_asked contents shares serials options known start out status in_before in_after out_before out_after err_before
-    err_after shared told ends =
-    subst (λ (b : Bool). EndsAsked contents b options.serials options known start out status in_before in_after
+    → EndsAsked contents (is_some options.disk) options.shares options.serials options known start out status in_before
+    in_after out_before out_after err_before err_after
+ends_asked contents on_disk shares serials options known start out status in_before in_after out_before out_after
+    err_before err_after disk shared told ends =
+    subst (λ (b : Bool). EndsAsked contents b options.shares options.serials options known start out status in_before
+    in_after out_before out_after err_before err_after) (sym disk)
+    (subst (λ (b : Bool). EndsAsked contents on_disk b options.serials options known start out status in_before in_after
     out_before out_after err_before err_after) (sym shared)
-    (subst (λ (b : Bool). EndsAsked contents shares b options known start out status in_before in_after
-    out_before out_after err_before err_after) (sym told) ends)
+    (subst (λ (b : Bool). EndsAsked contents on_disk shares b options known start out status in_before in_after
+    out_before out_after err_before err_after) (sym told) ends))

@@ -26,7 +26,13 @@ use Rattle.lfs_programs.specs.declared.options.ShellOptions.{ShellOptions}
 begun_empty : {S : Type 0} (kind : Kind S) (options : ShellOptions) (v : Seen S) → BeginsAs kind options v → v.journal ≡ []
 begun_empty kind options v begin = elim begin.1 [
   | inl fresh ↦ fresh.empty
-  | inr image ↦ image.1.empty
+  | inr other ↦ elim other [
+    | inl image ↦ image.1.empty
+    | inr disk ↦ elim disk.1 [
+      | inl laid_out ↦ laid_out.empty
+      | inr found ↦ found.empty
+    ]
+  ]
 ]
 
 never_both : (b : Bool) → b ≡ true → b ≡ false → ⊥
@@ -46,7 +52,7 @@ heard_since {F} {J} {S} contents kind sink options ending volume j manner old ne
 pub heard_shown : {F J S : Type 0} (contents : F → Option (List ℕ)) (kind : Kind S) (sink : Sink J) (options : ShellOptions)
     (ending : Ending) (old shown after new : Held S J) (known left start out : Option (List ℕ)) → shown ≡ old
     → (HasBegun shown → IsKeptTalk kind.talker options.framing sink shown after ending.has_fault known left start out)
-    → IsKept contents kind options ending.is_saved after.volume → new ≡ record after { volume = new.volume }
+    → IsKept contents kind options ending.is_saved after.volume new.volume → new ≡ record after { volume = new.volume }
     → HasBegun old → HasHeard contents kind sink options ending old new known left start out
 heard_shown {F} {J} {S} contents kind sink options ending old shown after new known left start out is talk saved same =
     λ begun. record {
@@ -83,6 +89,7 @@ talked_alone {F} {J} {S} contents kind sink options ending volume j old new know
         new = course_of h.after h.talk.handed h.talk.answers;
         begun = begin;
         talk = h.talk.talk;
+        end = new.volume;
         saved = h.saved;
         faulty = h.talk.faulty;
       };
@@ -120,6 +127,7 @@ talked_filed {F} {J} {S} contents kind sink of options is_kept ending volume j o
             (subst (λ (b : Option (List ℕ)). IsJournalOf (sink.next j) (sink.contents j) b entries)
             (holds h.after.sink)
             (h.talk.kept (sym taking_on ∙ taking)).lines));
+        end = new.volume;
         saved = h.saved;
         faulty = h.talk.faulty;
       };

@@ -12,7 +12,8 @@ use Rattle.lfs_audit.specs.declared.fault.RunFault.TheVariants.{Read}
 use Rattle.lfs_live.specs.Held.{Course, Held, Sink}
 use Rattle.lfs_live.specs.Scripts.{IsJournalOf, IsLogFault, Manner, begins_with}
 use Rattle.lfs_live.specs.Talking.{HasHeardSoFar, IsKeptTalk, IsTalk, has_fault_in}
-use Rattle.lfs_programs.specs.Volumes.{HasSaved, IsBegun, IsUnfit, Kind, durable_kind, log_kind, share_kind}
+use Rattle.lfs_programs.specs.Volumes.{HasSaved, IsBegun, IsUnfit, IsWritten, Kind, disk_kind, durable_kind, log_kind}
+use Rattle.lfs_programs.specs.Volumes.{share_kind}
 use Rattle.lfs_parts.specs.declared.parts.Parts.{Parts}
 use Rattle.lfs_volume.specs.Seen.{Seen}
 use Rattle.lfs_command.specs.Ends.{EndsUnasked}
@@ -20,7 +21,7 @@ use Rattle.lfs_programs.specs.declared.fault.FilmFault.{FilmFault}
 use Rattle.lfs_programs.specs.declared.fault.ShellFault.{ShellFault}
 use Rattle.lfs_programs.specs.declared.filming.Ending.{Ending}
 use Rattle.lfs_programs.specs.declared.filming.Heard.{Heard}
-use Rattle.lfs_programs.specs.declared.fault.ShellFault.TheVariants.{Film, Image, Journal, Line, Talk}
+use Rattle.lfs_programs.specs.declared.fault.ShellFault.TheVariants.{Disk, Film, Image, Journal, Line, Talk}
 use Rattle.lfs_programs.specs.declared.fault.ShellFault.TheVariants.{Unfit as NoStand}
 use Rattle.lfs_programs.specs.declared.fault.ShellFault.TheVariants.{Unsaved}
 use Rattle.lfs_stands.specs.declared.unfit.Unfit.{Unfit}
@@ -31,10 +32,11 @@ abbrev pub manner_of : ShellOptions → Bool → Manner
 manner_of options is_open =
     record { is_open = is_open; cleans = options.cleans; framing = options.framing }
 
--- the volume that a talk left is kept in a file, where an image is asked for
-abbrev pub IsKept : {F S : Type 0} → (F → Option (List ℕ)) → Kind S → ShellOptions → Bool → Seen S → Type 0
-IsKept contents kind options is_saved left =
+-- the volume that a talk left is kept in a file, where an image is asked for, and in the end on its disk, where one is
+abbrev pub IsKept : {F S : Type 0} → (F → Option (List ℕ)) → Kind S → ShellOptions → Bool → Seen S → Seen S → Type 0
+IsKept contents kind options is_saved left end =
     is_saved ≡ true → IfSome options.image (λ _. HasSaved contents kind.talker.cleaner.state left)
+    × IfSome options.disk (λ _. IsWritten kind.talker.cleaner left end)
 
 -- a volume over a kind of store begins as it is asked for
 abbrev pub BeginsAs : {S : Type 0} → Kind S → ShellOptions → Seen S → Type 0
@@ -46,7 +48,7 @@ pub record HasHeard {F J S : Type 0} (contents : F → Option (List ℕ)) (kind 
     : Type 0 where
   pub after : Held S J
   pub talk : IsKeptTalk kind.talker options.framing sink old after ending.has_fault known left start out
-  pub saved : IsKept contents kind options ending.is_saved after.volume
+  pub saved : IsKept contents kind options ending.is_saved after.volume new.volume
   pub same : new ≡ record after { volume = new.volume }
 
 -- The bytes of a reader were talked about up to the end of the talk, with all entries in memory, and the volume was
@@ -57,7 +59,8 @@ pub record HasAnswered {F S : Type 0} (contents : F → Option (List ℕ)) (kind
   pub new : Course S
   pub begun : BeginsAs kind options old
   pub talk : IsTalk kind.talker options.framing (begins_with old (manner_of options false)) new known left start out
-  pub saved : IsKept contents kind options ending.is_saved new.volume
+  pub end : Seen S
+  pub saved : IsKept contents kind options ending.is_saved new.volume end
   pub faulty : ending.has_fault ≡ has_fault_in talk.heard
 
 -- The same, and a file's bytes, where they are known, grew by the lines of all entries of the talk, numbered from 1 on,
@@ -72,7 +75,8 @@ pub record HasFiled {F S : Type 0} (contents : F → Option (List ℕ)) (kind : 
   pub after : F
   pub kept : ending.is_kept ≡ true
       → IsJournalOf 1 (contents before) (contents after) (new.handed ++ new.volume.journal)
-  pub saved : IsKept contents kind options ending.is_saved new.volume
+  pub end : Seen S
+  pub saved : IsKept contents kind options ending.is_saved new.volume end
   pub faulty : ending.has_fault ≡ has_fault_in talk.heard
 
 -- The bytes of a reader were talked about up to the end of the talk: with all entries in memory, or with a file of the
@@ -112,15 +116,20 @@ abbrev pub IsFilmOf : {F : Type 0} → (F → Option (List ℕ)) → Option Reel
 IsFilmOf contents None = ⊥
 IsFilmOf contents (Some reel) = HasPage contents reel
 
--- a talk may end in this fault: that of the talk or of its beginning; one of a film, a journal or an image only where
--- such a file is asked for; and one of a line only where that is asked for
+-- what a talk leaves is to be kept: in the file of an image, or on a disk
+abbrev pub IsToBeKept : ShellOptions → Type 0
+IsToBeKept options = IsSome options.image ⊎ IsSome options.disk
+
+-- a talk may end in this fault: that of the talk or of its beginning; one of a film, a journal, an image or a disk only
+-- where such a file is asked for; and one of a line only where that is asked for
 abbrev pub IsShellFault : (Unfit → Parts → Type 0) → ShellOptions → ShellFault → Type 0
 IsShellFault refuses options (Talk fault) = IsLogFault options.params.segments options.params.inodes options.params.frames fault
 IsShellFault refuses options (Film fault) = IsSome options.film
 IsShellFault refuses options Journal = IsSome options.journal_out
 IsShellFault refuses options (Image fault) = IsSome options.image
 IsShellFault refuses options (NoStand why) = IsUnfit refuses options why
-IsShellFault refuses options Unsaved = IsSome options.image
+IsShellFault refuses options (Disk fault) = IsSome options.disk
+IsShellFault refuses options Unsaved = IsToBeKept options
 IsShellFault refuses options Line = options.strict ≡ true
 
 -- A talk's outcome, with what it has besides: the talk's fault; or its film's, whose page is written where it is done; or
@@ -135,6 +144,7 @@ Finishes contents options (Ok heard) (Ok done) =
 Finishes contents options (Ok heard) (Err (Talk fault)) = ⊥
 Finishes contents options (Ok heard) (Err (Image fault)) = ⊥
 Finishes contents options (Ok heard) (Err (NoStand why)) = ⊥
+Finishes contents options (Ok heard) (Err (Disk fault)) = ⊥
 Finishes contents options (Ok heard) (Err (Film fault)) = IsSome options.film
 Finishes contents options (Ok heard) (Err Journal) = heard.ending.is_kept ≡ false
 Finishes contents options (Ok heard) (Err Unsaved) = (heard.ending.is_kept ≡ true) × (heard.ending.is_saved ≡ false)
@@ -162,9 +172,9 @@ abbrev pub NeedsFile : ShellOptions → Type 0
 NeedsFile options = IsSome options.journal_out ⊎ IsSome options.script
 
 -- A program that was asked for a talk ends with this status: 0 where it has its end, a file of the journal that is
--- asked for has each entry, the volume is kept in a file where an image is asked for, a film that is asked for is
--- written to a file, none of the lines that were heard has a fault where that is asked for, and nothing is told; 2
--- where a file that is needed before could not be opened, and then nothing is read; else 1.
+-- asked for has each entry, the volume is kept in a file where an image is asked for, and on its disk where one is, a film
+-- that is asked for is written to a file, none of the lines that were heard has a fault where that is asked for, and nothing
+-- is told; 2 where a file that is needed before could not be opened, and then nothing is read; else 1.
 pub record EndsTalk {R W D F S : Type 0} (contents : F → Option (List ℕ)) (kind : Kind S) (options : ShellOptions)
     (known start out : Option (List ℕ)) (status : ℕ) (in_before in_after : R) (out_before out_after : W)
     (err_before err_after : D) : Type 0 where
@@ -175,13 +185,14 @@ pub record EndsTalk {R W D F S : Type 0} (contents : F → Option (List ℕ)) (k
   pub failed : status ≡ 1 → HasBrokenOff contents kind options known start out
   pub unmade : status ≡ 2 → NeedsFile options × (in_after ≡ in_before) × (out_after ≡ out_before)
 
--- the same over the kind of store that is asked for: one with a share; else a durable one, where serials are asked for;
--- else the log store
-abbrev pub EndsAsked : {R W D F : Type 0} → (F → Option (List ℕ)) → Bool → Bool → ShellOptions → Option (List ℕ)
+-- the same over the kind of store that is asked for: one on a disk; else one with a share; else a durable one, where serials
+-- are asked for; else the log store
+abbrev pub EndsAsked : {R W D F : Type 0} → (F → Option (List ℕ)) → Bool → Bool → Bool → ShellOptions → Option (List ℕ)
     → Option (List ℕ) → Option (List ℕ) → ℕ → R → R → W → W → D → D → Type 0
-EndsAsked contents true serials = EndsTalk contents (share_kind contents)
-EndsAsked contents false true = EndsTalk contents (durable_kind contents)
-EndsAsked contents false false = EndsTalk contents (log_kind contents)
+EndsAsked contents true shares serials = EndsTalk contents (disk_kind contents)
+EndsAsked contents false true serials = EndsTalk contents (share_kind contents)
+EndsAsked contents false false true = EndsTalk contents (durable_kind contents)
+EndsAsked contents false false false = EndsTalk contents (log_kind contents)
 
 -- the same of the lines that were asked for, which are the reader's where no file is named
 pub record EndsShell {R W D F : Type 0} (contents : F → Option (List ℕ)) (options : ShellOptions)
@@ -189,8 +200,8 @@ pub record EndsShell {R W D F : Type 0} (contents : F → Option (List ℕ)) (op
     (err_before err_after : D) : Type 0 where
   pub bytes : Option (List ℕ)
   pub own : options.script ≡ None → bytes ≡ known
-  pub talk : EndsAsked contents options.shares options.serials options bytes start out status in_before in_after
-      out_before out_after err_before err_after
+  pub talk : EndsAsked contents (is_some options.disk) options.shares options.serials options bytes start out status
+      in_before in_after out_before out_after err_before err_after
 
 -- `lfs_shell` ends with this status by what it was asked for: options whose numbers are in their ranges, as a talk
 -- ends, or else nothing is read

@@ -3,6 +3,7 @@
 use lfs_audit::fault::{RunFault, ThreadsFault};
 use lfs_audit::undone::Undone;
 use lfs_checking::fault::KeepFault;
+use lfs_disk_start::StartFault;
 use lfs_stands::Unfit;
 use lfs_types::fault::FormatFault;
 use std::io::ErrorKind;
@@ -23,15 +24,33 @@ pub enum ShellFault {
     /// No volume was loaded from the image's file, and nothing is read.
     #[error("{0}")]
     Image(KeepFault),
+    /// No store stands on the disk's file, and nothing is read.
+    #[error("{0}")]
+    Disk(StartFault),
     /// The store that is asked for may not stand on the log of the image's volume, and nothing is read.
     #[error("{0}")]
     Unfit(Unfit),
-    /// All was answered, and the volume is not kept in the image's file, which was told by then.
-    #[error("image not saved")]
+    /// All was answered, and the volume is not kept in the image's file, or not all of it on its disk, which was told by
+    /// then.
+    #[error("volume not kept")]
     Unsaved,
     /// All was answered, and a line has a fault, which was told as its answer.
     #[error("a line has a fault")]
     Line,
+}
+
+/// Why what a talk left of a volume is not kept.
+#[derive(Clone, Copy, PartialEq, Eq, Debug, Error)]
+pub enum UnkeptFault {
+    /// It has no image in its file.
+    #[error("{0}")]
+    Image(KeepFault),
+    /// The last changes are not sure to be on its disk.
+    #[error("disk: not all is written")]
+    Disk,
+    /// A growth was refused.
+    #[error("no memory")]
+    Memory,
 }
 
 /// Why a film is not in its file. What stood there by then is left as it was.

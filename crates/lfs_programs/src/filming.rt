@@ -6,7 +6,7 @@ ghost use Rattle.lfs_live.specs.Faults.{IsTalkFault};
 ghost use Rattle.lfs_live.specs.Held.{HasBegun, sink_of};
 ghost use Rattle.lfs_live.specs.Talking.{HasKeptSoFar};
 ghost use Rattle.lfs_programs.specs.Talks.{Finishes, HasHeard, HasPage, HasTalked, HasTalkedSoFar};
-ghost use Rattle.lfs_programs.specs.Talks.{IsFilmOf};
+ghost use Rattle.lfs_programs.specs.Talks.{IsFilmOf, IsToBeKept};
 ghost use Rattle.lfs_live.specs.Talkers.{texts_of};
 ghost use Rattle.lfs_programs.specs.Volumes.{IsBegun, kind_of};
 ghost use Rattle.lfs_volume.specs.Cleanings.{cleaner_of};
@@ -24,7 +24,7 @@ use lfs_live::tended::Tended;
 use lfs_live::watch::{Watch, WatchFault};
 use lfs_live::witnesses::{Teller, Witnesses};
 use lfs_sinks::sink::{JournalSink, LineSink, Nowhere};
-use lfs_stands::OverLog;
+use lfs_stands::OnLog;
 use lfs_types::level::Level;
 use lfs_volume::volume::Volume;
 use std::alloc::{AllocError, Global};
@@ -49,7 +49,7 @@ pub(crate) struct Filming<'a, F: Files> {
     image: Option<&'a str>,
 }
 
-impl<S: OverLog, F: Files> Watch<S> for Filming<'_, F> {
+impl<S: OnLog, F: Files> Watch<S> for Filming<'_, F> {
     ghost use Rattle.lfs_checking.specs.Files.{HasImage};
 
     ghost kept = { λ store level. HasImage F.File.contents (S.stand.parts store).log level };
@@ -97,7 +97,7 @@ fn filming_of<'a, F: Files>(means: &Means<'a, F, ShellOptions<'a>>) -> Filming<'
 
 /// What a talk begins with.
 #[derive(Drop)]
-pub(crate) struct Outset<S: OverLog + Drop, F: Drop> {
+pub(crate) struct Outset<S: OnLog + Drop, F: Drop> {
     /// The volume.
     pub(crate) volume: Volume<S>,
     /// The file of the journal, where one is asked for.
@@ -109,7 +109,7 @@ pub(crate) struct Outset<S: OverLog + Drop, F: Drop> {
 pub(crate) struct Ending {
     /// Whether the file of the journal, where there is one, has each entry.
     pub(crate) is_kept: bool,
-    /// Whether the volume is kept in the image's file, where one is asked for.
+    /// Whether the volume is kept in the image's file, where one is asked for, and on its disk, where it has one.
     pub(crate) is_saved: bool,
     /// Whether a line had a fault.
     pub(crate) has_fault: bool,
@@ -130,7 +130,7 @@ pub(crate) struct Heard {
 /// # Errors
 ///
 /// The talk's fault.
-pub(crate) fn hear<S: OverLog + Drop, F: Files, R: Read, W: Write, D: Write>(
+pub(crate) fn hear<S: OnLog + Drop, F: Files, R: Read, W: Write, D: Write>(
     means: &Means<'_, F, ShellOptions<'_>>,
     outset: Outset<S, F::File>,
     reader: &mut R,
@@ -149,7 +149,7 @@ pub(crate) fn hear<S: OverLog + Drop, F: Files, R: Read, W: Write, D: Write>(
     ensures kept { IfOk result (λ heard. heard.ending.is_kept ≡ false
         → IsSome means.now.options.journal_out) }
     ensures saved { IfOk result (λ heard. heard.ending.is_saved ≡ false
-        → IsSome means.now.options.image) }
+        → IsToBeKept means.now.options) }
     ensures so_far { let kind = kind_of F.File.contents
         (cleaner_of S.state S.is_flushed S.made S.cleaner)
         (texts_of S.map_text S.segment_text S.space_text) S.checked S.stand in
@@ -201,7 +201,7 @@ pub(crate) fn hear<S: OverLog + Drop, F: Files, R: Read, W: Write, D: Write>(
 /// # Errors
 ///
 /// The talk's fault.
-fn hear_over<S: OverLog + Drop, F: Files, J: JournalSink + Drop, R: Read, W: Write, D: Write>(
+fn hear_over<S: OnLog + Drop, F: Files, J: JournalSink + Drop, R: Read, W: Write, D: Write>(
     means: &Means<'_, F, ShellOptions<'_>>,
     tended: &mut Tended<S, J, Filming<'_, F>>,
     reader: &mut R,
@@ -221,7 +221,7 @@ fn hear_over<S: OverLog + Drop, F: Files, J: JournalSink + Drop, R: Read, W: Wri
     ensures opened { OnOk result (tended.new.is_open ≡ true → tended.old.is_open ≡ true) }
     ensures kept { IfOk result (λ ending. ending.is_kept ≡ true) }
     ensures saved { IfOk result (λ ending. ending.is_saved ≡ false
-        → IsSome means.now.options.image) }
+        → IsToBeKept means.now.options) }
     ensures so_far { let kind = kind_of F.File.contents
         (cleaner_of S.state S.is_flushed S.made S.cleaner)
         (texts_of S.map_text S.segment_text S.space_text) S.checked S.stand in

@@ -5,6 +5,7 @@ pub mod fault;
 mod filed;
 mod filming;
 mod journal;
+mod on_disk;
 pub mod options;
 mod script;
 pub mod server;

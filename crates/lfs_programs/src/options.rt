@@ -6,7 +6,7 @@ ghost use Rattle.lfs_command.specs.Ends.{IsRefusal};
 ghost use Rattle.lfs_command.specs.Ranges.{IsBetween};
 ghost use Rattle.lfs_programs.specs.Ranges.{IsInRange};
 
-use clap::{ArgMatches, Command, Error};
+use clap::{Arg, ArgMatches, Command, Error};
 use lfs_command::flags::{FlagOption, SERIALS};
 use lfs_command::numbers::NumberOption;
 use lfs_command::operands::Operand;
@@ -88,6 +88,13 @@ const SHELL_JOURNAL_OUT: TextOption = TextOption {
 const SHARE: FlagOption = FlagOption {
     name: "share",
     help: "Refuses what would take more than a share of the volume, so that cleaning always makes room for all else",
+};
+
+/// The option of `lfs_shell` for the file of a disk.
+const DISK: TextOption = TextOption {
+    name: "disk",
+    value: "FILE",
+    help: "Has the volume on the disk that FILE is, or on a new one; what was synced is found there again, also after a crash",
 };
 
 /// The option of `lfs_shell` for passes of the cleaner that nobody asks for.
@@ -218,6 +225,8 @@ pub struct ShellOptions<'a> {
     pub script: Option<&'a str>,
     /// The file that the volume is loaded from, where there is one, and in which it is kept at the end.
     pub image: Option<&'a str>,
+    /// The file of the disk that the volume stands on, where one is asked for.
+    pub disk: Option<&'a str>,
     /// Whether the summaries of a fresh volume have serials, so that it can be found again from its blocks alone.
     pub serials: bool,
     /// Whether the files may take no more than a share of the volume, so that cleaning always makes room again.
@@ -258,6 +267,7 @@ pub fn shell_options_of<'a, S: AsStr>(
                 journal_out,
                 script: SCRIPT.text(&matches),
                 image: IMAGE.text(&matches),
+                disk: DISK.text(&matches),
                 serials: matches.get_flag(SERIALS.name),
                 shares: matches.get_flag(SHARE.name),
                 strict: matches.get_flag(STRICT.name),
@@ -317,6 +327,7 @@ fn shell_command<'a>(alloc: Global) -> Result<Command<'a>, AllocError> {
         .arg(SHELL_JOURNAL.arg(alloc))?
         .arg(SHELL_JOURNAL_OUT.arg(alloc))?
         .arg(IMAGE.arg(alloc))?
+        .arg(disk_arg(alloc)?)?
         .arg(SERIALS.arg(alloc))?
         .arg(SHARE.arg(alloc))?
         .arg(CLEAN.arg(alloc))?
@@ -324,6 +335,15 @@ fn shell_command<'a>(alloc: Global) -> Result<Command<'a>, AllocError> {
         .arg(STRICT.arg(alloc))?
         .arg(FRAMED.arg(alloc))?
         .arg(SCRIPT.arg(alloc))
+}
+
+/// The option for the file of a disk, which goes with none for another kind of volume: on a disk each has serials, and
+/// cleaning makes room by no share.
+fn disk_arg<'a>(alloc: Global) -> Result<Arg<'a>, AllocError> {
+    DISK.arg(alloc)
+        .conflicts_with(IMAGE.name)?
+        .conflicts_with(SERIALS.name)?
+        .conflicts_with(SHARE.name)
 }
 
 /// How answers are framed, by the option for it.

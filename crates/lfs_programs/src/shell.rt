@@ -7,14 +7,15 @@ ghost use Rattle.lfs_command.specs.Ends.{EndsUnasked};
 ghost use Rattle.lfs_audit.specs.declared.fault.RunFault.TheVariants.{Read as Failed};
 ghost use Rattle.lfs_live.specs.Faults.{IsTalkFault};
 ghost use Rattle.lfs_live.specs.Talkers.{texts_of};
-ghost use Rattle.lfs_programs.specs.Volumes.{IsBegun, kind_of};
+ghost use Rattle.lfs_programs.specs.Volumes.{IsBegun, disk_kind, kind_of};
 ghost use Rattle.lfs_programs.specs.Talks.{EndsAsked, EndsShell, EndsTalk, HasTalked, HasTalkedSoFar};
-ghost use Rattle.lfs_programs.specs.Talks.{IsShellEnd};
+ghost use Rattle.lfs_programs.specs.Talks.{IsShellEnd, IsToBeKept};
 ghost use Rattle.lfs_volume.specs.Cleanings.{cleaner_of};
 
 use crate::fault::{OpenFault, ShellFault};
 use crate::filming::{Heard, NAME, Outset, finish, hear};
 use crate::journal::make_journal;
+use crate::on_disk::begin_on;
 use crate::options::{ShellOptions, shell_options_of};
 use crate::script::open_script;
 use crate::volume::begin;
@@ -28,11 +29,12 @@ use lfs_durable_store::DurableStore;
 use lfs_io::tell::{end, tell};
 use lfs_logstore::LogStore;
 use lfs_share::SharedStore;
-use lfs_stands::OverLog;
+use lfs_stands::{OnLog, OverLog};
 use lfs_volume::volume::Volume;
 use std::alloc::Global;
 use std::env::Env;
 use std::io::{BufReader, Read, Write};
+use std::os::unix::fs::FileExt;
 use std::rt::Files;
 
 /// Does what the arguments of an environment ask `lfs_shell` for, and gives the status with which it ends: 0 for a talk
@@ -43,6 +45,7 @@ pub fn lfs_shell<E, F, R, W, D>(env: &E, files: &F, streams: &mut Streams<R, W, 
 where
     E: Env + AllocGlobal,
     F: Files,
+    F::File: FileExt,
     R: Read,
     W: Write,
     D: Write,
@@ -66,6 +69,7 @@ pub fn converse<F, R, W, D>(
 ) -> u8
 where
     F: Files,
+    F::File: FileExt,
     R: Read,
     W: Write,
     D: Write,
@@ -96,6 +100,7 @@ where
 fn talk_of<F, R, W, D>(means: &Means<'_, F, ShellOptions<'_>>, streams: &mut Streams<R, W, D>) -> u8
 where
     F: Files,
+    F::File: FileExt,
     R: Read,
     W: Write,
     D: Write,
@@ -129,20 +134,48 @@ fn talk_over<F, R, W, D>(
 ) -> u8
 where
     F: Files,
+    F::File: FileExt,
     R: Read,
     W: Write,
     D: Write,
-    ensures { EndsAsked F.File.contents means.now.options.shares means.now.options.serials
-        means.now.options
+    ensures { EndsAsked F.File.contents (is_some means.now.options.disk) means.now.options.shares
+        means.now.options.serials means.now.options
         (R.remaining reader.old) (W.contents stdout.old) (W.contents stdout.new)
         result reader.old reader.new stdout.old stdout.new stderr.old stderr.new }
 {
-    if means.options.shares {
+    if let Some(path) = means.options.disk {
+        talk_on_disk(means, path, reader, stdout, stderr)
+    } else if means.options.shares {
         talk_in::<SharedStore, F, R, W, D>(means, reader, stdout, stderr)
     } else if means.options.serials {
         talk_in::<DurableStore, F, R, W, D>(means, reader, stdout, stderr)
     } else {
         talk_in::<LogStore, F, R, W, D>(means, reader, stdout, stderr)
+    }
+}
+
+/// The same on the disk that the file of this path is.
+fn talk_on_disk<F, R, W, D>(
+    means: &Means<'_, F, ShellOptions<'_>>,
+    path: &str,
+    reader: &mut R,
+    stdout: &mut W,
+    stderr: &mut D,
+) -> u8
+where
+    F: Files,
+    F::File: FileExt,
+    R: Read,
+    W: Write,
+    D: Write,
+    requires { IsSome means.now.options.disk }
+    ensures { EndsTalk F.File.contents (disk_kind F.File.contents) means.now.options
+        (R.remaining reader.old) (W.contents stdout.old) (W.contents stdout.new)
+        result reader.old reader.new stdout.old stdout.new stderr.old stderr.new }
+{
+    match begin_on(means.files, means.alloc, path, &means.options) {
+        Ok(volume) => talk_on(means, volume, reader, stdout, stderr),
+        Err(fault) => end_talk(stderr, Err(fault)),
     }
 }
 
@@ -182,7 +215,7 @@ fn talk_on<S, F, R, W, D>(
     stderr: &mut D,
 ) -> u8
 where
-    S: OverLog + Drop,
+    S: OnLog + Drop,
     F: Files,
     R: Read,
     W: Write,
@@ -227,7 +260,8 @@ fn open_journal<F: Files>(files: &F, path: Option<&str>) -> Result<Option<F::Fil
     }
 }
 
-/// The status of a talk, whose fault is told, but for one of the journal's or the image's file, which was told by then.
+/// The status of a talk, whose fault is told, but for one of the journal's file or of what keeps the volume, which was told
+/// by then.
 fn end_talk<D: Write>(stderr: &mut D, outcome: Result<(), ShellFault>) -> u8
     ensures status { MatchResult outcome (λ _. result ≡ 0) (λ _. result ≡ 1) }
     ensures silent { IfOk outcome (λ _. stderr.new ≡ stderr.old) }
@@ -243,7 +277,7 @@ fn end_talk<D: Write>(stderr: &mut D, outcome: Result<(), ShellFault>) -> u8
 /// # Errors
 ///
 /// The talk's fault; `Memory` where there is none for the pieces.
-fn run<S: OverLog + Drop, F: Files, R: Read, W: Write, D: Write>(
+fn run<S: OnLog + Drop, F: Files, R: Read, W: Write, D: Write>(
     means: &Means<'_, F, ShellOptions<'_>>,
     outset: Outset<S, F::File>,
     reader: &mut R,
@@ -262,7 +296,7 @@ fn run<S: OverLog + Drop, F: Files, R: Read, W: Write, D: Write>(
     ensures kept { IfOk result (λ heard. heard.ending.is_kept ≡ false
         → IsSome means.now.options.journal_out) }
     ensures saved { IfOk result (λ heard. heard.ending.is_saved ≡ false
-        → IsSome means.now.options.image) }
+        → IsToBeKept means.now.options) }
     ensures so_far { let kind = kind_of F.File.contents
         (cleaner_of S.state S.is_flushed S.made S.cleaner)
         (texts_of S.map_text S.segment_text S.space_text) S.checked S.stand in

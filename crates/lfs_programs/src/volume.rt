@@ -3,9 +3,11 @@
 ghost use Rattle.std.specs.Prelude.{◌≡◌, false, true, IfErr, IfOk, IfSome, IsSome, OnOk};
 ghost use Rattle.lfs_checking.specs.Files.{IsLoaded};
 ghost use Rattle.lfs_server.specs.Fresh.{IsFormatFault};
-ghost use Rattle.lfs_programs.specs.Volumes.{HasSaved, IsBegun, IsFresh, IsUnbegun};
+ghost use Rattle.lfs_programs.specs.Talks.{IsToBeKept};
+ghost use Rattle.lfs_programs.specs.Volumes.{HasSaved, IsBegun, IsFresh, IsUnbegun, IsWritten};
+ghost use Rattle.lfs_volume.specs.Cleanings.{cleaner_of};
 
-use crate::fault::ShellFault;
+use crate::fault::{ShellFault, UnkeptFault};
 use crate::filming::NAME;
 use crate::options::ShellOptions;
 use lfs_audit::fault::RunFault;
@@ -16,7 +18,7 @@ use lfs_io::tell::tell;
 use lfs_live::tended::Tended;
 use lfs_logstore::LogStore;
 use lfs_sinks::sink::JournalSink;
-use lfs_stands::OverLog;
+use lfs_stands::{OnLog, OverLog};
 use lfs_types::fault::FormatFault;
 use lfs_types::level::Level;
 use lfs_volume::volume::Volume;
@@ -72,7 +74,7 @@ fn laid_out<S: OverLog + Drop>(
 ) -> Result<Volume<S>, FormatFault>
     requires { S.stand.takes options.now.serials }
     ensures within { IfOk result (λ volume. S.stand.within volume.store) }
-    ensures begun { IfOk result (IsFresh S.state S.stand options.now) }
+    ensures begun { IfOk result (IsFresh S.state S.stand options.now.serials options.now) }
     ensures fault { IfErr result (IsFormatFault
         options.now.params.segments options.now.params.inodes options.now.params.frames) }
 {
@@ -117,9 +119,9 @@ fn over<S: OverLog + Drop>(
     }
 }
 
-/// Keeps the volume that a talk left in the image's file, where one is asked for. Whether it is kept there; why not is
-/// told.
-pub(crate) fn keep<S: OverLog + Drop, F: Files, J: JournalSink + Drop, V: Drop, D: Write>(
+/// Keeps the volume that a talk left in the image's file, where one is asked for, and on its disk, where it has one. Whether
+/// it is kept there; why not is told.
+pub(crate) fn keep<S: OnLog + Drop, F: Files, J: JournalSink + Drop, V: Drop, D: Write>(
     files: &F,
     alloc: Global,
     teller: &mut D,
@@ -128,14 +130,17 @@ pub(crate) fn keep<S: OverLog + Drop, F: Files, J: JournalSink + Drop, V: Drop, 
 ) -> bool
     ensures saved { result ≡ true
         → IfSome options.now.image (λ _. HasSaved F.File.contents S.state tended.old.volume) }
+    ensures written { let cleaner = cleaner_of S.state S.is_flushed S.made S.cleaner in
+        result ≡ true → IfSome options.now.disk
+        (λ _. IsWritten cleaner tended.old.volume tended.new.volume) }
     ensures silent { result ≡ true → teller.new ≡ teller.old }
-    ensures asked { result ≡ false → IsSome options.now.image }
+    ensures asked { result ≡ false → IsToBeKept options.now }
     ensures same { tended.new ≡ record tended.old { volume = tended.new.volume } }
 {
-    let Some(path) = options.image else {
+    if options.image.is_none() && options.disk.is_none() {
         return true;
-    };
-    match save(files, alloc, tended, path) {
+    }
+    match save(files, alloc, tended, options) {
         Ok(()) => true,
         Err(fault) => {
             let _ = tell(teller, NAME, &fault);
@@ -144,19 +149,39 @@ pub(crate) fn keep<S: OverLog + Drop, F: Files, J: JournalSink + Drop, V: Drop, 
     }
 }
 
-/// Writes what waits, and saves the volume in a file.
-fn save<S: OverLog + Drop, F: Files, J: JournalSink + Drop, V: Drop>(
+/// Writes what waits, and saves the volume in the image's file, where one is asked for.
+fn save<S: OnLog + Drop, F: Files, J: JournalSink + Drop, V: Drop>(
     files: &F,
     alloc: Global,
     tended: &mut Tended<S, J, V>,
-    path: &str,
-) -> Result<(), KeepFault>
-    ensures saved { OnOk result (HasSaved F.File.contents S.state tended.old.volume) }
+    options: &ShellOptions<'_>,
+) -> Result<(), UnkeptFault>
+    ensures saved { OnOk result (IfSome options.now.image
+        (λ _. HasSaved F.File.contents S.state tended.old.volume)) }
+    ensures written { let cleaner = cleaner_of S.state S.is_flushed S.made S.cleaner in
+        OnOk result (IsWritten cleaner tended.old.volume tended.new.volume) }
     ensures same { tended.new ≡ record tended.old { volume = tended.new.volume } }
 {
-    if !tended.flush()? {
-        return Err(KeepFault::Save);
+    match tended.flush() {
+        Ok(true) => {}
+        Ok(false) => return Err(unwritten(options)),
+        Err(AllocError) => return Err(UnkeptFault::Memory),
     }
+    let Some(path) = options.image else {
+        return Ok(());
+    };
     let level = tended.level();
-    save_file(files, alloc, tended.store().log_store(), level, path)
+    match save_file(files, alloc, tended.store().log_store(), level, path) {
+        Ok(()) => Ok(()),
+        Err(fault) => Err(UnkeptFault::Image(fault)),
+    }
+}
+
+/// Why a volume is not kept whose last Sync was refused.
+fn unwritten(options: &ShellOptions<'_>) -> UnkeptFault {
+    if options.disk.is_some() {
+        UnkeptFault::Disk
+    } else {
+        UnkeptFault::Image(KeepFault::Save)
+    }
 }

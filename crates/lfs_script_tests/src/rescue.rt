@@ -4,6 +4,7 @@ use crate::shell::{Ended, Words, run};
 use lfs_command::streams::Streams;
 use lfs_rescue::program::lfs_check;
 use std::fs;
+use std::os::unix::fs::FileExt;
 use std::rt::Files;
 
 /// The file of the image.
@@ -38,7 +39,10 @@ waiting 0 blocks 0 records
 const UNFIT: &[u8] = b"lfs_shell: image without serials, or with a torn log\n";
 
 /// Runs `lfs_check` with these words on these bytes.
-fn check<R: Files + AllocGlobal>(rt: &R, words: &[&str], input: &[u8]) -> Ended {
+fn check<R: Files + AllocGlobal>(rt: &R, words: &[&str], input: &[u8]) -> Ended
+where
+    R::File: FileExt,
+{
     let alloc = rt.alloc();
     let mut streams = Streams {
         stdin: input,
@@ -55,7 +59,10 @@ fn check<R: Files + AllocGlobal>(rt: &R, words: &[&str], input: &[u8]) -> Ended 
 }
 
 /// What `lfs_check` tells of the blocks of a volume that a talk with these words left, and keeps.
-fn found<R: Files + AllocGlobal>(rt: &R, words: &[&str]) -> anyhow::Result<Ended> {
+fn found<R: Files + AllocGlobal>(rt: &R, words: &[&str]) -> anyhow::Result<Ended>
+where
+    R::File: FileExt,
+{
     let _ = fs::remove_file(rt, IMAGE);
     let _ = run(rt, words, BEFORE);
     let image = fs::read(rt, IMAGE)?;
@@ -65,7 +72,10 @@ fn found<R: Files + AllocGlobal>(rt: &R, words: &[&str]) -> anyhow::Result<Ended
 }
 
 /// Whether a volume with serials is found in its blocks, and goes on as it was.
-fn is_found<R: Files + AllocGlobal>(rt: &R) -> anyhow::Result<bool> {
+fn is_found<R: Files + AllocGlobal>(rt: &R) -> anyhow::Result<bool>
+where
+    R::File: FileExt,
+{
     let words = [
         "lfs_shell",
         "--segments=6",
@@ -80,7 +90,10 @@ fn is_found<R: Files + AllocGlobal>(rt: &R) -> anyhow::Result<bool> {
 }
 
 /// Whether the image of a volume without serials is refused where they are asked for, and left as it was.
-fn is_refused<R: Files + AllocGlobal>(rt: &R) -> anyhow::Result<bool> {
+fn is_refused<R: Files + AllocGlobal>(rt: &R) -> anyhow::Result<bool>
+where
+    R::File: FileExt,
+{
     let _ = fs::remove_file(rt, IMAGE);
     let _ = run(
         rt,
@@ -105,7 +118,10 @@ fn is_refused<R: Files + AllocGlobal>(rt: &R) -> anyhow::Result<bool> {
 }
 
 /// Whether none is found in the blocks of one without serials.
-fn is_lost<R: Files + AllocGlobal>(rt: &R) -> anyhow::Result<bool> {
+fn is_lost<R: Files + AllocGlobal>(rt: &R) -> anyhow::Result<bool>
+where
+    R::File: FileExt,
+{
     let words = [
         "lfs_shell",
         "--segments=6",
@@ -117,7 +133,10 @@ fn is_lost<R: Files + AllocGlobal>(rt: &R) -> anyhow::Result<bool> {
 }
 
 /// Tells whether a volume is found in its blocks exactly where its summaries have serials.
-pub(crate) fn is_found_by_serials<R: Files + AllocGlobal + Print>(rt: &R) -> anyhow::Result<bool> {
+pub(crate) fn is_found_by_serials<R: Files + AllocGlobal + Print>(rt: &R) -> anyhow::Result<bool>
+where
+    R::File: FileExt,
+{
     let all = is_found(rt)? && is_lost(rt)? && is_refused(rt)?;
     println!(rt; "lfs_check --recover: found by its serials, {all}")?;
     Ok(all)

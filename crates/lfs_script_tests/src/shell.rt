@@ -6,6 +6,7 @@ use lfs_programs::shell::lfs_shell;
 use std::alloc::Global;
 use std::env::{Env, FillError};
 use std::fs;
+use std::os::unix::fs::FileExt;
 use std::rt::Files;
 
 /// The words of a command line.
@@ -57,7 +58,10 @@ impl Ended {
 }
 
 /// Runs `lfs_shell` with these words on this input.
-pub(crate) fn run<R: Files + AllocGlobal>(rt: &R, words: &[&str], input: &str) -> Ended {
+pub(crate) fn run<R: Files + AllocGlobal>(rt: &R, words: &[&str], input: &str) -> Ended
+where
+    R::File: FileExt,
+{
     let alloc = rt.alloc();
     let mut streams = Streams {
         stdin: input.as_bytes(),
@@ -113,7 +117,10 @@ const LINES: [&str; 16] = [
 ];
 
 /// Whether a talk that is cut in two behind so many lines, whose volume an image keeps between, is answered as an unbroken one.
-fn is_continued<R: Files + AllocGlobal>(rt: &R, whole: &Ended, cut: usize) -> anyhow::Result<bool> {
+fn is_continued<R: Files + AllocGlobal>(rt: &R, whole: &Ended, cut: usize) -> anyhow::Result<bool>
+where
+    R::File: FileExt,
+{
     let _ = fs::remove_file(rt, IMAGE);
     let (before, behind) = LINES.split_at(cut.min(LINES.len()));
     let first = run(rt, &IMAGED, joined(rt, before)?.as_str());
@@ -126,7 +133,10 @@ fn is_continued<R: Files + AllocGlobal>(rt: &R, whole: &Ended, cut: usize) -> an
 }
 
 /// Whether a talk that is cut behind each of its lines in turn, with an image, is answered as an unbroken one.
-fn is_unbroken_by_images<R: Files + AllocGlobal>(rt: &R) -> anyhow::Result<bool> {
+fn is_unbroken_by_images<R: Files + AllocGlobal>(rt: &R) -> anyhow::Result<bool>
+where
+    R::File: FileExt,
+{
     let whole = run(rt, &ALONE, joined(rt, &LINES)?.as_str());
     let mut all = whole.is_done();
     for cut in 0..=LINES.len() {
@@ -167,7 +177,10 @@ const SMALL: [&str; 4] = [
 ];
 
 /// Whether a word saves the volume, by a Sync that is entered, and the volume goes on and is saved at the end too.
-fn is_saved_where_asked<R: Files + AllocGlobal>(rt: &R) -> bool {
+fn is_saved_where_asked<R: Files + AllocGlobal>(rt: &R) -> bool
+where
+    R::File: FileExt,
+{
     let _ = fs::remove_file(rt, IMAGE);
     let saved = run(rt, &SMALL, SAVING);
     let then = run(rt, &SMALL, ".check\nstat /a\n");
@@ -178,7 +191,10 @@ fn is_saved_where_asked<R: Files + AllocGlobal>(rt: &R) -> bool {
 }
 
 /// Whether what a word saved is there where the talk breaks off behind it, as its next answer finds no room.
-fn is_saved_before_a_break<R: Files + AllocGlobal>(rt: &R) -> bool {
+fn is_saved_before_a_break<R: Files + AllocGlobal>(rt: &R) -> bool
+where
+    R::File: FileExt,
+{
     let _ = fs::remove_file(rt, IMAGE);
     let alloc = rt.alloc();
     let mut room = [0; 11];
@@ -206,7 +222,10 @@ fn rewrites<R: AllocGlobal>(rt: &R) -> anyhow::Result<String> {
 }
 
 /// Whether three segments of six are clean behind these, and more than three where passes are made unasked.
-fn is_cleaned_unasked<R: Files + AllocGlobal>(rt: &R) -> anyhow::Result<bool> {
+fn is_cleaned_unasked<R: Files + AllocGlobal>(rt: &R) -> anyhow::Result<bool>
+where
+    R::File: FileExt,
+{
     let lines = rewrites(rt)?;
     let plain = run(rt, &ALONE, lines.as_str());
     let cleaned = run(
@@ -222,7 +241,10 @@ fn is_cleaned_unasked<R: Files + AllocGlobal>(rt: &R) -> anyhow::Result<bool> {
 }
 
 /// Whether a film that is to replace a directory is not written, and that is told.
-fn is_film_of_no_file_refused<R: Files + AllocGlobal>(rt: &R) -> bool {
+fn is_film_of_no_file_refused<R: Files + AllocGlobal>(rt: &R) -> bool
+where
+    R::File: FileExt,
+{
     let ended = run(rt, &["lfs_shell", "--segments=6", "--film=."], "stat /\n");
     ended.status == 1
         && ended.err.as_slice() == b"lfs_shell: film not written: not a file\n".as_slice()
@@ -245,7 +267,10 @@ const FAULTLESS: &str = "stat /nothing\n\n# fault\n.segment 5\n\
     create /a 0644\nwrite /a at 0 6661756c7420\n.cat /a\n.quit\nnonsense\n";
 
 /// Whether a line with a fault ends a run with status 1 where that is asked for, and with 0 else.
-fn is_strict_where_asked<R: Files + AllocGlobal>(rt: &R) -> bool {
+fn is_strict_where_asked<R: Files + AllocGlobal>(rt: &R) -> bool
+where
+    R::File: FileExt,
+{
     let mut all = run(rt, &STRICT, FAULTLESS).is_done();
     for talk in FAULTY {
         let strictly = run(rt, &STRICT, talk);
@@ -289,7 +314,10 @@ rule N2 1
 const QUIT_IN_FRAMES: &str = "5\nentries 0\nserved 0\ndenied 0\nrefused 0\ncleaner 0\n";
 
 /// Whether the count of its lines stands before each answer where that is asked for.
-fn is_framed_where_asked<R: Files + AllocGlobal>(rt: &R) -> bool {
+fn is_framed_where_asked<R: Files + AllocGlobal>(rt: &R) -> bool
+where
+    R::File: FileExt,
+{
     let words = ["lfs_shell", "--segments=6", "--framed"];
     let ended = run(rt, &words, TO_FRAME);
     let quits = run(rt, &words, ".quit\nstat /\n");
@@ -354,7 +382,10 @@ cleaner 0
 ";
 
 /// Whether calls are refused `NoSpace` exactly where they would pass the share.
-fn is_refused_past_share<R: Files + AllocGlobal>(rt: &R) -> anyhow::Result<bool> {
+fn is_refused_past_share<R: Files + AllocGlobal>(rt: &R) -> anyhow::Result<bool>
+where
+    R::File: FileExt,
+{
     let ended = run(rt, &SHARED, joined(rt, &SHARES)?.as_str());
     Ok(ended.is_done() && ended.out.as_slice() == IN_SHARE.as_bytes())
 }
@@ -393,7 +424,10 @@ fn fills<R: AllocGlobal>(rt: &R) -> anyhow::Result<String> {
 
 /// Whether a volume that is filled to its share takes all that adds nothing: of all lines only the four that would pass it are
 /// refused, two before a pass and two behind it; and a pass leaves all clean but the segment that is written.
-fn does_a_full_share_go_on<R: Files + AllocGlobal>(rt: &R) -> anyhow::Result<bool> {
+fn does_a_full_share_go_on<R: Files + AllocGlobal>(rt: &R) -> anyhow::Result<bool>
+where
+    R::File: FileExt,
+{
     let ended = run(rt, &SHARED, fills(rt)?.as_str());
     let text = str::from_utf8(ended.out.as_slice()).unwrap_or_default();
     // The 24 blocks, the indirect one and that of names are 26, with two records 13,568 bytes.
@@ -412,7 +446,10 @@ const SHARED_IMAGE: [&str; 5] = [
 ];
 
 /// Whether the image of a volume that is within its share is loaded with a share, and goes on so.
-fn does_share_go_on_from_an_image<R: Files + AllocGlobal>(rt: &R) -> bool {
+fn does_share_go_on_from_an_image<R: Files + AllocGlobal>(rt: &R) -> bool
+where
+    R::File: FileExt,
+{
     let _ = fs::remove_file(rt, IMAGE);
     let first = run(rt, &SHARED_IMAGE, "create /a 0644\nwrite /a at 12287 61\n");
     let then = run(
@@ -428,7 +465,10 @@ fn does_share_go_on_from_an_image<R: Files + AllocGlobal>(rt: &R) -> bool {
 }
 
 /// Whether the image of a volume that takes more than a share, by one block, is not loaded with one, which is told, and is left.
-fn is_image_past_its_share_refused<R: Files + AllocGlobal>(rt: &R) -> bool {
+fn is_image_past_its_share_refused<R: Files + AllocGlobal>(rt: &R) -> bool
+where
+    R::File: FileExt,
+{
     let _ = fs::remove_file(rt, IMAGE);
     let first = run(rt, &SMALL, "create /a 0644\nwrite /a at 12288 61\n");
     let refused = run(rt, &SHARED_IMAGE, "stat /\n");
@@ -443,7 +483,10 @@ fn is_image_past_its_share_refused<R: Files + AllocGlobal>(rt: &R) -> bool {
 }
 
 /// Tells of each of these whether it is so. Whether all are.
-pub(crate) fn is_as_told<R: Files + AllocGlobal + Print>(rt: &R) -> anyhow::Result<bool> {
+pub(crate) fn is_as_told<R: Files + AllocGlobal + Print>(rt: &R) -> anyhow::Result<bool>
+where
+    R::File: FileExt,
+{
     let image = is_unbroken_by_images(rt)?;
     println!(rt; "lfs_shell --image: as unbroken, {image}")?;
     let saved = is_saved_where_asked(rt) && is_saved_before_a_break(rt);

@@ -7,6 +7,7 @@ use lfs_command::streams::Streams;
 use lfs_programs::server::lfsd;
 use lfs_programs::shell::lfs_shell;
 use std::fs;
+use std::os::unix::fs::FileExt;
 use std::rt::Files;
 use std::sync::Wait;
 use std::thread::Threads;
@@ -36,6 +37,7 @@ enum Program {
 fn run<R>(rt: &R, program: Program, words: &[&str], stdin: &mut &[u8]) -> Ended
 where
     R: Files + AllocGlobal + Threads + Wait + Sync,
+    R::File: FileExt,
 {
     let alloc = rt.alloc();
     let mut streams = Streams {
@@ -116,6 +118,7 @@ const STILL_THERE: &str = "0 stat 4 file 0 0 0644 00000000 0\n\
 fn takes_all_of_shell<R>(rt: &R) -> anyhow::Result<bool>
 where
     R: Files + AllocGlobal + Threads + Wait + Sync,
+    R::File: FileExt,
 {
     clear(rt);
     fs::write(rt, SCRIPT, TALK)?;
@@ -168,6 +171,7 @@ const READ: &str = " 1 as 7 7 | read /a 0 2 | bytes 6869\n";
 fn takes_all_of_server<R>(rt: &R) -> anyhow::Result<bool>
 where
     R: Files + AllocGlobal + Threads + Wait + Sync,
+    R::File: FileExt,
 {
     clear(rt);
     fs::write(rt, SCRIPT, SESSION)?;
@@ -196,6 +200,7 @@ const FAULT: &str = "lfsd: script line 2: Words 'nonsense' at 1: no line begins 
 fn ends_by_a_fault<R>(rt: &R) -> anyhow::Result<bool>
 where
     R: Files + AllocGlobal + Threads + Wait + Sync,
+    R::File: FileExt,
 {
     clear(rt);
     fs::write(rt, SCRIPT, "create /a 0644\nnonsense\n")?;
@@ -245,6 +250,7 @@ const KEPT: &str = "#1 0 as 0 0 | sync | ok\n";
 fn refuses<R>(rt: &R) -> anyhow::Result<bool>
 where
     R: Files + AllocGlobal + Threads + Wait + Sync,
+    R::File: FileExt,
 {
     clear(rt);
     fs::write(rt, SCRIPT, "stat /\n")?;
@@ -264,6 +270,7 @@ where
 pub(crate) fn are_as_told<R>(rt: &R) -> anyhow::Result<bool>
 where
     R: Files + AllocGlobal + Print + Threads + Wait + Sync,
+    R::File: FileExt,
 {
     let shell = takes_all_of_shell(rt)?;
     println!(rt; "lfs_shell with all its options: status 0, {shell}")?;

@@ -6,6 +6,7 @@ use lfs_live::start::run_lines;
 use lfs_programs::options::shell_options_of;
 use std::fs;
 use std::io::BufReader;
+use std::os::unix::fs::FileExt;
 use std::rt::Files;
 
 /// Has the talk that a line of the list names, with the arguments of `lfs_shell` behind the name, and tells whether it tells
@@ -13,7 +14,10 @@ use std::rt::Files;
 pub(crate) fn tells_as_stored<R: Files + AllocGlobal + Print>(
     rt: &R,
     line: &str,
-) -> anyhow::Result<bool> {
+) -> anyhow::Result<bool>
+where
+    R::File: FileExt,
+{
     let alloc = rt.alloc();
     let words = words_in(rt, line)?;
     let options = shell_options_of(alloc, Ok(words.as_slice())).map_err(|error| anyhow!(

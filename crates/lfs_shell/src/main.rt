@@ -11,6 +11,7 @@ use lfs_terminal::painted::Painted;
 use lfs_terminal::prompted::Prompted;
 use std::env::{Env, FillError};
 use std::io::{IsTerminal, Read, Write};
+use std::os::unix::fs::FileExt;
 use std::process::ExitCode;
 use std::rt::Files;
 
@@ -42,6 +43,7 @@ fn main(rt: HostRuntime) -> ExitCode {
 fn run<H, R, W, D>(host: &H, streams: &mut Streams<R, W, D>) -> ExitCode
 where
     H: Env + AllocGlobal + Files,
+    H::File: FileExt,
     R: Read,
     W: Write,
     D: Write,

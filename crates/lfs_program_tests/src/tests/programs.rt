@@ -1,5 +1,6 @@
 //! The two programs: what they write for their arguments and for what they read, and with which status they end.
 
+mod disk;
 mod filed;
 mod files;
 mod film;

@@ -5,6 +5,7 @@ use std::cell::{Cell, RefCell};
 use std::fs::{Metadata, OpenFile, OpenOptions};
 use std::io;
 use std::io::{ErrorKind, Read, Seek, SeekFrom, Write};
+use std::os::unix::fs::FileExt;
 use std::rt::Files;
 
 /// The paths of the files that can be made, a film's and a journal's, of which a program makes one.
@@ -166,6 +167,16 @@ impl OpenFile for Shelf<'_> {
 
     fn sync_data(&self) -> io::Result<()> {
         unsupported()
+    }
+}
+
+impl FileExt for Shelf<'_> {
+    fn read_at(&self, _buf: &mut [u8], _offset: u64) -> io::Result<usize> {
+        Err(io::Error::from(ErrorKind::Unsupported))
+    }
+
+    fn write_at(&self, _buf: &[u8], _offset: u64) -> io::Result<usize> {
+        Err(io::Error::from(ErrorKind::Unsupported))
     }
 }
 

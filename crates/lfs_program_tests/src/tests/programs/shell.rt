@@ -73,10 +73,14 @@ fn shell_does_as_its_words_say(rt: HostRuntime) {
 }
 
 /// Words that are refused, and a part of what is told.
-const REFUSED: [Refused<'static>; 6] = [
+const REFUSED: [Refused<'static>; 7] = [
     (&[b"lfs_shell", b"script.lfs", b"another"], "error: "),
     (&[b"lfs_shell", b"--threads"], "--threads"),
     (&[b"lfs_shell", b"--film"], "--film"),
+    (
+        &[b"lfs_shell", b"--disk=volume.disk", b"--serials"],
+        "cannot be used with",
+    ),
     (&[b"lfs_shell", b"--journal=1000001"], "1..=1000000"),
     (
         &[b"lfs_shell", b"--journal=+1"],
@@ -97,6 +101,7 @@ const HELP: &[&str] = &[
     "16 to 4096; by default 256",
     "32 to 1024; by default 64",
     "1 to 1000000; by default 100000",
+    "--disk",
     "--film",
     "--strict",
     "--version",

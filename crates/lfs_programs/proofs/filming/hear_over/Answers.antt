@@ -4,8 +4,8 @@ use Rattle.lfs_programs.proofs.filming.hear_over.Goals as goal
 
 pub returns-clause-heard : goal.returns-clause-heard
 returns-clause-heard g c = heard_shown g.F.File.Write.contents _ _ c.args.means.now.options _ c.args.tended.now
-    c.show.new.self c.talk.new.tended _ _ _ _ _ c.show.ensures c.in_ok-has_fault.ensures.written
-    c.keep-is_saved.ensures.saved c.keep-is_saved.ensures.same
+    c.show.new.self c.talk.new.tended c.keep-is_saved.new.tended _ _ _ _ c.show.ensures c.in_ok-has_fault.ensures.written
+    (λ kept. (c.keep-is_saved.ensures.saved kept, c.keep-is_saved.ensures.written kept)) c.keep-is_saved.ensures.same
 
 pub returns-in_err-has_fault-clause-so_far : goal.returns-in_err-has_fault-clause-so_far
 returns-in_err-has_fault-clause-so_far g c =

@@ -12,7 +12,7 @@ returns-in-Ok-clause-so_far g c =
     let kind = kind_of g.F.File.Write.contents
     (cleaner_of g.S.FileStore.state g.S.FileStore.is_flushed g.S.FileStore.made g.S.CleanedStore.cleaner)
     (texts_of g.S.ShowsLog.map_text g.S.ShowsLog.segment_text g.S.ShowsLog.space_text) g.S.ChecksLog.checked
-    g.S.OverLog.stand in
+    g.S.OnLog.stand in
     subst (λ (known : Option (List ℕ)). IfErr c.hear.result (λ fault. fault ≡ Read
     → HasTalkedSoFar g.F.File.Write.contents kind c.args.means.now.options known (g.W.Write.contents c.args.stdout.now)
     (g.W.Write.contents c.hear.new.writer)))

@@ -19,27 +19,27 @@ unreachable-requires g c =
     g.met.S.OverLog.opens p c.args.options.now.serials store c.in-Err.field-0 c.requires laid.laid_out
     laid.whole laid.ordered laid.opening
     (enough p.segments p.inodes p.frames (λ few. no_fault _ _ (laid.too_few.1 few)))
-    (err_of (λ why. g.S.OverLog.stand.refuses why store) c.in_ok-made.made c.in-Err.field-0 c.in-Err.is
+    (err_of (λ why. g.S.OnLog.stand.refuses why store) c.in_ok-made.made c.in-Err.field-0 c.in-Err.is
     c.in_ok-made.ensures.unfit)
 
 pub new-requires : goal.new-requires
 new-requires g c =
-    let stand = g.S.OverLog.stand in
+    let stand = g.S.OnLog.stand in
     let store = c.in_ok-store.store in
-    opening_over g.S.FileStore.state stand c.in-Ok.store store (g.met.S.OverLog.contains c.in-Ok.store)
+    opening_over g.S.FileStore.state stand c.in-Ok.store store (g.met.S.OnLog.contains c.in-Ok.store)
     (ok_of (λ s. stand.parts s ≡ store) c.in_ok-made.made c.in-Ok.store c.in-Ok.is c.in_ok-made.ensures.fit)
     (shows_opening_state _ _ c.in_ok-store.ensures.opening refl)
 
 pub returns-clause-begun : goal.returns-clause-begun
 returns-clause-begun g c =
-    let stand = g.S.OverLog.stand in
+    let stand = g.S.OnLog.stand in
     let store = c.in_ok-store.store in
-    fresh_over g.S.FileStore.state stand c.args.options.now store c.in-Ok.store c.in_ok-volume.volume
+    fresh_over g.S.FileStore.state stand c.args.options.now.serials c.args.options.now store c.in-Ok.store c.in_ok-volume.volume
     (ok_of (λ s. stand.parts s ≡ store) c.in_ok-made.made c.in-Ok.store c.in-Ok.is c.in_ok-made.ensures.fit)
     c.in_ok-store.ensures.opening c.in_ok-store.ensures.laid_out c.in_ok-volume.ensures.fresh
     c.in_ok-volume.ensures.opening
 
 pub returns-clause-within : goal.returns-clause-within
-returns-clause-within g c = within_over g.S.OverLog.stand c.in-Ok.store c.in_ok-volume.volume Insecure _
+returns-clause-within g c = within_over g.S.OnLog.stand c.in-Ok.store c.in_ok-volume.volume Insecure _
     c.in_ok-volume.ensures.fresh
-    (ok_of g.S.OverLog.stand.within c.in_ok-made.made c.in-Ok.store c.in-Ok.is c.in_ok-made.ensures.within)
+    (ok_of g.S.OnLog.stand.within c.in_ok-made.made c.in-Ok.store c.in-Ok.is c.in_ok-made.ensures.within)
