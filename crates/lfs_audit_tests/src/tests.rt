@@ -8,6 +8,7 @@ mod image;
 mod journals;
 mod lines;
 mod logged;
+mod placing;
 mod rescue;
 mod trace;
 mod trail;

@@ -1,6 +1,7 @@
 //! A volume that counts what a crash would leave: behind each call its blocks are searched, and what is found is what the
 //! entries that it counts led to.
 
+ghost use Rattle.std.specs.Prelude.{◌<◌};
 ghost use Rattle.lfs_calls.specs.Volumes.{HasWorld};
 ghost use Rattle.lfs_logstore.specs.States.{state_of};
 
@@ -13,6 +14,7 @@ use lfs_rescue::recover_blocks;
 use lfs_script::plan::{Act, Step};
 use lfs_script::script::parse_script;
 use lfs_types::answer::{Answer, Served};
+use lfs_types::block::BLOCK_SIZE;
 use lfs_types::cleaner::CleanerCall;
 use lfs_types::cred::Cred;
 use lfs_types::level::Level;
@@ -79,7 +81,12 @@ fn blocks_of(rt: &impl Abort, alloc: Global, logged: &Logged) -> Vec<u8> {
 /// How many bytes the file has that is found in the blocks beneath, if it is there.
 fn size_found(rt: &impl Abort, alloc: Global, logged: &Logged) -> Option<u64> {
     let blocks = blocks_of(rt, alloc, logged);
-    let found = recover_blocks(alloc, blocks.as_slice(), LEAST_FRAMES);
+    size_in_blocks(rt, alloc, blocks.as_slice())
+}
+
+/// How many bytes the file has that is found in blocks, if it is there.
+fn size_in_blocks(rt: &impl Abort, alloc: Global, blocks: &[u8]) -> Option<u64> {
+    let found = recover_blocks(alloc, blocks, LEAST_FRAMES);
     size_in(rt, alloc, found.expect(rt, "a volume"))
 }
 
@@ -147,6 +154,60 @@ fn what_waits_is_kept_where_later_changes_have_it_written(rt: HostRuntime) {
     // Some were written meanwhile, and something waits in the end.
     expect_eq(&rt, logged.durable() > 1, true);
     expect_eq(&rt, logged.durable() < 25, true);
+}
+
+/// Puts a block of some blocks into others, and says whether that changed them.
+fn put(rt: &impl Abort, blocks: &mut Vec<u8>, from: &[u8], number: usize) -> bool
+    requires { number < 384 }
+{
+    let (start, end) = (number * BLOCK_SIZE, (number + 1) * BLOCK_SIZE);
+    match (
+        blocks.as_mut_slice().get_mut(start..end),
+        from.get(start..end),
+    ) {
+        (Some(room), Some(block)) => {
+            let is_new = &*room != block;
+            room.copy_from_slice(block);
+            is_new
+        }
+        _ => panic!(rt; "no block"),
+    }
+}
+
+/// Lands the blocks that a call wrote, one by one: each time the file is found with one of these sizes, and never with
+/// fewer bytes than before.
+fn land(
+    rt: &impl Abort,
+    alloc: Global,
+    blocks: &mut Vec<u8>,
+    after: &[u8],
+    sizes: [Option<u64>; 3],
+) {
+    let [mut last, ..] = sizes;
+    for number in 0..384 {
+        if put(rt, blocks, after, number) {
+            let size = size_in_blocks(rt, alloc, blocks.as_slice());
+            expect_eq(rt, sizes.contains(&size) && last <= size, true);
+            last = size;
+        }
+    }
+    let [.., kept] = sizes;
+    expect_eq(rt, last, kept);
+}
+
+#[test]
+fn each_prefix_of_what_is_written_is_found_as_counted(rt: HostRuntime) {
+    let mut logged = fresh(&rt, rt.alloc());
+    serve(&rt, rt.alloc(), &mut *logged, "create /f 0644");
+    let line = appended(&rt, rt.alloc());
+    let mut blocks = blocks_of(&rt, rt.alloc(), &*logged);
+    for entries in 1..25 {
+        let kept = size_after(logged.durable());
+        serve(&rt, rt.alloc(), &mut *logged, line.as_str());
+        let sizes = [kept, size_after(entries), size_after(logged.durable())];
+        let after = blocks_of(&rt, rt.alloc(), &*logged);
+        land(&rt, rt.alloc(), &mut blocks, after.as_slice(), sizes);
+    }
 }
 
 #[test]

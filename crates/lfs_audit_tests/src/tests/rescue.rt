@@ -9,11 +9,13 @@ use super::image::Image;
 use lfs_command::streams::Streams;
 use lfs_findable::can_be_found;
 use lfs_ifile::InodePlace;
+use lfs_image::{load, save};
 use lfs_logstore::LogStore;
 use lfs_rescue::program::lfs_check;
 use lfs_rescue::{RecoverFault, recover, recover_blocks};
 use lfs_segments::segments::Segments;
 use lfs_types::block::{Block, ZERO_BLOCK};
+use lfs_types::level::Level;
 use lfs_types::limits::{LEAST_FRAMES, SEGMENT_BLOCKS};
 use lfs_types::store::Params;
 use std::alloc::Global;
@@ -33,15 +35,15 @@ const ROOT: [u8; 36] = [
 ];
 
 /// The record of file 4 in version 3, mode 0644, empty.
-const FILE: [u8; 22] = [
+pub(super) const FILE: [u8; 22] = [
     0, 2, 0, 1, 0, 0, 0, 4, 0, 0, 0, 3, 0, 0, 0, 0, 0, 0, 0, 0, 1, 0xa4,
 ];
 
 /// The directory block with the name `f` of file 4.
-const LISTED: [u8; 6] = [0, 0, 0, 4, 1, b'f'];
+pub(super) const LISTED: [u8; 6] = [0, 0, 0, 4, 1, b'f'];
 
 /// The block that begins with these bytes and goes on with zeros.
-fn block_of(bytes: &[u8]) -> Block
+pub(super) fn block_of(bytes: &[u8]) -> Block
     requires { length bytes.now ≤ BLOCK_SIZE }
 {
     let mut block = ZERO_BLOCK;
@@ -58,28 +60,28 @@ fn summary(offset: u8, serial: u8) -> Block {
 }
 
 /// The inode block with the root's record, whose block stands at an address.
-fn root(address: u8) -> Block {
+pub(super) fn root(address: u8) -> Block {
     let mut block = block_of(&ROOT);
     block[39] = address;
     block
 }
 
 /// The inode block with the record of file 4 besides.
-fn root_and_file(address: u8) -> Block {
+pub(super) fn root_and_file(address: u8) -> Block {
     let mut block = root(address);
     block[128..150].copy_from_slice(&FILE);
     block
 }
 
 /// The blocks of a partial segment: a summary at address 1, the root's only block, and an inode block.
-fn partial(serial: u8, listed: &[u8], records: Block) -> [Block; 3]
+pub(super) fn partial(serial: u8, listed: &[u8], records: Block) -> [Block; 3]
     requires { length listed.now ≤ BLOCK_SIZE }
 {
     [summary(1, serial), block_of(listed), records]
 }
 
 /// A memory with these blocks from address 1 on.
-fn memory_of(rt: &impl Abort, alloc: Global, blocks: &[Block]) -> Segments {
+pub(super) fn memory_of(rt: &impl Abort, alloc: Global, blocks: &[Block]) -> Segments {
     let mut memory = Segments::format(alloc, 6, 16).expect(rt, "a volume");
     assert!(rt; blocks.len() <= memory.room() as usize);
     memory.append(blocks);
@@ -151,7 +153,7 @@ fn expect_lost(rt: &impl Abort, alloc: Global, blocks: &[Block], line: &str) {
 }
 
 /// The bytes of a memory's blocks.
-fn bytes_in(rt: &impl Abort, alloc: Global, memory: &Segments) -> Vec<u8> {
+pub(super) fn bytes_in(rt: &impl Abort, alloc: Global, memory: &Segments) -> Vec<u8> {
     let mut bytes = Vec::new(alloc);
     for address in 0..memory.segments() * SEGMENT_BLOCKS {
         bytes
@@ -340,27 +342,61 @@ fn is_findable(rt: &impl Abort, alloc: Global, bytes: &[u8]) -> bool {
     can_be_found(alloc, &store).expect(rt, "memory")
 }
 
-/// Puts a block at the beginning of segment 1.
-fn put(rt: &impl Abort, bytes: &mut Vec<u8>, block: &Block) {
-    match bytes.as_mut_slice().get_mut(32_768..33_280) {
-        Some(room) => room.copy_from_slice(block),
-        None => panic!(rt; "no segment 1"),
+/// Whether the volume of an image can be found again.
+fn is_loaded_findable(rt: &impl Abort, alloc: Global, image: &[u8]) -> bool {
+    match load(alloc, image, LEAST_FRAMES) {
+        Ok((store, _)) => can_be_found(alloc, &store).expect(rt, "memory"),
+        Err(_) => panic!(rt; "no image"),
     }
+}
+
+/// Puts a block behind so many bytes.
+fn put(rt: &impl Abort, bytes: &mut Vec<u8>, place: usize, block: &Block)
+    requires { place ≤ 65536 }
+{
+    match bytes.as_mut_slice().get_mut(place..place + 512) {
+        Some(room) => room.copy_from_slice(block),
+        None => panic!(rt; "no room"),
+    }
+}
+
+/// The summary of a partial segment at the beginning of segment 1 that a crash tore.
+fn torn(serial: u8) -> Block {
+    let mut block = summary(0, serial);
+    block[7] = 1;
+    block
+}
+
+/// The bytes of a volume's blocks, with that block at the beginning of segment 1.
+fn beside_torn(rt: &impl Abort, alloc: Global, block: &Block) -> Vec<u8> {
+    let memory = memory_of(rt, alloc, &partial(1, &LISTED, root_and_file(2)));
+    let mut bytes = bytes_in(rt, alloc, &memory);
+    put(rt, &mut bytes, 32_768, block);
+    bytes
+}
+
+#[test]
+fn torn_partial_segment_in_an_opened_segment_is_not_kept(rt: HostRuntime) {
+    let alloc = rt.alloc();
+    let bytes = beside_torn(&rt, alloc, &torn(2));
+    expect_eq(&rt, is_findable(&rt, alloc, &bytes), true);
+    let store = recover_blocks(alloc, &bytes, LEAST_FRAMES).expect(&rt, "a volume");
+    let again = recovered_bytes(&rt, alloc, &bytes_of(&rt, alloc, &store));
+    expect_eq(&rt, [shown(&rt, &store), again], [FIRST, FIRST]);
 }
 
 #[test]
 fn volume_beside_a_torn_partial_segment_cannot_be_found(rt: HostRuntime) {
     let alloc = rt.alloc();
-    let memory = memory_of(&rt, alloc, &partial(1, &LISTED, root_and_file(2)));
-    let mut bytes = bytes_in(&rt, alloc, &memory);
-    expect_eq(&rt, is_findable(&rt, alloc, &bytes), true);
-    let mut torn = summary(0, 2);
-    torn[7] = 1;
-    put(&rt, &mut bytes, &torn);
-    expect_eq(&rt, is_findable(&rt, alloc, &bytes), false);
-    torn[15] = 0;
-    put(&rt, &mut bytes, &torn);
-    expect_eq(&rt, is_findable(&rt, alloc, &bytes), true);
+    let bytes = beside_torn(&rt, alloc, &ZERO_BLOCK);
+    let store = recover_blocks(alloc, &bytes, LEAST_FRAMES).expect(&rt, "a volume");
+    let mut image = Vec::new(alloc);
+    save(&store.parts().log, Level::HighlySecure, &mut image).expect(&rt, "memory");
+    expect_eq(&rt, is_loaded_findable(&rt, alloc, &image), true);
+    put(&rt, &mut image, 33_280, &torn(2));
+    expect_eq(&rt, is_loaded_findable(&rt, alloc, &image), false);
+    put(&rt, &mut image, 33_280, &torn(0));
+    expect_eq(&rt, is_loaded_findable(&rt, alloc, &image), true);
 }
 
 /// Whether a new volume can be found again, of the greatest sizes, with serials or without.
