@@ -1,13 +1,14 @@
 #!/usr/bin/env python3
 """Sets the built program beside two others that keep to no contract, and prints how many times as fast it is.
 
-beside.py PROGRAM [--runs N] [--calls N] [--instructions] [--write] [WORKLOAD ..] builds `calls.c` (a script's lines by system calls on a
+beside.py [--runs N] [--calls N] [--instructions] [--huge-pages] [--write] PROGRAM [WORKLOAD ..] builds `calls.c` (a script's lines by system calls on a
 tmpfs, no journal) with gcc and `plain.rs` (hash tables, search, read and write permission alone, a journal) with rustc,
 both with optimisation, and runs the scripts of `workload.awk` on PROGRAM, a built `lfsd`, and on these two, by turns. A
 time is the processor's, user and system, the least of N runs, with that of the script without the timed calls taken
 away. Needs root, for the callers of the first. With --instructions it counts instructions in place of time, by
-valgrind's callgrind, of PROGRAM and the second, which takes no idle machine. With --write the table goes to
-docs/speed/beside.csv, or instructions.csv, with the processor, the kernel and the commit.
+valgrind's callgrind, of PROGRAM and the second, which takes no idle machine. With --huge-pages the C library asks the
+kernel for pages of 2 MiB for what a program allocates, all three alike. With --write the table goes to
+docs/speed/beside.csv, beside-huge.csv or instructions.csv, with the processor, the kernel and the commit.
 """
 import argparse
 import os
@@ -28,6 +29,7 @@ LOADS = "stat-deep read-hot write-4k write-small create-unlink rename list-large
 HEAD = ("Workload,names,lfsd ns a call,system calls on a tmpfs,plain Rust,"
         "times as fast as system calls,times as fast as plain Rust")
 COUNTED_HEAD = "Workload,names,lfsd instructions a call,plain Rust,times as few as plain Rust"
+HUGE_PAGES = {"GLIBC_TUNABLES": "glibc.malloc.hugetlb=1"}
 SECONDS = 120
 
 
@@ -38,11 +40,11 @@ def script_of(load, names, calls, to):
     return to
 
 
-def seconds_of(words, script, folder):
+def seconds_of(words, script, folder, extra):
     """The processor's seconds of a run on a script, in an empty folder on a tmpfs."""
     with tempfile.TemporaryDirectory(dir=folder) as room, open(script, "rb") as lines:
         os.chmod(room, 0o755)
-        child = subprocess.Popen(words, stdin=lines, stdout=subprocess.DEVNULL, cwd=room)
+        child = subprocess.Popen(words, stdin=lines, stdout=subprocess.DEVNULL, cwd=room, env=os.environ | extra)
         _, status, used = os.wait4(child.pid, 0)
         child.returncode = status
         if status:
@@ -66,19 +68,19 @@ def counted(load, programs, asked, folder):
     return f"{load},{names},{own},{plain},{plain / own:.2f}"
 
 
-def least(programs, script, runs, folder):
+def least(programs, script, asked, folder):
     """The least time of each program on a script, the programs by turns."""
     found = {name: [] for name in programs}
-    for _ in range(runs):
+    for _ in range(asked.runs):
         for name, words in programs.items():
-            found[name].append(seconds_of(words, script, folder))
+            found[name].append(seconds_of(words, script, folder, HUGE_PAGES if asked.huge_pages else {}))
     return {name: min(times) for name, times in found.items()}
 
 
 def measured(load, programs, asked, folder):
     calls, names = min(asked.calls, MOST.get(load, asked.calls)), NAMES.get(load, 15)
-    whole = least(programs, script_of(load, names, calls, folder / "whole"), asked.runs, folder)
-    start = least(programs, script_of(load, names, 0, folder / "start"), asked.runs, folder)
+    whole = least(programs, script_of(load, names, calls, folder / "whole"), asked, folder)
+    start = least(programs, script_of(load, names, 0, folder / "start"), asked, folder)
     own, system, plain = (max(1, round(1e9 * (whole[name] - start[name]) / calls)) for name in programs)
     return f"{load},{names},{own},{system},{plain},{system / own:.2f},{plain / own:.2f}"
 
@@ -101,6 +103,7 @@ def main():
     parser.add_argument("--runs", type=int, default=11)
     parser.add_argument("--calls", type=int, default=10000)
     parser.add_argument("--instructions", action="store_true")
+    parser.add_argument("--huge-pages", action="store_true")
     parser.add_argument("--write", action="store_true")
     asked = parser.parse_args()
     with tempfile.TemporaryDirectory(dir="/dev/shm") as room:
@@ -113,7 +116,7 @@ def main():
             head, table, both = COUNTED_HEAD, "instructions.csv", [programs["lfsd"], programs["plain"]]
             lines = [counted(load, both, asked, folder) for load in loads]
         else:
-            head, table = HEAD, "beside.csv"
+            head, table = HEAD, "beside-huge.csv" if asked.huge_pages else "beside.csv"
             lines = [measured(load, programs, asked, folder) for load in loads]
     text = "\n".join([machine(), head, *lines]) + "\n"
     print(text, end="")

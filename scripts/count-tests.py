@@ -7,7 +7,7 @@ TOP = Path(__file__).resolve().parent.parent
 LAYERS = {
     "values, rules and the model": "types rules dirs model laws checks explain why who",
     "calls, volume and sessions": "calls known flatfiles volume trace settle cleaner server rounds",
-    "the log": "segments ifile inodes bmap log recency cache parts staging segwrite logstore share fsck image recovery reach rescue trees view durable durable_store findable logged disk",
+    "the log": "segments ifile inodes bmap log recency cache parts staging segwrite logstore share fsck image recovery reach rescue trees view durable durable_store findable logged disk disk_store file_disk disk_start",
     "a mount": "fuse_wire fuse_reply nodes fuse_calls stamps opens mount fuse_talk",
     "texts and programs": "words print script journal_lines io sinks audit hearing browse live terminal film programs command auditing checking stands shell lfsd",
 }
