@@ -157,23 +157,23 @@ requests_same a b h = absurd (true≢false (sym h))
 
 attrs_same : (a b : Attrs) → attrs-eq.ghosts.eq a b ≡ true → a ≡ b
 attrs_same a b h =
-    let size = nat_eq a.size b.size in
-    let flags = nat_eq a.flags b.flags && size in
-    let mode = nat_eq a.mode b.mode && flags in
-    let gid = nat_eq a.gid b.gid && mode in
+    let kind = kind-eq.ghosts.eq a.kind b.kind in
+    let mode = nat_eq a.mode b.mode && kind in
+    let flags = nat_eq a.flags b.flags && mode in
+    let gid = nat_eq a.gid b.gid && flags in
     let uid = nat_eq a.uid b.uid && gid in
-    let h0 = and_parts (kind-eq.ghosts.eq a.kind b.kind) uid h in
+    let h0 = and_parts (nat_eq a.size b.size) uid h in
     let h1 = and_parts (nat_eq a.uid b.uid) gid h0.1 in
-    let h2 = and_parts (nat_eq a.gid b.gid) mode h1.1 in
-    let h3 = and_parts (nat_eq a.mode b.mode) flags h2.1 in
-    let h4 = and_parts (nat_eq a.flags b.flags) size h3.1 in
+    let h2 = and_parts (nat_eq a.gid b.gid) flags h1.1 in
+    let h3 = and_parts (nat_eq a.flags b.flags) mode h2.1 in
+    let h4 = and_parts (nat_eq a.mode b.mode) kind h3.1 in
     λ i. record {
-      kind = kinds_same a.kind b.kind h0.0 i;
+      size = nats a.size b.size h0.0 i;
       uid = nats a.uid b.uid h1.0 i;
       gid = nats a.gid b.gid h2.0 i;
-      mode = nats a.mode b.mode h3.0 i;
-      flags = nats a.flags b.flags h4.0 i;
-      size = nats a.size b.size h4.1 i;
+      flags = nats a.flags b.flags h3.0 i;
+      mode = nats a.mode b.mode h4.0 i;
+      kind = kinds_same a.kind b.kind h4.1 i;
     }
 
 denials_same : (a b : Denial) → denial-eq.ghosts.eq a b ≡ true → a ≡ b
@@ -204,9 +204,8 @@ answers_same a b h = absurd (true≢false (sym h))
 -- what `==` of two credentials compares
 abbrev pub caller_eq : Caller → Caller → Bool
 caller_eq a b =
-    nat_eq a.uid b.uid && (nat_eq (length a.groups) (length b.groups)
-    && (pointwise nat_eq (a.groups ++ replicate (16 - length a.groups) 0) (b.groups
-    ++ replicate (16 - length b.groups) 0) && beq a.init b.init))
+    nat_eq a.uid b.uid && (pointwise nat_eq (a.groups ++ replicate (16 - length a.groups) 0) (b.groups
+    ++ replicate (16 - length b.groups) 0) && (nat_eq (length a.groups) (length b.groups) && beq a.init b.init))
 
 groups_same : (xs ys pad end : List ℕ) → length xs ≡ length ys → xs ++ pad ≡ ys ++ end → xs ≡ ys
 groups_same xs ys pad end many same =
@@ -219,10 +218,11 @@ callers_same a b none =
     let padded = pointwise nat_eq (a.groups ++ replicate (16 - length a.groups) 0) (b.groups
     ++ replicate (16 - length b.groups) 0) in
     let h = not-false (caller_eq a b) (sym none) in
-    let h0 = and_parts (nat_eq a.uid b.uid) (nat_eq (length a.groups) (length b.groups) && (padded && init)) h in
-    let h1 = and_parts (nat_eq (length a.groups) (length b.groups)) (padded && init) h0.1 in
-    let h2 = and_parts padded init h1.1 in
-    let groups = groups_same a.groups b.groups _ _ (nats _ _ h1.0) (bytes _ _ h2.0) in
+    let many = nat_eq (length a.groups) (length b.groups) in
+    let h0 = and_parts (nat_eq a.uid b.uid) (padded && (many && init)) h in
+    let h1 = and_parts padded (many && init) h0.1 in
+    let h2 = and_parts many init h1.1 in
+    let groups = groups_same a.groups b.groups _ _ (nats _ _ h2.0) (bytes _ _ h1.0) in
     λ i. record { uid = nats a.uid b.uid h0.0 i; groups = groups i; init = (booleans_Decides a.init b.init).0 h2.1 i }
 
 -- ---- entries

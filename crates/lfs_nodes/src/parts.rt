@@ -48,7 +48,7 @@ impl Parts {
         ensures as_many { nodes_in self.new.table ≡ nodes_in self.old.table }
     {
         let id = self.index.take(place)?;
-        let _ = self.table.hang(id, Hang::Gone);
+        drop(self.table.hang(id, Hang::Gone));
         self.table.drop_child(place.parent);
         Some(id)
     }

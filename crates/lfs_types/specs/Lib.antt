@@ -7,6 +7,7 @@ pub mod Credentials
 pub mod FlagNumbers
 pub mod Kinds
 pub mod Levels
+pub mod NameBytes
 pub mod Naming
 pub mod Padded
 pub mod Paths

@@ -30,18 +30,18 @@ impl Kind {
 /// The attributes of a file (4.4BSD's stat(2), as far as this server has them).
 #[derive(Clone, Copy, PartialEq, Eq, Debug)]
 pub struct Attrs {
-    /// A file or a directory.
-    pub kind: Kind,
+    /// How many bytes it has.
+    pub size: u64,
     /// The user who owns it.
     pub uid: u32,
     /// The group that the mode's group bits judge.
     pub gid: u32,
-    /// Its mode.
-    pub mode: Mode,
     /// Its flags.
     pub flags: FileFlags,
-    /// How many bytes it has.
-    pub size: u64,
+    /// Its mode.
+    pub mode: Mode,
+    /// A file or a directory.
+    pub kind: Kind,
 }
 
 /// What a caller wants to do to a file: a right, for which the mode has one bit in each of its three classes.

@@ -28,8 +28,8 @@ pub enum BadCred {
 #[derive(Clone, Copy, PartialEq, Eq, Debug)]
 pub struct Cred {
     uid: u32,
-    count: u8,
     groups: [u32; NGROUPS_MAX],
+    count: u8,
     init: bool,
 }
 

@@ -1,7 +1,8 @@
 //! Names in a directory.
 
-ghost use Rattle.std.specs.Prelude.{◌≡◌, ◌<◌, ◌≤◌, length, IfOk};
+ghost use Rattle.std.specs.Prelude.{◌≡◌, ◌<◌, ◌≤◌, length, IfOk, MatchOption};
 ghost use Rattle.lfs_types.specs.Naming.{ParsesName, name_fault};
+ghost use Rattle.lfs_types.specs.NameBytes.{stored_bytes};
 
 use smallvec::SmallVec;
 use std::alloc::{AllocError, Global};
@@ -12,7 +13,10 @@ use thiserror::Error;
 pub const NAME_MAX: usize = 255;
 
 /// A name of at most so many bytes lies in the value itself and takes no memory.
-const INLINE_BYTES: usize = 16;
+const SHORT_BYTES: usize = 14;
+
+/// A longer name of at most so many bytes takes memory once, and one that is longer still twice.
+const LONG_BYTES: usize = 40;
 
 /// Why bytes are no name: the first of these that holds (this project's profile).
 #[derive(Clone, Copy, PartialEq, Eq, Debug, Error)]
@@ -37,21 +41,87 @@ pub enum BadName {
     Memory,
 }
 
+/// At most fourteen bytes, and behind them zeros.
+#[derive(Clone, Copy, Debug)]
+struct ShortBytes {
+    count: u8,
+    bytes: [u8; SHORT_BYTES],
+}
+
+impl Model for ShortBytes {
+    ghost use Rattle.std.specs.Prelude.{◌≡◌, ◌-◌, ◌≤◌, ◌++◌, ℕ, List, length, take, drop, replicate};
+
+    ghost Value = { List ℕ };
+
+    ghost view = { λ s. take s.count s.bytes };
+
+    ghost invariant = { λ s. (length s.bytes ≡ 14) × (s.count ≤ 14)
+        × (drop s.count s.bytes ≡ replicate (14 - s.count) 0) };
+
+    ghost inverse = { λ v. record {
+      count = length v;
+      bytes = v ++ replicate (14 - length v) 0;
+    } };
+
+    ghost use Rattle.lfs_types.specs.Padded.{length_front, padded_front};
+    ghost use Rattle.std.proofs.Common.{arith};
+
+    ghost inverse_ok = { λ s h. λ i. record {
+      count = length_front s.count s.bytes (Prim.omega arith) i;
+      bytes = padded_front 14 s.count s.bytes h.0 h.1 h.2 i;
+    } };
+}
+
+impl ShortBytes {
+    /// These bytes, where there are at most fourteen.
+    #[inline(always)]
+    fn of(bytes: &[u8]) -> Option<ShortBytes>
+        ensures { MatchOption result (14 < length bytes.now) (λ short. short ≡ bytes.now) }
+    {
+        if bytes.len() > SHORT_BYTES {
+            return None;
+        }
+        let mut padded = [0; SHORT_BYTES];
+        padded[..bytes.len()].copy_from_slice(bytes);
+        Some(ShortBytes {
+            count: bytes.len() as u8,
+            bytes: padded,
+        })
+    }
+
+    /// The bytes.
+    fn as_slice(&self) -> &[u8]
+        ensures { result.now ≡ self.now }
+    {
+        &self.bytes[..usize::from(self.count)]
+    }
+}
+
+/// Where the bytes of a name lie. A name takes sixteen bytes of a path or a list.
+#[derive(Drop, Debug)]
+enum Stored {
+    /// In the value itself.
+    Short(ShortBytes),
+    /// In memory of their own.
+    Long(Box<SmallVec<u8, LONG_BYTES>>),
+}
+
 /// A name in a directory: 1 to 255 bytes without `/` and the zero byte, and neither `.` nor `..`.
 #[derive(Drop, Debug)]
 pub struct Name {
-    bytes: SmallVec<u8, INLINE_BYTES>,
+    stored: Stored,
 }
 
 impl Model for Name {
     ghost use Rattle.std.specs.Prelude.{◌≡◌, List, ℕ, None};
     ghost use Rattle.lfs_types.specs.Naming.{name_fault};
+    ghost use Rattle.lfs_types.specs.NameBytes.{stored_bytes};
 
     ghost Value = { List ℕ };
 
-    ghost view = { λ n. n.bytes.items };
+    ghost view = { λ n. stored_bytes n.stored };
 
-    ghost invariant = { λ n. name_fault n.bytes.items ≡ None };
+    ghost invariant = { λ n. name_fault (stored_bytes n.stored) ≡ None };
 }
 
 impl Name {
@@ -63,8 +133,8 @@ impl Name {
         if let Some(fault) = fault_of(bytes) {
             return Err(fault);
         }
-        match SmallVec::from_slice(alloc, bytes) {
-            Ok(bytes) => Ok(Name { bytes }),
+        match store(alloc, bytes) {
+            Ok(stored) => Ok(Name { stored }),
             Err(AllocError) => Err(BadName::Memory),
         }
     }
@@ -76,15 +146,48 @@ impl Name {
         ensures some { 0 < length self.now }
         ensures bounded { length self.now ≤ 255 }
     {
-        self.bytes.as_slice()
+        bytes_of(&self.stored)
     }
 
     /// A name equal to this one.
     pub fn try_clone(&self, alloc: Global) -> Result<Name, AllocError>
         ensures { IfOk result (λ copy. copy ≡ self.now) }
     {
-        let bytes = SmallVec::from_slice(alloc, self.bytes.as_slice())?;
-        Ok(Name { bytes })
+        let stored = match &self.stored {
+            Stored::Short(short) => Stored::Short(*short),
+            Stored::Long(long) => stored_long(alloc, long.as_slice())?,
+        };
+        Ok(Name { stored })
+    }
+}
+
+/// Bytes, stored for a name.
+#[inline(always)]
+fn store(alloc: Global, bytes: &[u8]) -> Result<Stored, AllocError>
+    ensures { IfOk result (λ stored. stored_bytes stored ≡ bytes.now) }
+{
+    match ShortBytes::of(bytes) {
+        Some(short) => Ok(Stored::Short(short)),
+        None => stored_long(alloc, bytes),
+    }
+}
+
+/// Bytes, stored in memory of their own.
+fn stored_long(alloc: Global, bytes: &[u8]) -> Result<Stored, AllocError>
+    ensures { IfOk result (λ stored. stored_bytes stored ≡ bytes.now) }
+{
+    let long = SmallVec::from_slice(alloc, bytes)?;
+    Ok(Stored::Long(Box::new(alloc, long)?))
+}
+
+/// The bytes that are stored.
+#[inline(always)]
+fn bytes_of(stored: &Stored) -> &[u8]
+    ensures { result.now ≡ stored_bytes stored.now }
+{
+    match stored {
+        Stored::Short(short) => short.as_slice(),
+        Stored::Long(long) => long.as_slice(),
     }
 }
 
@@ -92,7 +195,7 @@ impl Name {
 pub fn clone_names(alloc: Global, names: &[Name]) -> Result<Vec<Name>, AllocError>
     ensures { IfOk result (λ copies. copies.items ≡ names.now) }
 {
-    let mut copies = Vec::new(alloc);
+    let mut copies = Vec::with_capacity(alloc, names.len())?;
     for name in names {
         copies.push(name.try_clone(alloc)?)?;
     }
@@ -133,7 +236,7 @@ impl PartialEq for Name {
     ghost laws = { Prim.search (comparing, rules) };
 
     fn eq(&self, other: &Name) -> bool {
-        self.bytes == other.bytes
+        self.as_bytes() == other.as_bytes()
     }
 }
 

@@ -11,9 +11,6 @@ use thiserror::Error;
 /// The most bytes that a path may have (4.4BSD's `PATH_MAX`).
 pub const PATH_MAX: usize = 1024;
 
-/// A path takes room for a name in each so many bytes of its text at once. Where its names are shorter, it grows.
-const USUAL_BYTES: usize = 5;
-
 /// Why a text is no path: the first of these that holds (this project's profile).
 #[derive(Clone, Copy, PartialEq, Eq, Debug, Error)]
 pub enum BadPath {
@@ -167,12 +164,19 @@ fn cut_at_slash(text: &[u8]) -> (&[u8], Option<&[u8]>)
     }
 }
 
-/// Adds a name behind others. The first takes room for itself and those to come.
+/// How many names a text has, where each but the last ends at a slash.
+fn count_names(text: &[u8]) -> usize
+    requires { length text.now ≤ 1024 }
+{
+    text.iter().filter(|b| **b == b'/').count() + 1
+}
+
+/// Adds a name behind others. The first takes room for itself and those to come, and no more.
 fn keep(names: &mut Vec<Name>, name: Name, room: usize) -> Result<(), BadPath>
     ensures kept { OnOk result (names.new.items ≡ names.old.items ++ name ∷ []) }
     ensures memory { IfErr result (λ fault. fault ≡ BadPath.Memory) }
 {
-    if names.is_empty() && names.reserve(room).is_err() {
+    if names.is_empty() && names.reserve_exact(room).is_err() {
         return Err(BadPath::Memory);
     }
     match names.push(name) {
@@ -187,7 +191,7 @@ fn names_of(alloc: Global, text: &[u8]) -> Result<Vec<Name>, BadPath>
     requires { length text.now ≤ 1024 }
     ensures { ParsesNames 1 (parts text.now) (items_of result) }
 {
-    let room = text.len() / USUAL_BYTES + 1;
+    let room = count_names(text);
     let mut names = Vec::new(alloc);
     let mut rest = text;
     let mut component = 1u32;

@@ -8,7 +8,22 @@ use std::alloc::Global;
 use std::process::Abort;
 
 /// Bytes that are names.
-const TAKEN: [&[u8]; 6] = [&[b'a'; 255], b"a", b"...", b".a", b"..a", b"\xff \n"];
+const TAKEN: [&[u8]; 10] = [
+    &[b'a'; 255],
+    &[b'a'; 41],
+    &[b'a'; 40],
+    b"fifteen-letters",
+    b"fourteen-bytes",
+    b"a",
+    b"...",
+    b".a",
+    b"..a",
+    b"\xff \n",
+];
+
+/// A path of names of 1, 14, 15, 40 and 41 bytes.
+const NAMES: &str = "/a/fourteen-bytes/fifteen-letters/\
+forty-bytes-forty-bytes-forty-bytes-40-b/forty-one-bytes-forty-one-bytes-41-bytes-";
 
 /// Bytes, and why each is no name.
 const REFUSED_NAMES: [(&[u8], BadName); 8] = [
@@ -99,7 +114,12 @@ fn spelled(rt: &impl Abort, alloc: Global, names: &[Name]) -> Vec<u8> {
 
 #[test]
 fn paths_have_their_names_in_order(rt: HostRuntime) {
-    for (text, names) in [("/", ""), ("/a", "/a"), ("/one/2/three", "/one/2/three")] {
+    for (text, names) in [
+        ("/", ""),
+        ("/a", "/a"),
+        ("/one/2/three", "/one/2/three"),
+        (NAMES, NAMES),
+    ] {
         let path = path_of(&rt, rt.alloc(), text);
         let seen = spelled(&rt, rt.alloc(), path.names());
         expect_eq(&rt, seen.as_slice(), names.as_bytes());
@@ -127,7 +147,7 @@ fn expect_copied(rt: &impl Abort, alloc: Global, name: &Name) {
 
 #[test]
 fn copied_names_are_equal(rt: HostRuntime) {
-    let path = path_of(&rt, rt.alloc(), "/a/bc");
+    let path = path_of(&rt, rt.alloc(), NAMES);
     for name in path.names() {
         expect_copied(&rt, rt.alloc(), name);
     }
