@@ -1,6 +1,6 @@
 -- Which fault of a run comes with which cause: `late_faults` for `run_over`, `late_script_faults` for `run_script`,
 -- `split_cause` and `late_threads_fault` for `run_threads` and `run_sessions`. A fault's cause is what held when that
--- step was reached: one of reading is told by the bytes (`fault_of_line`), one of the format stands behind a script
+-- step was reached: one of reading is told by the bytes (ReadingLemmas), one of the format stands behind a script
 -- with a plan (`layout_fault`), and behind these steps only memory and a write are left (`MayHaveWritten`), with the
 -- plan and the ranges known by then. So it is taken apart by faults, and each that can't come any more is absurd; of a
 -- reader that doesn't tell its bytes nothing is claimed, which `if_some` carries along.
@@ -11,10 +11,7 @@ use Rattle.lfs_types.specs.declared.fault.FormatFault.{FormatFault}
 use Rattle.lfs_types.specs.declared.request.Request.{Request}
 use Rattle.lfs_server.specs.Fresh.{IsFormatFault}
 use Rattle.lfs_server.specs.Serving.{IsInRange}
-use Rattle.lfs_script.specs.Parsing.{ParsesScript}
 use Rattle.lfs_script.specs.PlanTypes.{Planned}
-use Rattle.lfs_script.specs.Plans.{plan_of}
-use Rattle.lfs_script.specs.declared.fault.ScriptFault.{ScriptFault}
 use Rattle.lfs_audit.specs.Faults.{HasPlan, IsFaultOf, IsRead, IsReadingFault, MayHaveWritten}
 use Rattle.lfs_audit.specs.Scripts.{IsScriptFault}
 use Rattle.lfs_audit.specs.Threads.{HasSessions, IsSplit, IsSplittingFault, IsThreadsFault}
@@ -35,30 +32,6 @@ pub if_err : {A E : Type 0} (result : Result A E) (p : E → Type 0) (q : E → 
     → ((e : E) → p e → q e) → IfErr result q
 if_err (Ok a) p q holds next = tt
 if_err (Err e) p q holds next = next e holds
-
--- ---- reading and parsing
-
--- a script was read whole and parsed
-pub read_whole : (known : Option (List ℕ)) (items : List ℕ) (plan : Planned) → IfSome known (λ bytes. items ≡ bytes)
-    → length items ≤ 1048576
-    → plan_of items ≡ Ok plan → IfSome known (λ script. IsRead script plan)
-read_whole known items plan whole short parsed =
-    if_some known (λ bytes. items ≡ bytes) (λ script. IsRead script plan) whole
-    (λ bytes same. record {
-      short = subst (λ (l : List ℕ). length l ≤ 1048576) same short;
-      parsed = subst (λ (l : List ℕ). plan_of l ≡ Ok plan) same parsed;
-    })
-
--- a script was read whole, and has a fault
-pub fault_of_line : (known : Option (List ℕ)) (items : List ℕ) (fault : ScriptFault)
-    → IfSome known (λ bytes. items ≡ bytes) → length items ≤ 1048576
-    → ParsesScript items (Err fault) → IsReadingFault known (Script fault)
-fault_of_line known items fault whole short parsed =
-    if_some known (λ bytes. items ≡ bytes) (λ bytes. (length bytes ≤ 1048576) × ParsesScript bytes (Err fault)) whole
-    (λ bytes same. (
-      subst (λ (l : List ℕ). length l ≤ 1048576) same short,
-      subst (λ (l : List ℕ). ParsesScript l (Err fault)) same parsed,
-    ))
 
 -- a script that was read has a plan
 pub has_plan : (known : Option (List ℕ)) (plan : Planned) → IfSome known (λ script. IsRead script plan) → HasPlan known

@@ -1,4 +1,5 @@
 pub mod FaultLemmas
+pub mod ReadingLemmas
 pub mod RunLemmas
 pub mod ThreadLemmas
 pub mod ScriptLemmas

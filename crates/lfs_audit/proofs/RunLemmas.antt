@@ -362,6 +362,13 @@ writes_none r v counts start = record {
   printed = Appends-nil start;
 }
 
+-- no line is left
+pub all_written : {F : Type 0} (r : Cleaner F) (old new : Seen F) (counts then : Refusals)
+    (steps done left : List Step) (start known : Option (List ℕ)) → steps ≡ done ++ left → left ≡ []
+    → WritesLines r old new counts then done start known → WritesLines r old new counts then steps start known
+all_written r old new counts then steps done left start known whole none writes =
+    rw (whole, none, append-nil done) writes
+
 -- a further line was done, its answers' lines were collected, and perhaps a piece was written
 pub writes_more : {F : Type 0} (r : Cleaner F) (old middle new : Seen F) (counts between then : Refusals)
     (steps : List Step) (step : Step) (start known left : Option (List ℕ)) (text after : List ℕ)

@@ -18,7 +18,7 @@ use crate::passing::run_step;
 use lfs_io::output::{flush, write_full, write_text};
 use lfs_io::tell::tell;
 use lfs_model::journal::Entry;
-use lfs_script::plan::Step;
+use lfs_script::plan::{Step, Steps};
 use lfs_sinks::sink::{JournalSink, SinkFault};
 use lfs_sinks::spare::SpareRoom;
 use lfs_sinks::totals::{Tally, push_report};
@@ -181,7 +181,7 @@ impl<F: CleanedStore + Drop, J: JournalSink + Drop> FiledVolume<F, J> {
     pub fn run_plan<W: Write, D: Write>(
         &mut self,
         alloc: Global,
-        steps: Vec<Step>,
+        steps: Steps,
         writer: &mut W,
         teller: &mut D,
     ) -> Result<bool, RunFault>
@@ -190,7 +190,7 @@ impl<F: CleanedStore + Drop, J: JournalSink + Drop> FiledVolume<F, J> {
             × IsFiledRun
             (cleaner_of F.state F.is_flushed F.made F.cleaner)
             (Begins (F.state self.old.volume.since) self.old.volume.since_level)
-            self.old.volume.store steps.items is_whole entries text
+            self.old.volume.store steps is_whole entries text
             × Appends (W.contents writer.old) (W.contents writer.new) text
             × (is_whole ≡ true → Takes J.contents J.next self.old.sink self.new.sink entries)) }
         ensures silent { IfOk result (λ is_whole. is_whole ≡ true → teller.new ≡ teller.old) }

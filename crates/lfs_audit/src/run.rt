@@ -16,10 +16,10 @@ ghost use Rattle.lfs_audit.specs.Scripts.{IsLogOutput, IsScriptFault};
 use crate::fault::RunFault;
 use crate::passing::run_step;
 use lfs_io::output::{flush, write_full, write_text};
-use lfs_io::read::read_script;
+use lfs_io::pieces::Pieces;
 use lfs_print::report::append_counts;
-use lfs_script::plan::{Plan, Step};
-use lfs_script::script::parse_script;
+use lfs_script::parser::ScriptParser;
+use lfs_script::plan::{Plan, Steps};
 use lfs_server::fresh::fresh_volume;
 use lfs_sinks::refusals::{Refusals, push_refusals};
 use lfs_types::cleaned::CleanedStore;
@@ -74,13 +74,18 @@ pub fn run_over<F: CleanedStore + Drop, R: Read, W: Write>(
     run_plan(alloc, volume, lines.into_steps(), writer)
 }
 
-/// Reads a script whole, and gives its plan.
+/// Reads a script whole, and gives its plan. Its lines are parsed while it is read, and its text is never held whole; a
+/// fault of reading comes before that of a line.
 pub fn read_plan<R: Read>(alloc: Global, reader: &mut R) -> Result<Plan, RunFault>
     ensures plan { IfSome (R.remaining reader.old) (λ script. IfOk result (IsRead script)) }
     ensures fault { IfErr result (IsReadingFault (R.remaining reader.old)) }
 {
-    let script = read_script(alloc, reader)?;
-    match parse_script(alloc, script.as_slice()) {
+    let mut pieces = Pieces::new();
+    let mut parser = ScriptParser::new(alloc);
+    while pieces.advance(reader)? {
+        parser.take(alloc, pieces.piece())?;
+    }
+    match parser.finish() {
         Ok(plan) => Ok(plan),
         Err(fault) => Err(RunFault::Script(fault)),
     }
@@ -91,7 +96,7 @@ pub fn read_plan<R: Read>(alloc: Global, reader: &mut R) -> Result<Plan, RunFaul
 pub fn run_plan<F: CleanedStore + Drop, W: Write>(
     alloc: Global,
     volume: &mut Volume<F>,
-    steps: Vec<Step>,
+    steps: Steps,
     writer: &mut W,
 ) -> Result<(), RunFault>
     requires { volume.old.journal ≡ [] }
@@ -99,7 +104,7 @@ pub fn run_plan<F: CleanedStore + Drop, W: Write>(
         × IsRun
         (cleaner_of F.state F.is_flushed F.made F.cleaner)
         (Begins (F.state volume.old.since) volume.old.since_level)
-        volume.old.limit volume.old.store steps.items text
+        volume.old.limit volume.old.store steps text
         × Appends (W.contents writer.old) (W.contents writer.new) text) }
     ensures fault { IfErr result MayHaveWritten }
 {
@@ -114,13 +119,13 @@ pub fn run_plan<F: CleanedStore + Drop, W: Write>(
 fn print_steps<F: CleanedStore + Drop, W: Write>(
     volume: &mut Volume<F>,
     refusals: &mut Refusals,
-    steps: Vec<Step>,
+    steps: Steps,
     text: &mut Vec<u8>,
     writer: &mut W,
 ) -> Result<(), RunFault>
     ensures written { OnOk result (WritesLines
         (cleaner_of F.state F.is_flushed F.made F.cleaner)
-        volume.old volume.new refusals.old refusals.new steps.items
+        volume.old volume.new refusals.old refusals.new steps
         (append_known (W.contents writer.old) text.old.items)
         (append_known (W.contents writer.new) text.new.items)) }
     ensures fault { IfErr result MayHaveWritten }

@@ -3,5 +3,6 @@
 #![tactic(auto)]
 
 pub mod output;
+pub mod pieces;
 pub mod read;
 pub mod tell;

@@ -3,6 +3,7 @@
 ghost use Rattle.std.specs.Prelude.{◌≡◌, ◌≤◌, ◌<◌, length, IfErr, IfOk, IfSome, vec_len};
 ghost use Rattle.lfs_io.specs.declared.read.ReadFault.TheVariants.{TooLong};
 
+use crate::pieces::Pieces;
 use std::alloc::Global;
 use std::io::Read;
 use thiserror::Error;
@@ -24,9 +25,6 @@ pub enum ReadFault {
 /// The most bytes of a script.
 pub const SCRIPT_MAX: usize = 1_048_576;
 
-/// A reader is asked for so many bytes at once.
-const READ_BYTES: usize = 32_768;
-
 /// The bytes that a reader has left, at most 1,048,576.
 ///
 /// An error of the reader ends it. A reader that never ends is given up after at most 1,048,577 reads.
@@ -38,19 +36,11 @@ pub fn read_script<R: Read>(alloc: Global, reader: &mut R) -> Result<Vec<u8>, Re
         → IfSome (R.remaining reader.old) (λ bytes. 1048576 < length bytes)) }
 {
     let mut script = Vec::new(alloc);
-    let mut buffer = [0; READ_BYTES];
-    loop {
-        let Ok(count) = reader.read(&mut buffer) else {
-            return Err(ReadFault::Read);
-        };
-        if count == 0 {
-            return Ok(script);
-        }
-        if count > SCRIPT_MAX - script.len() {
-            return Err(ReadFault::TooLong);
-        }
-        if script.extend_from_slice(&buffer[..count]).is_err() {
+    let mut pieces = Pieces::new();
+    while pieces.advance(reader)? {
+        if script.extend_from_slice(pieces.piece()).is_err() {
             return Err(ReadFault::Memory);
         }
     }
+    Ok(script)
 }

@@ -24,7 +24,7 @@ fn calls_in(alloc: Global, script: &str) -> Result<Vec<Asked>, RunFault> {
         Ok(plan) => plan.into_steps(),
         Err(fault) => return Err(RunFault::Script(fault)),
     };
-    let mut calls = Vec::with_capacity(alloc, steps.len())?;
+    let mut calls = Vec::new(alloc);
     for Step { session, cred, act } in steps {
         if let Act::User(request) = act {
             calls.push((session, cred, request))?;

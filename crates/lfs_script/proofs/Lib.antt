@@ -1,6 +1,9 @@
+pub mod ChunkLemmas
 pub mod CleanerBack
+pub mod LayoutLemmas
 pub mod PlaceLemmas
 pub mod PlanLemmas
 pub mod RequestLemmas
 pub mod SpellingLemmas
 pub mod SplitLemmas
+pub mod TakingLemmas

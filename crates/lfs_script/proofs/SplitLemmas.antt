@@ -8,7 +8,7 @@ use Rattle.std.proofs.Common.{Option, None, Some, refl, sym, ap, map, subst, ◌
 use Rattle.std.proofs.Math.ListN.{set}
 use Rattle.std.proofs.Common.{get_or-set_same, get_or-set_other}
 use Rattle.std.proofs.lemmas.Bool.{cases_Bool, cases_lt, eqb-true, eqb-false, lt-ltb, le-ltb, ne_eqb}
-use Rattle.std.proofs.lemmas.List.{append-nil, get_or-map, length-map, map-append, map-set, replicate_more}
+use Rattle.std.proofs.lemmas.List.{append-nil, append_assoc, get_or-map, length-map, map-append, map-set, replicate_more}
 use Rattle.std.specs.Global.{Vec}
 use Rattle.std.specs.Prelude.{replicate}
 use Rattle.std.proofs.lemmas.List.Elements.{filter_map-append}
@@ -122,6 +122,16 @@ pub sorted_skip : (lists : List (List (Caller × Request))) (steps : List Step) 
     → Sorts (steps ++ step ∷ []) count lists
 sorted_skip lists steps step found count asked other sorted =
     sorted_other lists steps step count (sym asked ∙ none_found found other) sorted
+
+-- a step that is taken from those that are left
+pub one_more : (steps done left rest : List Step) (step : Step) → steps ≡ done ++ left → left ≡ step ∷ rest
+    → steps ≡ (done ++ step ∷ []) ++ rest
+one_more steps done left rest step whole taken = rw (whole, taken) (sym (append_assoc done (step ∷ []) rest))
+
+-- and where none is left, all are sorted
+pub all_sorted : (steps done left : List Step) (count : ℕ) (lists : List (List (Caller × Request))) → steps
+    ≡ done ++ left → left ≡ [] → Sorts done count lists → Sorts steps count lists
+all_sorted steps done left count lists whole none sorted = rw (whole, none, append-nil done) sorted
 
 -- one more list without calls
 pub empty_more : (lists new : List (Vec (Caller × Request))) (list : Vec (Caller × Request)) (n : ℕ) → new ≡ lists

@@ -1,6 +1,7 @@
 pub mod CleanerCalls
 pub mod CleanerSpelling
 pub mod Forms
+pub mod Layout
 pub mod Operands
 pub mod Parsing
 pub mod Places
@@ -10,3 +11,4 @@ pub mod Requests
 pub mod Spelling
 pub mod Splitting
 pub mod Verbs
+pub mod Taking

@@ -1,14 +1,17 @@
 //! What a script asks.
 
 ghost use Rattle.std.specs.Prelude.{◌≡◌, IfOk, OnOk};
+ghost use Rattle.std.specs.List.{list_any};
 ghost use Rattle.lfs_script.specs.PlanTypes.{AreWithin};
 ghost use Rattle.lfs_script.specs.Plans.{added, first_draft, planned};
+ghost use Rattle.lfs_script.specs.Splitting.{is_cleaner_act, is_of_cleaner};
 ghost use Rattle.lfs_script.specs.declared.plan.Line.TheVariants as says;
 
+use crate::askers::{Asker, Askers};
+use crate::chunks::{Chunks, Items};
 use lfs_types::cleaner::CleanerCall;
 use lfs_types::cred::Cred;
 use lfs_types::request::Request;
-use lfs_words::caller::first_caller;
 use std::alloc::{AllocError, Global};
 use std::marker::Model;
 
@@ -85,29 +88,40 @@ pub enum Line {
     Act(Act),
 }
 
+/// What a line asks for, and who asks.
+#[derive(Drop, Debug)]
+struct AskedAct {
+    act: Act,
+    /// The number of who asks, in a table.
+    asker: u32,
+}
+
 /// What a script asks: its steps, in the order of its lines.
 #[derive(Drop, Debug)]
 pub struct Plan {
-    steps: Vec<Step>,
+    askers: Vec<Asker>,
+    acts: Chunks<AskedAct>,
     sessions: u8,
 }
 
 impl Model for Plan {
+    ghost use Rattle.lfs_script.specs.Layout.{AreAsked, steps_of};
     ghost use Rattle.lfs_script.specs.PlanTypes.{AreWithin, Planned};
 
     ghost Value = { Planned };
 
-    ghost view = { λ p. record { steps = p.steps.items; sessions = p.sessions } };
+    ghost view = { λ p. record { steps = steps_of p.askers.items p.acts; sessions = p.sessions } };
 
-    ghost invariant = { λ p. AreWithin p.steps.items p.sessions };
+    ghost invariant = { λ p. AreAsked p.askers.items p.acts
+        × AreWithin (steps_of p.askers.items p.acts) p.sessions };
 }
 
 impl Plan {
-    /// The steps, in the order of the lines.
-    pub fn steps(&self) -> &[Step]
-        ensures { result.now ≡ self.now.steps }
+    /// Whether a step asks for a call of the cleaner, or for a pass.
+    pub(crate) fn has_cleaner_line(&self) -> bool
+        ensures { result ≡ list_any is_of_cleaner self.now.steps }
     {
-        self.steps.as_slice()
+        have_cleaner_act(self.acts.chunks())
     }
 
     /// The highest session that a line names, from 0 to 8. No step is of a higher one.
@@ -118,32 +132,94 @@ impl Plan {
         self.sessions
     }
 
-    /// The vector of the steps.
-    pub fn into_steps(self) -> Vec<Step>
-        ensures { result.items ≡ self.steps }
+    /// The steps, in the order of the lines.
+    pub fn into_steps(self) -> Steps
+        ensures { result ≡ self.steps }
     {
-        self.steps
+        Steps {
+            askers: self.askers,
+            acts: self.acts.into_items(),
+        }
+    }
+}
+
+/// Whether one of these chunks has a call of the cleaner, or a pass.
+fn have_cleaner_act(chunks: &[Vec<AskedAct>]) -> bool
+    ensures { result
+        ≡ list_any (λ acts. list_any (λ asked. is_cleaner_act asked.act) acts.items) chunks.now }
+{
+    chunks.iter().any(|acts| has_cleaner_act(acts.as_slice()))
+}
+
+/// Whether one of these is a call of the cleaner, or a pass.
+fn has_cleaner_act(acts: &[AskedAct]) -> bool
+    ensures { result ≡ list_any (λ asked. is_cleaner_act asked.act) acts.now }
+{
+    acts.iter().any(|asked| is_cleaner_act(&asked.act))
+}
+
+/// Whether this is a call of the cleaner, or a pass.
+fn is_cleaner_act(act: &Act) -> bool
+    ensures { result ≡ is_cleaner_act act.now }
+{
+    match act {
+        Act::User(_) => false,
+        Act::Cleaner(_) | Act::Pass => true,
+    }
+}
+
+/// The steps of a plan, in the order of the lines. They free the memory of what was given out, many steps at a time.
+#[derive(Drop)]
+pub struct Steps {
+    askers: Vec<Asker>,
+    acts: Items<AskedAct>,
+}
+
+impl Model for Steps {
+    ghost use Rattle.std.specs.Prelude.{List};
+    ghost use Rattle.lfs_script.specs.Layout.{AreAsked, steps_of};
+    ghost use Rattle.lfs_script.specs.declared.plan.Step.{Step};
+
+    ghost Value = { List Step };
+
+    ghost view = { λ s. steps_of s.askers.items s.acts };
+
+    ghost invariant = { λ s. AreAsked s.askers.items s.acts };
+}
+
+impl Iterator for Steps {
+    type Item = Step;
+
+    ghost use Rattle.std.specs.Iterator.{YieldsFirst, item_count};
+
+    ghost next_gives = { YieldsFirst (λ steps. steps) };
+
+    ghost remaining = { item_count (λ steps. steps) };
+
+    fn next(&mut self) -> Option<Step> {
+        let AskedAct { act, asker } = self.acts.next()?;
+        let Asker { cred, session } = self.askers[asker as usize];
+        Some(Step { session, cred, act })
     }
 }
 
 /// The plan of the lines read so far, and the session and the credential of the lines to come.
 #[derive(Drop)]
 pub(crate) struct Draft {
-    session: u8,
-    cred: Cred,
+    askers: Askers,
+    acts: Chunks<AskedAct>,
     sessions: u8,
-    steps: Vec<Step>,
 }
 
 impl Model for Draft {
-    ghost use Rattle.std.specs.Prelude.{◌≤◌};
-    ghost use Rattle.lfs_script.specs.PlanTypes.{AreWithin, Drafted};
+    ghost use Rattle.lfs_script.specs.Layout.{IsDraft, drafted};
+    ghost use Rattle.lfs_script.specs.PlanTypes.{Drafted};
 
     ghost Value = { Drafted };
 
-    ghost view = { λ d. record { session = d.session; cred = d.cred; sessions = d.sessions; steps = d.steps.items } };
+    ghost view = { λ d. drafted d.askers d.acts d.sessions };
 
-    ghost invariant = { λ d. AreWithin d.steps.items d.sessions × (d.session ≤ d.sessions) };
+    ghost invariant = { λ d. IsDraft d.askers d.acts d.sessions };
 }
 
 impl Draft {
@@ -152,10 +228,9 @@ impl Draft {
         ensures { result ≡ first_draft }
     {
         Draft {
-            session: 0,
-            cred: first_caller(),
+            askers: Askers::new(alloc),
+            acts: Chunks::new(alloc),
             sessions: 0,
-            steps: Vec::new(alloc),
         }
     }
 
@@ -166,10 +241,10 @@ impl Draft {
         match line {
             Line::Nothing => {}
             Line::Session(session) => {
-                self.session = session;
+                self.askers.set_session(session);
                 self.sessions = self.sessions.max(session);
             }
-            Line::Caller(cred) => self.cred = cred,
+            Line::Caller(cred) => self.askers.set_cred(cred),
             Line::Act(act) => return self.push(act),
         }
         Ok(())
@@ -179,9 +254,8 @@ impl Draft {
     fn push(&mut self, act: Act) -> Result<(), AllocError>
         ensures { OnOk result (self.new ≡ added self.old (says.Act act)) }
     {
-        let session = self.session;
-        let cred = self.cred;
-        self.steps.push(Step { session, cred, act })?;
+        let asker = self.askers.number()?;
+        self.acts.push(AskedAct { act, asker })?;
         Ok(())
     }
 
@@ -190,7 +264,8 @@ impl Draft {
         ensures { result ≡ planned self }
     {
         Plan {
-            steps: self.steps,
+            askers: self.askers.into_table(),
+            acts: self.acts,
             sessions: self.sessions,
         }
     }

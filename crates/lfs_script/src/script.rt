@@ -1,20 +1,21 @@
 //! Lines of a script.
 
-ghost use Rattle.std.specs.Prelude.{◌≡◌, ◌≢◌, ◌^◌, ◌<◌, ◌+◌, ◌∷◌, ℕ, List, length, true, Err, map, IfOk, MatchResult};
+ghost use Rattle.std.specs.Prelude.{◌≡◌, ◌^◌, ◌<◌, length, true, map, MatchResult};
 ghost use Rattle.lfs_words.specs.Faults.{ReadsAs};
 ghost use Rattle.lfs_words.specs.Lines.{is_printable};
-ghost use Rattle.lfs_script.specs.Parsing.{BeginsReadable, ParsesScript};
-ghost use Rattle.lfs_script.specs.Plans.{line_said, lines_of, plan_from, text_said, verb_said, words_said};
+ghost use Rattle.lfs_script.specs.Parsing.{ParsesScript};
+ghost use Rattle.lfs_script.specs.Plans.{line_said, text_said, verb_said, words_said};
 ghost use Rattle.lfs_words.specs.declared.fault.FaultKind.TheVariants.{Memory};
 
 use crate::cleaner_calls::held_call;
 use crate::fault::ScriptFault;
-use crate::plan::{Act, Draft, Line, Plan};
+use crate::lines::LineParser;
+use crate::plan::{Act, Line, Plan};
 use crate::requests::request;
 use crate::verb::Verb;
 use lfs_words::caller::caller;
 use lfs_words::fault::FaultKind;
-use lfs_words::line::{cut_line, has_bare_word, is_skipped, text_of};
+use lfs_words::line::{has_bare_word, is_skipped, text_of};
 use lfs_words::number::session;
 use lfs_words::words::{no_word, one_word, pieces};
 use std::alloc::Global;
@@ -24,40 +25,9 @@ pub fn parse_script(alloc: Global, script: &[u8]) -> Result<Plan, ScriptFault>
     requires { length script.now < 2 ^ 32 }
     ensures { ParsesScript script.now result }
 {
-    let mut draft = Draft::new(alloc);
-    let mut rest = script;
-    let mut line = 0;
-    while !rest.is_empty() {
-        line += 1;
-        match take_line(alloc, rest, &mut draft) {
-            Ok(behind) => rest = behind,
-            Err(kind) => return Err(ScriptFault { line, kind }),
-        }
-    }
-    Ok(draft.finish())
-}
-
-/// Adds the first line of a text that is not empty, and gives what is behind it.
-fn take_line<'a>(alloc: Global, text: &'a [u8], draft: &mut Draft) -> Result<&'a [u8], FaultKind>
-    requires { 0 < length text.now }
-    ensures shorter { IfOk result (λ rest. length rest.now < length text.now) }
-    ensures taken { MatchResult result
-        (λ rest. (line : ℕ) → plan_from line draft.old (lines_of text.now)
-        ≡ plan_from (line + 1) draft.new (lines_of rest.now))
-        (λ kind. kind ≢ Memory → (line : ℕ) →
-        plan_from line draft.old (lines_of text.now) ≡ Err (record { line = line; kind = kind })) }
-    ensures lines { MatchResult result
-        (λ rest. (first : List ℕ) × (lines_of text.now ≡ first ∷ lines_of rest.now))
-        (λ kind. kind ≡ Memory → BeginsReadable text.now) }
-{
-    match cut_line(text) {
-        Some((line, rest)) => {
-            let said = parse_line(alloc, line)?;
-            draft.add(said)?;
-            Ok(rest)
-        }
-        None => Err(FaultKind::Cut),
-    }
+    let mut lines = LineParser::new(alloc);
+    let left = lines.take_lines(alloc, script);
+    lines.finish(left)
 }
 
 /// What a line says, which is given without its line feed.

@@ -4,7 +4,7 @@ ghost use Rattle.std.specs.Prelude.{◌≡◌, ◌+◌, ◌<◌, ℕ, [], ◌∷
 ghost use Rattle.std.specs.List.{list_any};
 ghost use Rattle.lfs_script.specs.Splitting.{Sorts, act_call, is_cleaner_fault, is_of_cleaner, with_call};
 
-use crate::plan::{Act, Plan, Step};
+use crate::plan::{Act, Plan, Step, Steps};
 use lfs_types::cred::Cred;
 use lfs_types::request::Request;
 use lfs_types::script::Script;
@@ -44,7 +44,7 @@ impl Plan {
             × Sorts self.steps (self.sessions + 1) (both.0 ∷ both.1.items))
             (λ fault. list_any is_of_cleaner self.steps ≡ is_cleaner_fault fault) }
     {
-        if has_cleaner_line(self.steps()) {
+        if self.has_cleaner_line() {
             return Err(SplitFault::CleanerLine);
         }
         let sessions = usize::from(self.sessions());
@@ -55,31 +55,10 @@ impl Plan {
     }
 }
 
-/// Whether a line asks for a call of the cleaner, or for a pass.
-fn has_cleaner_line(steps: &[Step]) -> bool
-    ensures { result ≡ list_any is_of_cleaner steps.now }
-{
-    steps.iter().any(|step| is_of_cleaner(step))
-}
-
-/// Whether a step asks for a call of the cleaner, or for a pass.
-fn is_of_cleaner(step: &Step) -> bool
-    ensures { result ≡ is_of_cleaner step.now }
-{
-    match step.act {
-        Act::User(_) => false,
-        Act::Cleaner(_) | Act::Pass => true,
-    }
-}
-
 /// The users' calls of each session below `count`.
-fn calls_by_session(
-    alloc: Global,
-    steps: Vec<Step>,
-    count: usize,
-) -> Result<Vec<Vec<Call>>, AllocError>
+fn calls_by_session(alloc: Global, steps: Steps, count: usize) -> Result<Vec<Vec<Call>>, AllocError>
     ensures { IfOk result (λ lists. (vec_len lists ≡ count)
-        × Sorts steps.items count (map (λ list. list.items) lists.items)) }
+        × Sorts steps count (map (λ list. list.items) lists.items)) }
 {
     let mut lists = empty_lists(alloc, count)?;
     for step in steps {

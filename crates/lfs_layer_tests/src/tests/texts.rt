@@ -11,6 +11,7 @@ mod rules;
 mod spelling;
 mod values;
 
+use lfs_script::plan::{Plan, Step};
 use std::alloc::Global;
 use std::process::Abort;
 
@@ -21,4 +22,13 @@ fn repeated(rt: &impl Abort, alloc: Global, before: &str, part: &str, times: u32
         text.push_str(part).expect(rt, "memory");
     }
     text
+}
+
+/// The steps of a plan.
+fn steps_of(rt: &impl Abort, alloc: Global, plan: Plan) -> Vec<Step> {
+    let mut steps = Vec::new(alloc);
+    for step in plan.into_steps() {
+        steps.push(step).expect(rt, "memory");
+    }
+    steps
 }

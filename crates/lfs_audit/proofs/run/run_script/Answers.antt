@@ -7,7 +7,7 @@ use Rattle.lfs_audit.proofs.run.run_script.Goals as goal
 pub returns-clause-written : goal.returns-clause-written
 returns-clause-written g c =
     on_ok c.run_plan.result c.run_plan.ensures.written
-    (λ run. log_run (g.R.Read.remaining c.args.reader.now) c.in_ok-plan.plan c.into_steps.result.items _ _ _ _ _ _ _ _ _
+    (λ run. log_run (g.R.Read.remaining c.args.reader.now) c.in_ok-plan.plan c.into_steps.result _ _ _ _ _ _ _ _ _
     _
     c.in_ok-volume.ensures.begins c.in_ok-plan.ensures.plan c.into_steps.ensures c.in_ok-volume.ensures.fresh.1
     c.in_ok-volume.ensures.fresh.2 run)

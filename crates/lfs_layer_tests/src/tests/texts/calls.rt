@@ -1,5 +1,6 @@
 //! Copies of requests and answers.
 
+use super::steps_of;
 use crate::tests::expect_eq;
 use lfs_script::plan::{Act, Step};
 use lfs_script::script::parse_script;
@@ -118,7 +119,8 @@ fn expect_copies(rt: &impl Abort, alloc: Global, steps: &[Step]) {
 #[test]
 fn copied_requests_are_equal_to_their_own_alone(rt: HostRuntime) {
     let plan = parse_script(rt.alloc(), CALLS).expect(&rt, "a script");
-    expect_copies(&rt, rt.alloc(), plan.steps());
+    let steps = steps_of(&rt, rt.alloc(), plan);
+    expect_copies(&rt, rt.alloc(), steps.as_slice());
 }
 
 /// Asserts that an answer is that of this number alone.

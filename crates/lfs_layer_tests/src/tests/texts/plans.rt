@@ -1,5 +1,6 @@
 //! What scripts without a fault ask.
 
+use super::{repeated, steps_of};
 use crate::tests::expect_eq;
 use lfs_script::plan::{Plan, Step};
 use lfs_script::script::parse_script;
@@ -35,7 +36,20 @@ fn sixteen_groups(rt: HostRuntime) {
     let groups = [1, 2, 3, 4, 5, 6, 7, 8, 9, 10, 11, 12, 13, 14, 15, 16];
     let callers = [user(&rt, 0, &[0], false), user(&rt, 0, &groups, true)];
     let plan = plan_of(&rt, rt.alloc(), script);
-    expect_callers(&rt, plan.steps(), &callers);
+    let steps = steps_of(&rt, rt.alloc(), plan);
+    expect_callers(&rt, steps.as_slice(), &callers);
+}
+
+#[test]
+fn steps_of_three_chunks(rt: HostRuntime) {
+    let lines = "session 1\nsync\nsession 2\nsync\n";
+    let script = repeated(&rt, rt.alloc(), "", lines, 300);
+    let plan = plan_of(&rt, rt.alloc(), script.as_bytes());
+    let steps = steps_of(&rt, rt.alloc(), plan);
+    expect_eq(&rt, steps.len(), 600);
+    for (index, step) in steps.iter().enumerate() {
+        expect_eq(&rt, usize::from(step.session), 1 + index % 2);
+    }
 }
 
 /// A script with users' calls.
@@ -129,10 +143,10 @@ fn say(rt: &impl Abort, said: &mut String, step: &Step) {
 }
 
 /// Asserts what the lines of a plan ask for, each with its session and its user.
-fn expect_said(rt: &impl Abort, alloc: Global, plan: &Plan, wanted: &str) {
+fn expect_said(rt: &impl Abort, alloc: Global, plan: Plan, wanted: &str) {
     let mut said = String::new(alloc);
-    for step in plan.steps() {
-        say(rt, &mut said, step);
+    for step in plan.into_steps() {
+        say(rt, &mut said, &step);
     }
     expect_eq(rt, said.as_str(), wanted);
 }
@@ -140,14 +154,14 @@ fn expect_said(rt: &impl Abort, alloc: Global, plan: &Plan, wanted: &str) {
 #[test]
 fn each_call_as_it_is_written(rt: HostRuntime) {
     let plan = plan_of(&rt, rt.alloc(), CALLS);
-    expect_said(&rt, rt.alloc(), &plan, ASKED);
+    expect_said(&rt, rt.alloc(), plan, ASKED);
 }
 
 #[test]
 fn cleaner_calls_as_they_are_written(rt: HostRuntime) {
     let plan = plan_of(&rt, rt.alloc(), CLEANER_LINES);
     expect_eq(&rt, plan.sessions(), 8);
-    expect_said(&rt, rt.alloc(), &plan, CLEANER_CALLS);
+    expect_said(&rt, rt.alloc(), plan, CLEANER_CALLS);
 }
 
 /// Asserts that a script is Syncs, by these callers.

@@ -50,8 +50,8 @@ fn push_step(rt: &impl Abort, text: &mut Vec<u8>, step: &Step) {
 fn calls_as_lines(rt: HostRuntime) {
     let plan = parse_script(rt.alloc(), LINES).expect(&rt, "a plan");
     let mut text = Vec::new(rt.alloc());
-    for step in plan.steps() {
-        push_step(&rt, &mut text, step);
+    for step in plan.into_steps() {
+        push_step(&rt, &mut text, &step);
     }
     expect_eq(&rt, text.as_slice(), LINES);
 }

@@ -3,6 +3,7 @@
 
 mod cuts;
 mod faults;
+mod pieces;
 mod streams;
 mod streams_on_threads;
 mod talks;

@@ -73,7 +73,7 @@ returns-then-branch-clause-done g c =
     let out = g.W.Write.contents c.run_plan.new.writer in (
       subst (λ (b : Bool). HasGotFiled g.F.File.Write.contents options b known start out) c.if-branch.true
           (filed_alone g.F.File.Write.contents (λ s. s.writer) (λ s. s.next) options known start out c.in_ok-plan.plan
-          c.into_steps.result.items volume c.new.result c.new-filed.result c.run_plan.new.self _ c.requires
+          c.into_steps.result volume c.new.result c.new-filed.result c.run_plan.new.self _ c.requires
           c.in_ok-plan.ensures.plan c.into_steps.ensures
           (fresh_as p.segments p.inodes p.frames params.segments params.inodes params.frames volume.store w.segments
           w.inodes w.frames c.in_ok-volume.ensures.fresh.2)
@@ -94,7 +94,7 @@ returns-clause-failed g c = λ some.
       some,
       subst (λ (b : Bool). HasGotFiled g.F.File.Write.contents options b known start out) c.if-branch.false
           (filed_alone g.F.File.Write.contents (λ s. s.writer) (λ s. s.next) options known start out c.in_ok-plan.plan
-          c.into_steps.result.items volume c.new.result c.new-filed.result c.run_plan.new.self _ c.requires
+          c.into_steps.result volume c.new.result c.new-filed.result c.run_plan.new.self _ c.requires
           c.in_ok-plan.ensures.plan c.into_steps.ensures
           (fresh_as p.segments p.inodes p.frames params.segments params.inodes params.frames volume.store w.segments
           w.inodes w.frames c.in_ok-volume.ensures.fresh.2)
