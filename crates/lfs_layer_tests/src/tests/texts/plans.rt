@@ -82,23 +82,50 @@ level 2
 /// What its lines ask for, each with its session and its user.
 const ASKED: &str = "\
 0 0 User(Stat { path: Path { names: [] } })
-0 0 User(Create { path: Path { names: [Name { bytes: [100] }, Name { bytes: [102] }] }, \
+0 0 User(Create { path: Path { names: [\
+Name { stored: Short(ShortBytes { count: 1, bytes: [100, 0, 0, 0, 0, 0, 0, 0, 0, 0, 0, 0, 0, 0] }) }, \
+Name { stored: Short(ShortBytes { count: 1, bytes: [102, 0, 0, 0, 0, 0, 0, 0, 0, 0, 0, 0, 0, 0] }) }\
+] }, \
 mode: Mode { set: ModeBits(3565) } })
-0 0 User(Read { path: Path { names: [Name { bytes: [102] }] }, off: 18446744073709551615, len: 4294967295 })
-0 0 User(Write { path: Path { names: [Name { bytes: [102] }] }, place: At(7), bytes: Payload { content: [0, \
+0 0 User(Read { path: Path { names: [\
+Name { stored: Short(ShortBytes { count: 1, bytes: [102, 0, 0, 0, 0, 0, 0, 0, 0, 0, 0, 0, 0, 0] }) }\
+] }, off: 18446744073709551615, len: 4294967295 })
+0 0 User(Write { path: Path { names: [\
+Name { stored: Short(ShortBytes { count: 1, bytes: [102, 0, 0, 0, 0, 0, 0, 0, 0, 0, 0, 0, 0, 0] }) }\
+] }, place: At(7), bytes: Payload { content: [0, \
 255, 106] } })
-0 0 User(Write { path: Path { names: [Name { bytes: [102] }] }, place: End, \
+0 0 User(Write { path: Path { names: [\
+Name { stored: Short(ShortBytes { count: 1, bytes: [102, 0, 0, 0, 0, 0, 0, 0, 0, 0, 0, 0, 0, 0] }) }\
+] }, place: End, \
 bytes: Payload { content: [] } })
-0 0 User(List { path: Path { names: [Name { bytes: [102] }] } })
-0 0 User(Unlink { path: Path { names: [Name { bytes: [102] }] } })
-0 0 User(Rmdir { path: Path { names: [Name { bytes: [102] }] } })
-0 0 User(SetLength { path: Path { names: [Name { bytes: [102] }] }, len: 71680 })
-0 0 User(Rename { from: Path { names: [Name { bytes: [102] }] }, to: Path { names: [] } })
+0 0 User(List { path: Path { names: [\
+Name { stored: Short(ShortBytes { count: 1, bytes: [102, 0, 0, 0, 0, 0, 0, 0, 0, 0, 0, 0, 0, 0] }) }\
+] } })
+0 0 User(Unlink { path: Path { names: [\
+Name { stored: Short(ShortBytes { count: 1, bytes: [102, 0, 0, 0, 0, 0, 0, 0, 0, 0, 0, 0, 0, 0] }) }\
+] } })
+0 0 User(Rmdir { path: Path { names: [\
+Name { stored: Short(ShortBytes { count: 1, bytes: [102, 0, 0, 0, 0, 0, 0, 0, 0, 0, 0, 0, 0, 0] }) }\
+] } })
+0 0 User(SetLength { path: Path { names: [\
+Name { stored: Short(ShortBytes { count: 1, bytes: [102, 0, 0, 0, 0, 0, 0, 0, 0, 0, 0, 0, 0, 0] }) }\
+] }, len: 71680 })
+0 0 User(Rename { from: Path { names: [\
+Name { stored: Short(ShortBytes { count: 1, bytes: [102, 0, 0, 0, 0, 0, 0, 0, 0, 0, 0, 0, 0, 0] }) }\
+] }, to: Path { names: [] } })
 0 0 User(Sync)
-0 0 User(Mkdir { path: Path { names: [Name { bytes: [102] }] }, mode: Mode { set: ModeBits(493) } })
-0 0 User(Chmod { path: Path { names: [Name { bytes: [102] }] }, mode: Mode { set: ModeBits(1023) } })
-0 0 User(Chown { path: Path { names: [Name { bytes: [102] }] }, uid: 7, gid: 8 })
-0 0 User(Chflags { path: Path { names: [Name { bytes: [102] }] }, \
+0 0 User(Mkdir { path: Path { names: [\
+Name { stored: Short(ShortBytes { count: 1, bytes: [102, 0, 0, 0, 0, 0, 0, 0, 0, 0, 0, 0, 0, 0] }) }\
+] }, mode: Mode { set: ModeBits(493) } })
+0 0 User(Chmod { path: Path { names: [\
+Name { stored: Short(ShortBytes { count: 1, bytes: [102, 0, 0, 0, 0, 0, 0, 0, 0, 0, 0, 0, 0, 0] }) }\
+] }, mode: Mode { set: ModeBits(1023) } })
+0 0 User(Chown { path: Path { names: [\
+Name { stored: Short(ShortBytes { count: 1, bytes: [102, 0, 0, 0, 0, 0, 0, 0, 0, 0, 0, 0, 0, 0] }) }\
+] }, uid: 7, gid: 8 })
+0 0 User(Chflags { path: Path { names: [\
+Name { stored: Short(ShortBytes { count: 1, bytes: [102, 0, 0, 0, 0, 0, 0, 0, 0, 0, 0, 0, 0, 0] }) }\
+] }, \
 flags: FileFlags { set: FlagBits(458759) } })
 0 0 User(SetLevel { level: PermanentlyInsecure })
 0 0 User(SetLevel { level: PermanentlyInsecure })
