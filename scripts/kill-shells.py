@@ -21,7 +21,7 @@ class Talk:
     """A talk on a disk's file, whose lines are answered one by one."""
 
     def __init__(self, shell, disk):
-        words = [shell, "--disk", disk, "--segments", SEGMENTS]
+        words = [shell, "--disk", disk, "--segments", SEGMENTS, "--clean"]
         self.process = subprocess.Popen(words, stdin=subprocess.PIPE, stdout=subprocess.PIPE, text=True)
 
     def ask(self, line):
