@@ -1,5 +1,5 @@
 -- Names in a directory.
-use Rattle.std.specs.Prelude.{◌≡◌, ℕ, ◌==◌, nat_lt, Bool, false, List, [], ◌∷◌, length, Option, None, Some, Result, Ok}
+use Rattle.std.specs.Prelude.{◌≡◌, ℕ, ◌==◌, nat_lt, Bool, false, true, List, [], ◌∷◌, length, Option, None, Some, Result, Ok}
 use Rattle.std.specs.Prelude.{Err, if◌then◌else◌}
 use Rattle.std.specs.List.{list_any}
 use Rattle.lfs_types.specs.declared.name.BadName.{BadName}
@@ -11,6 +11,10 @@ is_dots [] = false
 is_dots (a ∷ []) = a == 46
 is_dots (a ∷ b ∷ []) = if a == 46 then b == 46 else false
 is_dots (a ∷ b ∷ c ∷ bs) = false
+
+-- whether a byte is a slash or zero
+abbrev pub stops : ℕ → Bool
+stops b = if b == 47 then true else b == 0
 
 -- the first fault of bytes that are to be a name
 abbrev pub name_fault : List ℕ → Option BadName

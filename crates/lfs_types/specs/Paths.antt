@@ -75,6 +75,23 @@ abbrev pub IsCut : List ℕ → List ℕ → Option (List ℕ) → Type 0
 IsCut text part None = parts text ≡ part ∷ []
 IsCut text part (Some rest) = (parts text ≡ part ∷ parts rest) × (length part + 1 + length rest ≡ length text)
 
+-- what is behind the slash that stands behind so many bytes of a text; none where it ends there
+abbrev pub rest_of : List ℕ → ℕ → Option (List ℕ)
+rest_of text count = if count == length text then None else Some (drop (count + 1) text)
+
+-- the name at the front of a text, up to its first slash, was put behind others, and this is the rest
+abbrev pub TakesName : List ℕ → List (List ℕ) → List (List ℕ) → Option (List ℕ) → Type 0
+TakesName text old new rest =
+    (part : List ℕ) × IsCut text part rest × (name_fault part ≡ None) × (new ≡ old ++ part ∷ [])
+
+-- it was not, for this fault of component k, or as memory ran out
+abbrev pub RefusesName : ℕ → List ℕ → BadPath → Type 0
+RefusesName k text NotAbsolute = ⊥
+RefusesName k text Long = ⊥
+RefusesName k text Memory = (part : List ℕ) × (rest : Option (List ℕ)) × IsCut text part rest × (name_fault part ≡ None)
+RefusesName k text (Name component fault) =
+    (part : List ℕ) × (rest : Option (List ℕ)) × IsCut text part rest × (name_fault part ≡ Some fault) × (component ≡ k)
+
 -- a result with a list in place of a vector
 abbrev pub items_of : {X E : Type 0} → Result (Vec X) E → Result (List X) E
 items_of (Ok v) = Ok v.items

@@ -1,7 +1,8 @@
 //! Names in a directory.
 
-ghost use Rattle.std.specs.Prelude.{◌≡◌, ◌<◌, ◌≤◌, length, IfOk, MatchOption};
-ghost use Rattle.lfs_types.specs.Naming.{ParsesName, name_fault};
+ghost use Rattle.std.specs.List.{list_any};
+ghost use Rattle.std.specs.Prelude.{◌≡◌, ◌==◌, ◌<◌, ◌≤◌, All, false, true, None, length, take, IfOk, MatchOption};
+ghost use Rattle.lfs_types.specs.Naming.{ParsesName, name_fault, stops};
 ghost use Rattle.lfs_types.specs.NameBytes.{stored_bytes};
 
 use smallvec::SmallVec;
@@ -43,7 +44,7 @@ pub enum BadName {
 
 /// At most fourteen bytes, and behind them zeros.
 #[derive(Clone, Copy, Debug)]
-struct ShortBytes {
+pub(crate) struct ShortBytes {
     count: u8,
     bytes: [u8; SHORT_BYTES],
 }
@@ -89,12 +90,48 @@ impl ShortBytes {
         })
     }
 
+    /// The bytes at the front of a text, up to its first slash or zero byte, or fourteen of them.
+    #[inline(always)]
+    pub(crate) fn front_of(text: &[u8]) -> ShortBytes
+        ensures front { result ≡ take (length result) text.now }
+        ensures clean { All (λ b. stops b ≡ false) result }
+    {
+        let mut bytes = [0; SHORT_BYTES];
+        let mut count = 0;
+        while count < text.len() && count < SHORT_BYTES && !stops(text[count]) {
+            bytes[count] = text[count];
+            count += 1;
+        }
+        ShortBytes {
+            count: count as u8,
+            bytes,
+        }
+    }
+
     /// The bytes.
-    fn as_slice(&self) -> &[u8]
+    #[inline(always)]
+    pub(crate) fn as_slice(&self) -> &[u8]
         ensures { result.now ≡ self.now }
     {
         &self.bytes[..usize::from(self.count)]
     }
+
+    /// Whether the bytes, of which none is a slash or zero, are a name.
+    #[inline(always)]
+    pub(crate) fn is_name(&self) -> bool
+        requires { All (λ b. stops b ≡ false) self.now }
+        ensures { result ≡ true → name_fault self.now ≡ None }
+    {
+        fault_of_part(self.as_slice()).is_none()
+    }
+}
+
+/// Whether a byte is a slash or zero.
+#[inline(always)]
+fn stops(byte: u8) -> bool
+    ensures { result ≡ stops byte }
+{
+    byte == b'/' || byte == 0
 }
 
 /// Where the bytes of a name lie. A name takes sixteen bytes of a path or a list.
@@ -136,6 +173,17 @@ impl Name {
         match store(alloc, bytes) {
             Ok(stored) => Ok(Name { stored }),
             Err(AllocError) => Err(BadName::Memory),
+        }
+    }
+
+    /// The name of these bytes, which are one.
+    #[inline(always)]
+    pub(crate) fn of_short(short: ShortBytes) -> Name
+        requires { name_fault short ≡ None }
+        ensures { result ≡ short }
+    {
+        Name {
+            stored: Stored::Short(short),
         }
     }
 
@@ -220,6 +268,23 @@ fn fault_of(bytes: &[u8]) -> Option<BadName>
         return Some(BadName::Nul);
     }
     match bytes {
+        [b'.'] | [b'.', b'.'] => Some(BadName::Dot),
+        _ => None,
+    }
+}
+
+/// The first fault of bytes that are to be a name, and hold neither a slash nor a zero byte.
+#[inline(always)]
+fn fault_of_part(bytes: &[u8]) -> Option<BadName>
+    requires no_slash { list_any (λ b. b == 47) bytes.now ≡ false }
+    requires no_nul { list_any (λ b. b == 0) bytes.now ≡ false }
+    ensures { result ≡ name_fault bytes.now }
+{
+    if bytes.len() > NAME_MAX {
+        return Some(BadName::Long);
+    }
+    match bytes {
+        [] => Some(BadName::Empty),
         [b'.'] | [b'.', b'.'] => Some(BadName::Dot),
         _ => None,
     }

@@ -1,9 +1,9 @@
 //! Absolute paths.
 
-ghost use Rattle.std.specs.Prelude.{◌≡◌, ◌≤◌, length, option_copied, IfOk, IfErr, OnOk, IsSome, IfSome, ◌↔◌, ◌<◌, ◌+◌, MatchOption, false, [], ◌∷◌, ◌++◌, position, ◌==◌};
-ghost use Rattle.lfs_types.specs.Paths.{ParsesPath, ParsesNames, IsCut, is_absolute, items_of, parts, path_text, slashed};
+ghost use Rattle.std.specs.Prelude.{◌≡◌, ◌≢◌, ◌≤◌, ℕ, length, option_copied, slice_index, true, IfOk, IfErr, OnOk, IsSome, IfSome, ◌↔◌, ◌<◌, ◌+◌, MatchOption, MatchResult, false, [], ◌∷◌, ◌++◌, position, ◌==◌};
+ghost use Rattle.lfs_types.specs.Paths.{ParsesPath, ParsesNames, IsCut, RefusesName, TakesName, is_absolute, items_of, parts, path_text, rest_of, slashed};
 
-use crate::name::{BadName, Name, clone_names};
+use crate::name::{BadName, Name, ShortBytes, clone_names};
 use std::alloc::{AllocError, Global};
 use std::marker::Model;
 use thiserror::Error;
@@ -164,14 +164,20 @@ fn cut_at_slash(text: &[u8]) -> (&[u8], Option<&[u8]>)
     }
 }
 
-/// How many names a text has, where each but the last ends at a slash.
+/// How many names a text has, where each but the last ends at a slash. It looks at each byte, so that it is compiled to
+/// steps of many bytes.
 fn count_names(text: &[u8]) -> usize
     requires { length text.now ≤ 1024 }
 {
-    text.iter().filter(|b| **b == b'/').count() + 1
+    let mut count = 1;
+    for byte in text {
+        count += usize::from(*byte == b'/');
+    }
+    count
 }
 
 /// Adds a name behind others. The first takes room for itself and those to come, and no more.
+#[inline(always)]
 fn keep(names: &mut Vec<Name>, name: Name, room: usize) -> Result<(), BadPath>
     ensures kept { OnOk result (names.new.items ≡ names.old.items ++ name ∷ []) }
     ensures memory { IfErr result (λ fault. fault ≡ BadPath.Memory) }
@@ -185,8 +191,94 @@ fn keep(names: &mut Vec<Name>, name: Name, room: usize) -> Result<(), BadPath>
     }
 }
 
+/// Whether a text ends behind so many bytes, or has a slash there.
+#[inline(always)]
+fn ends_part(text: &[u8], count: usize) -> bool
+    requires { count ≤ length text.now }
+    ensures { result ≡ true → count < length text.now → slice_index text.now count ≡ 47 }
+{
+    count == text.len() || text[count] == b'/'
+}
+
+/// The bytes behind the slash that stands behind so many bytes of a text, which ends there or has a slash there.
+#[inline(always)]
+fn behind_part(text: &[u8], count: usize) -> Option<&[u8]>
+    requires { count ≤ length text.now }
+    ensures { option_copied result ≡ rest_of text.now count }
+{
+    if count == text.len() {
+        None
+    } else {
+        Some(&text[count + 1..])
+    }
+}
+
+/// Puts the name at the front of a text behind others, where it has at most fourteen bytes, and says how many: none where
+/// it has more, or a fault.
+#[inline(always)]
+fn keep_short(names: &mut Vec<Name>, text: &[u8], room: usize) -> Result<usize, BadPath>
+    ensures within { IfOk result (λ count. count ≤ length text.now) }
+    ensures kept { IfOk result (λ count. count ≢ 0
+        → TakesName text.now names.old.items names.new.items (rest_of text.now count)) }
+    ensures none { IfOk result (λ count. count ≡ 0 → names.new.items ≡ names.old.items) }
+    ensures refused { IfErr result (λ fault. (k : ℕ) → RefusesName k text.now fault) }
+{
+    let short = ShortBytes::front_of(text);
+    let count = short.as_slice().len();
+    if !ends_part(text, count) {
+        return Ok(0);
+    }
+    if !short.is_name() {
+        return Ok(0);
+    }
+    keep(names, Name::of_short(short), room)?;
+    Ok(count)
+}
+
+/// Puts the name at the front of a text behind others, of any length, as `take_name` does.
+fn keep_any<'a>(
+    alloc: Global,
+    names: &mut Vec<Name>,
+    text: &'a [u8],
+    component: u32,
+    room: usize,
+) -> Result<Option<&'a [u8]>, BadPath>
+    ensures { MatchResult result
+        (λ behind. TakesName text.now names.old.items names.new.items (option_copied behind))
+        (RefusesName component text.now) }
+{
+    let (part, behind) = cut_at_slash(text);
+    let name = match Name::parse(alloc, part) {
+        Ok(name) => name,
+        Err(BadName::Memory) => return Err(BadPath::Memory),
+        Err(fault) => return Err(BadPath::Name(component, fault)),
+    };
+    keep(names, name, room)?;
+    Ok(behind)
+}
+
+/// Puts the name at the front of a text, component so-and-so, behind others, and gives the bytes behind its slash, where it
+/// has one.
+#[inline(always)]
+fn take_name<'a>(
+    alloc: Global,
+    names: &mut Vec<Name>,
+    text: &'a [u8],
+    component: u32,
+    room: usize,
+) -> Result<Option<&'a [u8]>, BadPath>
+    ensures { MatchResult result
+        (λ behind. TakesName text.now names.old.items names.new.items (option_copied behind))
+        (RefusesName component text.now) }
+{
+    let count = keep_short(names, text, room)?;
+    if count == 0 {
+        return keep_any(alloc, names, text, component, room);
+    }
+    Ok(behind_part(text, count))
+}
+
 /// The names between the slashes of a text, the first being component 1.
-#[tactic(auto, using(crate::proofs::NameLemmas::starts_append, crate::proofs::NameLemmas::starts_well))]
 fn names_of(alloc: Global, text: &[u8]) -> Result<Vec<Name>, BadPath>
     requires { length text.now ≤ 1024 }
     ensures { ParsesNames 1 (parts text.now) (items_of result) }
@@ -196,14 +288,7 @@ fn names_of(alloc: Global, text: &[u8]) -> Result<Vec<Name>, BadPath>
     let mut rest = text;
     let mut component = 1u32;
     loop {
-        let (part, behind) = cut_at_slash(rest);
-        let name = match Name::parse(alloc, part) {
-            Ok(name) => name,
-            Err(BadName::Memory) => return Err(BadPath::Memory),
-            Err(fault) => return Err(BadPath::Name(component, fault)),
-        };
-        keep(&mut names, name, room)?;
-        match behind {
+        match take_name(alloc, &mut names, rest, component, room)? {
             None => return Ok(names),
             Some(behind) => rest = behind,
         }
