@@ -1,7 +1,7 @@
 //! Pairs of a directory and a name, each in the one slot that its hash gives.
 
 ghost use Rattle.std.specs.Prelude.{◌≡◌, ℕ, Some, None, ◌<◌, List, vec_len, IfOk};
-ghost use Rattle.lfs_known.specs.Places.{place_of as place_for};
+ghost use Rattle.lfs_known.specs.Places.{name_hash as hash_for, place_of as place_for};
 
 use crate::pair::{KEPT_BYTES, Pair};
 use lfs_types::limits::MOST_INODES;
@@ -13,6 +13,9 @@ const SLOTS: usize = MOST_INODES as usize;
 
 /// By what the hash is multiplied before a byte is added.
 const MULTIPLIER: usize = 403;
+
+/// By what the number of a directory is multiplied before it is added to the hash of a name.
+const DIR_MULTIPLIER: usize = 2533;
 
 /// What is known of the names of directories. It takes no memory once it is made.
 #[derive(Drop)]
@@ -58,15 +61,27 @@ impl NameCache {
     }
 }
 
-/// The slot of a name in a directory.
+/// The hash of a name.
+#[inline(always)]
+#[tactic(auto, unfolding(crate::specs::Places::name_hash))]
+fn name_hash(name: &[u8]) -> usize
+    ensures value { result ≡ hash_for name.now }
+    ensures within { result < SLOTS }
+{
+    let mut hash = 0;
+    for byte in name {
+        hash = (hash * MULTIPLIER + usize::from(*byte)) % SLOTS;
+    }
+    hash
+}
+
+/// The slot of a name in a directory. The directory comes in last, so that the processor may hash the names of a path before
+/// it knows in which directories they are.
+#[inline(always)]
 #[tactic(auto, unfolding(crate::specs::Places::place_of))]
 fn place_of(dir: u32, name: &[u8]) -> usize
     ensures value { result ≡ place_for dir name.now }
     ensures within { result < SLOTS }
 {
-    let mut place = dir as usize % SLOTS;
-    for byte in name {
-        place = (place * MULTIPLIER + usize::from(*byte)) % SLOTS;
-    }
-    place
+    (name_hash(name) + dir as usize * DIR_MULTIPLIER) % SLOTS
 }
