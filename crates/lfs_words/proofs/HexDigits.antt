@@ -1,8 +1,7 @@
 -- Bytes are read from and written as two digits each, one by one: `hex_step` and `hex_read` for `decode`, `hex_written`
 -- for `write_hex`, `bytes_read` for `payload`. What was read so far spells the front of the digits, and the next byte
--- spells the two behind (`take_two`); its halves are below 16, so its digits are those (`byte_spelled`). Each byte
--- takes two digits (`length-hex_text`), by which room is reckoned; capital digits would be read back as others than
--- were written.
+-- spells the two behind (`take_two`; HexPairs). Each byte takes two digits (`length-hex_text`), by which room is
+-- reckoned; capital digits would be read back as others than were written.
 use Rattle.std.proofs.Common.{◌≡◌, ℕ, ◌≤◌, Ok, false, ◌+◌, ◌*◌, ◌/◌, ◌%◌, ◌<◌, List, [], ◌∷◌, ◌++◌, length, take}
 use Rattle.std.proofs.Common.{get_or, refl, ap, sym, ◌∙◌, arith, append_assoc, true}
 use Rattle.std.specs.Char.{digit_char, digit_value}
@@ -24,14 +23,6 @@ take_two digits j lt =
     let second = take_more digits (j + 1) 0 lt in
     let both : j + 2 ≡ j + 1 + 1 = omega arith in
     rw (both, second, first, append_assoc) refl
-
--- a byte is spelled by the digits of its halves
-pub byte_spelled : (high low h l : ℕ) → h < 16 → l < 16 → digit_char h ≡ high → digit_char l ≡ low
-    → hex_text ((16 * h + l) ∷ []) ≡ high ∷ low ∷ []
-byte_spelled high low h l few less first second =
-    let top : (16 * h + l) / 16 ≡ h = omega arith in
-    let bottom : (16 * h + l) % 16 ≡ l = omega arith in
-    rw (top, bottom, first, second) refl
 
 -- one more byte has its two digits
 pub hex_step : (digits bs : List ℕ) (k b : ℕ) → 2 * k + 1 < length digits → hex_text bs ≡ take (2 * k) digits

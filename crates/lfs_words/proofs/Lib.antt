@@ -4,6 +4,7 @@ pub mod FirstByte
 pub mod FlagDigits
 pub mod GroupLists
 pub mod HexDigits
+pub mod HexPairs
 pub mod InfoBack
 pub mod InfoLemmas
 pub mod LevelWords

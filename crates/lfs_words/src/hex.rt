@@ -81,26 +81,18 @@ fn has_hex_alone(bytes: &[u8]) -> bool
     alone
 }
 
-/// The value of a digit.
-fn digit_value(digit: u8) -> u8
-    requires { is_hex_digit digit ≡ true }
-    ensures bounded { result < 16 }
-    ensures spelled { digit_char result ≡ digit }
-{
-    if digit <= b'9' {
-        digit - b'0'
-    } else {
-        digit - b'a' + 10
-    }
-}
-
-/// The byte that two digits spell.
+/// The byte that two digits spell. They are worked on in one word, so that a loop over it is compiled to steps of many
+/// digits: a letter has the bit of 64, and its low four bits are nine less than its value.
+#[inline(always)]
 fn byte_of(high: u8, low: u8) -> u8
     requires high_digit { is_hex_digit high ≡ true }
     requires low_digit { is_hex_digit low ≡ true }
     ensures { hex_text (result ∷ []) ≡ high ∷ low ∷ [] }
 {
-    16 * digit_value(high) + digit_value(low)
+    let digits = u16::from_le_bytes([high, low]);
+    let letters = (digits >> 6) & 0x0101;
+    let values = (digits & 0x0f0f).wrapping_add(letters.wrapping_mul(9));
+    (((values << 4) | (values >> 8)) & 0xff) as u8
 }
 
 /// The bytes that these digits spell.

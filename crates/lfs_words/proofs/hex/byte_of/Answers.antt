@@ -1,8 +1,10 @@
-use Rattle.lfs_words.proofs.HexDigits.{byte_spelled}
+use Rattle.std.proofs.Common.{◌≡◌, ◌+◌, ◌*◌, arith}
+use Rattle.lfs_words.proofs.HexPairs.{pair_spelled}
 use Rattle.lfs_words.proofs.hex.byte_of.Goals as goal
 
 pub returns : goal.returns
 returns c =
-    byte_spelled c.args.high c.args.low c.digit_value.result c.digit_value-2.result
-    c.digit_value.ensures.bounded c.digit_value-2.ensures.bounded c.digit_value.ensures.spelled
-    c.digit_value-2.ensures.spelled
+    let word : c.from_le_bytes-digits.result ≡ c.args.high + 256 * c.args.low =
+    omega (arith, c.from_le_bytes-digits.ensures) in
+    pair_spelled c.from_le_bytes-digits.result c.args.high c.args.low word c.ranges.high.fits c.ranges.low.fits
+    c.requires.high_digit c.requires.low_digit
