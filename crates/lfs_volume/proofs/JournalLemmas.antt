@@ -74,14 +74,14 @@ beginning_journal from s level limit begins = record {
   space = λ none. tt;
 }
 
--- a journal that takes no more entries
-pub closed_journal : (from : World) (s : StoreState) (level : Level) (es : List Entry) (limit few : ℕ)
-    → IsJournal from s level es limit → few ≡ length es → IsJournal from s level es few
-closed_journal from s level es limit few j is = record {
+-- a journal that may have so many entries
+pub limited_journal : (from : World) (s : StoreState) (level : Level) (es : List Entry) (limit few : ℕ)
+    → IsJournal from s level es limit → length es ≤ few → IsJournal from s level es few
+limited_journal from s level es limit few j within = record {
   legal = j.legal;
   shown = j.shown;
   at_level = j.at_level;
-  within = omega (arith, is);
+  within = within;
   space = j.space;
 }
 

@@ -318,6 +318,15 @@ impl<F: FileStore + Drop> Volume<F> {
         std::mem::replace(&mut self.journal, room)
     }
 
+    /// The journal may have so many entries from here on: no fewer than it has, and no more than it might have.
+    pub fn limit_journal(&mut self, limit: u32)
+        requires within { length self.old.journal ≤ limit }
+        requires lower { limit ≤ self.old.limit }
+        ensures { self.new ≡ record self.old { limit = limit } }
+    {
+        self.limit = limit;
+    }
+
     /// Takes no more entries: the journal may have as many as it has, so that each call is refused `JournalFull` from
     /// here on and changes nothing.
     pub fn close_journal(&mut self)
