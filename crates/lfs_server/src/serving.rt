@@ -97,7 +97,7 @@ impl From<AllocError> for ServeFault {
 }
 
 /// Runs the setup as session 0 and then each script as a session on a thread of its own, session 1 to 8, with the
-/// cleaner on one more, as session 255 and user 0. In one holding of the lock on the volume a session makes 16 calls at
+/// cleaner on one more, as session 255 and user 0. In one holding of the lock on the volume a session makes 64 calls at
 /// most, those between which the gate is open, and none more once the cleaner waits or is wanted. Faults of memory and
 /// threads come only after all threads have ended.
 pub fn serve_over<R, F, G>(
