@@ -21,6 +21,8 @@ pub(crate) struct LineParser {
     draft: Draft,
     line: u32,
     fault: Option<FaultKind>,
+    /// The line that has the fault; empty where none has one, and where memory for its copy is wanting.
+    faulty: Vec<u8>,
 }
 
 impl LineParser {
@@ -33,6 +35,7 @@ impl LineParser {
             draft: Draft::new(alloc),
             line: 0,
             fault: None,
+            faulty: Vec::new(alloc),
         }
     }
 
@@ -41,6 +44,12 @@ impl LineParser {
         ensures { result ≡ is_some self.now.fault }
     {
         self.fault.is_some()
+    }
+
+    /// The line that has a fault, without its line feed: to tell where in it the fault stands. Empty where no line has
+    /// one, and where memory for its copy is wanting.
+    pub(crate) fn faulty(&self) -> &[u8] {
+        self.faulty.as_slice()
     }
 
     /// Parses the lines of a text up to the first that has a fault, and gives what is left: what is behind the last line
@@ -74,6 +83,7 @@ impl LineParser {
         self.line += 1;
         if let Err(kind) = add_line(alloc, line, &mut self.draft) {
             self.fault = Some(kind);
+            let _ = self.faulty.extend_from_slice(line);
         }
     }
 
@@ -83,7 +93,13 @@ impl LineParser {
         ensures { (text : List ℕ) → IsTaken text left.now self
             → (self.fault ≡ None → HasNoLineFeed left.now) → ParsesScript text result }
     {
-        let LineParser { draft, line, fault } = self;
+        let LineParser {
+            draft,
+            line,
+            fault,
+            faulty,
+        } = self;
+        drop(faulty);
         match fault {
             Some(kind) => Err(ScriptFault { line, kind }),
             None => {

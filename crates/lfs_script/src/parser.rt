@@ -80,6 +80,12 @@ impl ScriptParser {
         Ok(Some(rest))
     }
 
+    /// The line that has the first fault of the script, without its line feed: to tell where in it the fault stands
+    /// (`push_place`). Empty where no line that was taken has a fault, and where memory for its copy is wanting.
+    pub fn faulty_line(&self) -> &[u8] {
+        self.lines.faulty()
+    }
+
     /// What the script asks, or its first fault: that of the first line that has one.
     pub fn finish(self) -> Result<Plan, ScriptFault>
         requires { most_lines self < 2 ^ 32 }
