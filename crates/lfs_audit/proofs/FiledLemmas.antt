@@ -157,7 +157,7 @@ filing_none r contents next old start known begun printed = record {
 -- ---- a line while the sink takes entries
 
 -- a line makes few calls
-asked_few : (session : ℕ) (caller : Caller) (act : Act) (made : List Made) (answers : List StepAnswer)
+pub asked_few : (session : ℕ) (caller : Caller) (act : Act) (made : List Made) (answers : List StepAnswer)
     → IsAsked session caller act made answers → length made ≤ 105
 asked_few session caller (plan.User request) made answers asked = omega (arith, ap length asked.1)
 asked_few session caller (plan.Cleaner call) made answers asked = omega (arith, ap length asked.1)

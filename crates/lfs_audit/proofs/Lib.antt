@@ -6,3 +6,4 @@ pub mod ScriptLemmas
 pub mod ShiftLemmas
 pub mod FiledLemmas
 pub mod UndoneLemmas
+pub mod WindowLemmas

@@ -5,7 +5,7 @@
 -- Answers are as many as steps (`count`), else neither the entries nor the lines of the whole could be parted
 -- (`kept-joined`, `lines-joined`). That a pass makes at most 105 calls is its calls so far and `calls_left`, which
 -- falls by each.
-use Rattle.std.proofs.Common.{◌≡◌, ℕ, suc, ◌+◌, ◌<◌, List, [], ◌∷◌, ◌++◌, length, Option, None, Some, Result, Ok, Err}
+use Rattle.std.proofs.Common.{◌≡◌, ℕ, ◌+◌, ◌<◌, List, [], ◌∷◌, ◌++◌, length, Option, None, Some, Result, Ok, Err}
 use Rattle.std.proofs.Common.{OnOk, refl, sym, ap, subst, ◌∙◌, arith, append_assoc, append-nil, length-append}
 use Rattle.std.specs.Io.KnownBytes.{Appends, Keeps, append_known}
 use Rattle.std.proofs.KnownBytes.{Appends-kept, Appends-nil, Appends-trans}
@@ -41,7 +41,7 @@ use Rattle.lfs_volume.specs.Journals.{AtPresent, Begins, Since}
 use Rattle.lfs_volume.specs.Seen.{Seen}
 use Rattle.lfs_volume.specs.StepRuns.{AreSteps, IsActMade}
 use Rattle.lfs_audit.specs.Output.{IsRun}
-use Rattle.lfs_audit.specs.Runs.{AreAsked, CountsLine, TellsCleaning, IsAsked, Passes, Runs, TellsLine, WritesLines, call_line}
+use Rattle.lfs_audit.specs.Runs.{AreAsked, CountsLine, TellsCleaning, IsAsked, Passes, Runs, WritesLines, call_line}
 use Rattle.lfs_audit.specs.Runs.{call_step, cleaning_step, first_pass, lines_text}
 
 -- a volume became this one by the steps of a pass so far, which stands there, told this answer; the answers were

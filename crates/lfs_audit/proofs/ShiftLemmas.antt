@@ -55,7 +55,7 @@ agree_next limit most before entries steps more one all then whole here few (inl
 agree_next limit most before entries steps more one all then whole here few (inr less) =
     inr (omega (arith, less.0, here, few), omega (arith, less.1, whole, here))
 
-journaled_few : (session : ℕ) (caller : Caller) (event : Option Event) → length (journaled session caller event) ≤ 1
+pub journaled_few : (session : ℕ) (caller : Caller) (event : Option Event) → length (journaled session caller event) ≤ 1
 journaled_few session caller None = omega arith
 journaled_few session caller (Some event) = omega arith
 

@@ -4,8 +4,8 @@
 -- grows by one line, and counts by one answer; of sessions likewise. `threads_run` and `filed_threads` put this with
 -- what serving said of the journal into the promises of `run_threads` and `run_sessions`. There are no more lists of
 -- answers than scripts, since each agrees with one (`transcripts_few`).
-use Rattle.std.proofs.Common.{Result, Err, IfErr, OnOk, ◌≡◌, ℕ, zero, suc, ◌+◌, ◌-◌, ◌<◌, ◌≤◌, Bool, List, [], ◌∷◌}
-use Rattle.std.proofs.Common.{◌++◌, length, map, take, get_or, Option, IfSome, Ok, refl, sym, ap, subst, ◌∙◌, arith}
+use Rattle.std.proofs.Common.{◌≡◌, ℕ, zero, suc, ◌+◌, ◌-◌, ◌<◌, ◌≤◌, Bool, List, [], ◌∷◌}
+use Rattle.std.proofs.Common.{◌++◌, length, map, take, get_or, Option, IfSome, refl, sym, ap, subst, ◌∙◌, arith}
 use Rattle.std.proofs.Common.{append_assoc, append-nil, false}
 use Rattle.std.proofs.lemmas.Grind.{flat_map-append}
 use Rattle.std.proofs.lemmas.List.{length-map, take_all, take_more}
@@ -33,8 +33,7 @@ use Rattle.lfs_sinks.proofs.RefusalLemmas.{adds_joined}
 use Rattle.lfs_script.specs.Splitting.{Sorts, is_of_cleaner}
 use Rattle.lfs_audit.specs.Faults.{IsRead}
 use Rattle.lfs_audit.specs.FiledRuns.{IsFiledThreads}
-use Rattle.lfs_audit.specs.declared.fault.ThreadsFault.{ThreadsFault}
-use Rattle.lfs_audit.specs.Threads.{IsClosedText, IsSplit, IsThreadsOutput, MayHaveWrittenThreads, answers_of}
+use Rattle.lfs_audit.specs.Threads.{IsClosedText, IsSplit, IsThreadsOutput, answers_of}
 use Rattle.lfs_audit.specs.Threads.{closed_text}
 use Rattle.lfs_audit.specs.Threads.{transcript_text, transcripts_text}
 use Rattle.lfs_audit.proofs.FaultLemmas.{if_some}

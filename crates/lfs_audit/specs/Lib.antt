@@ -6,3 +6,4 @@ pub mod Scripts
 pub mod Filing
 pub mod FiledRuns
 pub mod Undone
+pub mod Windows

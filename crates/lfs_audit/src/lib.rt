@@ -8,6 +8,7 @@ pub mod passing;
 pub mod run;
 pub mod threads;
 pub mod undone;
+mod window;
 
 pub use lfs_print::{print, report};
 pub use lfs_script::fault::ScriptFault;

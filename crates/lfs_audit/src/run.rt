@@ -15,6 +15,7 @@ ghost use Rattle.lfs_audit.specs.Scripts.{IsLogOutput, IsScriptFault};
 
 use crate::fault::RunFault;
 use crate::passing::run_step;
+use crate::window::{run_windowed, window_of};
 use lfs_io::output::{flush, write_full, write_text};
 use lfs_io::pieces::Pieces;
 use lfs_print::report::append_counts;
@@ -46,9 +47,40 @@ pub fn run_script<R: Read, W: Write>(
     ensures unwritten { IfErr result (λ fault. (MayHaveWritten fault → ⊥)
         → Keeps (W.contents writer.old) (W.contents writer.new)) }
 {
-    let plan = read_plan(alloc, reader)?;
-    let mut volume = fresh_volume(alloc, params)?;
-    run_plan(alloc, &mut volume, plan.into_steps(), writer)
+    let mut faulty = Vec::new(alloc);
+    run_script_noting(alloc, reader, writer, params, &mut faulty)
+}
+
+/// Does what `run_script` does, and puts the first line that has a fault into `faulty`, as `read_plan` does.
+pub fn run_script_noting<R: Read, W: Write>(
+    alloc: Global,
+    reader: &mut R,
+    writer: &mut W,
+    params: Params,
+    faulty: &mut Vec<u8>,
+) -> Result<(), RunFault>
+    ensures written { OnOk result (IfSome (R.remaining reader.old) (λ script. (text : List ℕ)
+        × IsLogOutput script params.segments params.inodes params.frames params.journal text
+        × Appends (W.contents writer.old) (W.contents writer.new) text)) }
+    ensures ranges { OnOk result (IsInRange params.segments params.inodes params.frames) }
+    ensures fault { IfErr result
+        (IsScriptFault (R.remaining reader.old) params.segments params.inodes params.frames) }
+    ensures unwritten { IfErr result (λ fault. (MayHaveWritten fault → ⊥)
+        → Keeps (W.contents writer.old) (W.contents writer.new)) }
+{
+    let plan = read_plan(alloc, reader, faulty)?;
+    let windowed = Params {
+        journal: window_of(params.journal),
+        ..params
+    };
+    let mut volume = fresh_volume(alloc, windowed)?;
+    run_windowed(
+        alloc,
+        &mut volume,
+        params.journal,
+        plan.into_steps(),
+        writer,
+    )
 }
 
 /// Reads a script whole, parses it whole, runs its lines in order on a volume without entries, and writes the answer to
@@ -70,13 +102,22 @@ pub fn run_over<F: CleanedStore + Drop, R: Read, W: Write>(
     ensures unwritten { IfErr result (λ fault. (MayHaveWritten fault → ⊥)
         → Keeps (W.contents writer.old) (W.contents writer.new)) }
 {
-    let lines = read_plan(alloc, reader)?;
+    let mut faulty = Vec::new(alloc);
+    let lines = read_plan(alloc, reader, &mut faulty)?;
     run_plan(alloc, volume, lines.into_steps(), writer)
 }
 
 /// Reads a script whole, and gives its plan. Its lines are parsed while it is read, and its text is never held whole; a
 /// fault of reading comes before that of a line.
-pub fn read_plan<R: Read>(alloc: Global, reader: &mut R) -> Result<Plan, RunFault>
+///
+/// The first line that has a fault, without its line feed, is put behind what is in `faulty`: to tell where in it the
+/// fault stands. Nothing is put there of a script without a fault or whose last line is cut off, nor where memory for
+/// the line is wanting.
+pub fn read_plan<R: Read>(
+    alloc: Global,
+    reader: &mut R,
+    faulty: &mut Vec<u8>,
+) -> Result<Plan, RunFault>
     ensures plan { IfSome (R.remaining reader.old) (λ script. IfOk result (IsRead script)) }
     ensures fault { IfErr result (IsReadingFault (R.remaining reader.old)) }
 {
@@ -85,6 +126,7 @@ pub fn read_plan<R: Read>(alloc: Global, reader: &mut R) -> Result<Plan, RunFaul
     while pieces.advance(reader)? {
         parser.take(alloc, pieces.piece())?;
     }
+    let _ = faulty.extend_from_slice(parser.faulty_line());
     match parser.finish() {
         Ok(plan) => Ok(plan),
         Err(fault) => Err(RunFault::Script(fault)),

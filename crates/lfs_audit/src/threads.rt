@@ -68,7 +68,35 @@ where
     ensures unwritten { IfErr result (λ undone. (MayHaveWrittenThreads (why undone) → ⊥)
         → Keeps (W.contents writer.old) (W.contents writer.new)) }
 {
-    let (setup, sessions) = read_sessions(alloc, reader)?;
+    let mut faulty = Vec::new(alloc);
+    run_threads_noting(rt, alloc, reader, writer, params, &mut faulty)
+}
+
+/// Does what `run_threads` does, and puts the first line that has a fault into `faulty`, as `read_plan` does.
+pub fn run_threads_noting<S, R, W>(
+    rt: &S,
+    alloc: Global,
+    reader: &mut R,
+    writer: &mut W,
+    params: Params,
+    faulty: &mut Vec<u8>,
+) -> Result<(), Undone<Closed<LogStore>>>
+where
+    S: Threads + Wait + Sync,
+    R: Read,
+    W: Write,
+    ensures written { OnOk result (IfSome (R.remaining reader.old) (λ script. (text : List ℕ)
+        × IsThreadsOutput script params.segments params.inodes params.journal text
+        × Appends (W.contents writer.old) (W.contents writer.new) text)) }
+    ensures fault { IfErr result (λ undone. IsThreadsFault (R.remaining reader.old)
+        params.segments params.inodes params.frames (why undone)) }
+    ensures unsettled { IfErr result (NamesUndone (λ session closed. IsUnsettledScript
+        (R.remaining reader.old) params.segments params.inodes params.journal
+        closed.volume closed.setup.items closed.transcripts.items session)) }
+    ensures unwritten { IfErr result (λ undone. (MayHaveWrittenThreads (why undone) → ⊥)
+        → Keeps (W.contents writer.old) (W.contents writer.new)) }
+{
+    let (setup, sessions) = read_sessions(alloc, reader, faulty)?;
     let closed = serve(rt, alloc, params, setup, sessions, &())?;
     print_closed(alloc, &closed, writer)?;
     Ok(())
@@ -127,16 +155,18 @@ fn give<J: JournalSink>(sink: &mut J, entries: &[Entry]) -> Option<SinkFault>
     }
 }
 
-/// Reads a script whole, and gives the calls of session 0 and those of each other session.
+/// Reads a script whole, and gives the calls of session 0 and those of each other session. The first line that has a
+/// fault is put into `faulty`, as `read_plan` does.
 pub fn read_sessions<R: Read>(
     alloc: Global,
     reader: &mut R,
+    faulty: &mut Vec<u8>,
 ) -> Result<(Script, Vec<Script>), ThreadsFault>
     ensures split { IfSome (R.remaining reader.old) (λ script.
         IfOk result (λ both. IsSplit script both.0 both.1.items)) }
     ensures fault { IfErr result (IsSplittingFault (R.remaining reader.old)) }
 {
-    let plan = read_plan(alloc, reader)?;
+    let plan = read_plan(alloc, reader, faulty)?;
     Ok(plan.split(alloc)?)
 }
 

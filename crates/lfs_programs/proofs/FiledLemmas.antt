@@ -37,6 +37,11 @@ use Rattle.lfs_programs.specs.declared.options.Options.{Options}
 apart : (b : Bool) → b ≡ true → b ≡ false → ⊥
 apart b is not = absurd (cc)
 
+-- nothing was written
+pub keeps_same : (known : Option (List ℕ)) → Keeps known known
+keeps_same None = tt
+keeps_same (Some bytes) = refl
+
 -- what is known of a script that may be known
 known_so : (known : Option (List ℕ)) (p q : List ℕ → Type 0) → IfSome known p → ((bytes : List ℕ) → p bytes → q bytes)
     → IfSome known q

@@ -1,7 +1,6 @@
 pub mod DiskLemmas
 pub mod FiledLemmas
 pub mod OptionLemmas
-pub mod ServerLemmas
 pub mod ShellLemmas
 pub mod StandLemmas
 pub mod VolumeLemmas

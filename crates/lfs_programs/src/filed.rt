@@ -1,6 +1,6 @@
 //! `lfsd --journal-out FILE`: the entries of a run go to a file.
 
-ghost use Rattle.std.specs.Prelude.{◌≡◌, ◌≤◌, false, true, Some, IfErr, IsSome, OnOk};
+ghost use Rattle.std.specs.Prelude.{◌≡◌, ◌≤◌, false, true, IfErr, IsSome, OnOk};
 ghost use Rattle.lfs_programs.specs.Asked.{HasGotFiled, IsBroken};
 
 use crate::fault::ServerFault;
@@ -15,7 +15,7 @@ use lfs_server::fresh::fresh_volume;
 use lfs_sinks::sink::LineSink;
 use lfs_types::store::Params;
 use std::alloc::Global;
-use std::io::Write;
+use std::io::{Read, Write};
 use std::rt::Files;
 use std::sync::Wait;
 use std::thread::Threads;
@@ -25,66 +25,70 @@ use std::thread::Threads;
 pub(crate) struct FiledRun<'a> {
     pub(crate) alloc: Global,
     pub(crate) options: Options<'a>,
-    /// The bytes of the script.
-    pub(crate) script: &'a [u8],
     /// The file, which may not be there.
     pub(crate) path: &'a str,
 }
 
-/// Runs a script as was asked, with a file for the entries, which is made once the script has no fault. Why it
-/// doesn't take all entries is told.
-pub(crate) fn run_filed<S, F, W, D>(
+/// Reads a script and runs it as was asked, with a file for the entries, which is made once the script has no fault. Why
+/// it doesn't take all entries is told. The first line that has a fault is put into `faulty`.
+pub(crate) fn run_filed<S, F, R, W, D>(
     rt: &S,
     files: &F,
     run: FiledRun<'_>,
+    reader: &mut R,
+    faulty: &mut Vec<u8>,
     stdout: &mut W,
     stderr: &mut D,
 ) -> Result<(), ServerFault>
 where
     S: Threads + Wait + Sync,
     F: Files,
+    R: Read,
     W: Write,
     D: Write,
     ensures done { OnOk result (HasGotFiled F.File.contents run.entry.options true
-        (Some run.entry.script.now) (W.contents stdout.old) (W.contents stdout.new)
+        (R.remaining reader.old) (W.contents stdout.old) (W.contents stdout.new)
         × (stderr.new ≡ stderr.old)) }
     ensures failed { IfErr result (λ fault. IsSome run.entry.options.journal_out
-        → IsBroken F.File.contents run.entry.options (Some run.entry.script.now)
+        → IsBroken F.File.contents run.entry.options (R.remaining reader.old)
         (W.contents stdout.old) (W.contents stdout.new) stdout.old stdout.new fault) }
 {
     if run.options.threads {
-        run_together(rt, files, run, stdout, stderr)
+        run_together(rt, files, run, reader, faulty, stdout, stderr)
     } else {
-        run_alone(files, run, stdout, stderr)
+        run_alone(files, run, reader, faulty, stdout, stderr)
     }
 }
 
-/// Runs a script on the caller's thread: the file gets the entries of each line before its answers are written.
-fn run_alone<F, W, D>(
+/// Reads a script and runs it on the caller's thread: the file gets the entries of each line before its answers are
+/// written.
+fn run_alone<F, R, W, D>(
     files: &F,
     run: FiledRun<'_>,
+    reader: &mut R,
+    faulty: &mut Vec<u8>,
     stdout: &mut W,
     stderr: &mut D,
 ) -> Result<(), ServerFault>
 where
     F: Files,
+    R: Read,
     W: Write,
     D: Write,
     requires { run.options.threads ≡ false }
     ensures done { OnOk result (HasGotFiled F.File.contents run.entry.options true
-        (Some run.entry.script.now) (W.contents stdout.old) (W.contents stdout.new)
+        (R.remaining reader.old) (W.contents stdout.old) (W.contents stdout.new)
         × (stderr.new ≡ stderr.old)) }
     ensures failed { IfErr result (λ fault. IsSome run.entry.options.journal_out
-        → IsBroken F.File.contents run.entry.options (Some run.entry.script.now)
+        → IsBroken F.File.contents run.entry.options (R.remaining reader.old)
         (W.contents stdout.old) (W.contents stdout.new) stdout.old stdout.new fault) }
 {
     let FiledRun {
         alloc,
         options,
-        mut script,
         path,
     } = run;
-    let plan = read_plan(alloc, &mut script)?;
+    let plan = read_plan(alloc, reader, faulty)?;
     let volume = fresh_volume(alloc, with_window(options.params))?;
     let file = make_journal(files, path)?;
     let mut filed = FiledVolume::new(alloc, volume, LineSink::new(alloc, file), NAME);
@@ -95,34 +99,36 @@ where
     }
 }
 
-/// Runs a script with its sessions on threads: the file gets all entries before the answers are written.
-fn run_together<S, F, W, D>(
+/// Reads a script and runs it with its sessions on threads: the file gets all entries before the answers are written.
+fn run_together<S, F, R, W, D>(
     rt: &S,
     files: &F,
     run: FiledRun<'_>,
+    reader: &mut R,
+    faulty: &mut Vec<u8>,
     stdout: &mut W,
     stderr: &mut D,
 ) -> Result<(), ServerFault>
 where
     S: Threads + Wait + Sync,
     F: Files,
+    R: Read,
     W: Write,
     D: Write,
     requires { run.options.threads ≡ true }
     ensures done { OnOk result (HasGotFiled F.File.contents run.entry.options true
-        (Some run.entry.script.now) (W.contents stdout.old) (W.contents stdout.new)
+        (R.remaining reader.old) (W.contents stdout.old) (W.contents stdout.new)
         × (stderr.new ≡ stderr.old)) }
     ensures failed { IfErr result (λ fault. IsSome run.entry.options.journal_out
-        → IsBroken F.File.contents run.entry.options (Some run.entry.script.now)
+        → IsBroken F.File.contents run.entry.options (R.remaining reader.old)
         (W.contents stdout.old) (W.contents stdout.new) stdout.old stdout.new fault) }
 {
     let FiledRun {
         alloc,
         options,
-        mut script,
         path,
     } = run;
-    let sessions = read_sessions(alloc, &mut script)?;
+    let sessions = read_sessions(alloc, reader, faulty)?;
     let file = make_journal(files, path)?;
     let mut sink = LineSink::new(alloc, file);
     let (setup, scripts) = sessions;

@@ -1,7 +1,7 @@
 //! `lfsd`: a script is read, from standard input or from a file, and run, with its sessions on threads where that is
 //! asked for.
 
-ghost use Rattle.std.specs.Prelude.{◌≡◌, ℕ, List, Some, IfErr, IfOk, IfSome, OnOk};
+ghost use Rattle.std.specs.Prelude.{◌≡◌, ℕ, List, IfErr, IfOk, IfSome, OnOk};
 ghost use Rattle.std.specs.Io.KnownBytes.{Appends, Keeps};
 ghost use Rattle.clap.specs.Values.{kind_of};
 ghost use Rattle.lfs_command.specs.Ends.{EndsUnasked};
@@ -17,13 +17,12 @@ use crate::script::open_script;
 use crate::telling::tell_fault;
 use clap::Error;
 use lfs_audit::fault::ThreadsFault;
-use lfs_audit::run::run_script;
-use lfs_audit::threads::run_threads;
+use lfs_audit::run::run_script_noting;
+use lfs_audit::threads::run_threads_noting;
 use lfs_command::means::Means;
 use lfs_command::refusing::refuse;
 use lfs_command::streams::Streams;
 use lfs_command::words::{texts, words};
-use lfs_io::read::read_script;
 use lfs_io::tell::tell;
 use lfs_types::store::Params;
 use std::alloc::Global;
@@ -145,36 +144,11 @@ where
         (R.remaining reader.old) (W.contents stdout.old) (W.contents stdout.new)
         result stdout.old stdout.new stderr.old stderr.new }
 {
-    match read_script(means.alloc, reader) {
-        Ok(script) => run_bytes(rt, means, script.as_slice(), stdout, stderr),
-        Err(fault) => {
-            let _ = tell(stderr, NAME, &fault);
-            1
-        }
-    }
-}
-
-/// Runs the script of these bytes as was asked, and tells its fault. Gives the status with which the program ends.
-fn run_bytes<S, F, W, D>(
-    rt: &S,
-    means: &Means<'_, F, Options<'_>>,
-    script: &[u8],
-    stdout: &mut W,
-    stderr: &mut D,
-) -> u8
-where
-    S: Threads + Wait + Sync,
-    F: Files,
-    W: Write,
-    D: Write,
-    ensures { EndsRun F.File.contents means.now.options
-        (Some script.now) (W.contents stdout.old) (W.contents stdout.new)
-        result stdout.old stdout.new stderr.old stderr.new }
-{
-    match run_asked(rt, means, script, stdout, stderr) {
+    let mut faulty = Vec::new(means.alloc);
+    match run_asked(rt, means, reader, &mut faulty, stdout, stderr) {
         Ok(()) => 0,
         Err(ServerFault::Run(fault)) => {
-            tell_fault(means.alloc, script, fault, stderr);
+            tell_fault(means.alloc, faulty.as_slice(), fault, stderr);
             1
         }
         Err(ServerFault::Open(fault)) => {
@@ -185,23 +159,26 @@ where
     }
 }
 
-/// Runs a script as was asked, with a file of its entries or without one.
-fn run_asked<S, F, W, D>(
+/// Reads a script and runs it as was asked, with a file of its entries or without one. The first line that has a fault
+/// is put into `faulty`.
+fn run_asked<S, F, R, W, D>(
     rt: &S,
     means: &Means<'_, F, Options<'_>>,
-    script: &[u8],
+    reader: &mut R,
+    faulty: &mut Vec<u8>,
     stdout: &mut W,
     stderr: &mut D,
 ) -> Result<(), ServerFault>
 where
     S: Threads + Wait + Sync,
     F: Files,
+    R: Read,
     W: Write,
     D: Write,
     ensures done { OnOk result (HasRun F.File.contents means.now.options
-        (Some script.now) (W.contents stdout.old) (W.contents stdout.new)
+        (R.remaining reader.old) (W.contents stdout.old) (W.contents stdout.new)
         × (stderr.new ≡ stderr.old)) }
-    ensures failed { IfErr result (IsBroken F.File.contents means.now.options (Some script.now)
+    ensures failed { IfErr result (IsBroken F.File.contents means.now.options (R.remaining reader.old)
         (W.contents stdout.old) (W.contents stdout.new) stdout.old stdout.new) }
 {
     let Means {
@@ -214,18 +191,14 @@ where
             let run = FiledRun {
                 alloc,
                 options,
-                script,
                 path,
             };
-            run_filed(rt, files, run, stdout, stderr)
+            run_filed(rt, files, run, reader, faulty, stdout, stderr)
         }
-        None => {
-            let mut reader = script;
-            match run(rt, alloc, options, &mut reader, stdout) {
-                Ok(()) => Ok(()),
-                Err(fault) => Err(ServerFault::Run(fault)),
-            }
-        }
+        None => match run(rt, alloc, options, reader, faulty, stdout) {
+            Ok(()) => Ok(()),
+            Err(fault) => Err(ServerFault::Run(fault)),
+        },
     }
 }
 
@@ -235,6 +208,7 @@ fn run<S, R, W>(
     alloc: Global,
     options: Options<'_>,
     reader: &mut R,
+    faulty: &mut Vec<u8>,
     stdout: &mut W,
 ) -> Result<(), ThreadsFault>
 where
@@ -248,12 +222,12 @@ where
         → Keeps (W.contents stdout.old) (W.contents stdout.new)) }
 {
     if options.threads {
-        match run_threads(rt, alloc, reader, stdout, options.params) {
+        match run_threads_noting(rt, alloc, reader, stdout, options.params, faulty) {
             Ok(()) => Ok(()),
             Err(undone) => Err(undone.fault()),
         }
     } else {
-        run_alone(alloc, options.params, reader, stdout)
+        run_alone(alloc, options.params, reader, faulty, stdout)
     }
 }
 
@@ -262,6 +236,7 @@ fn run_alone<R: Read, W: Write>(
     alloc: Global,
     params: Params,
     reader: &mut R,
+    faulty: &mut Vec<u8>,
     stdout: &mut W,
 ) -> Result<(), ThreadsFault>
     ensures written { OnOk result (IfSome (R.remaining reader.old) (λ script. (text : List ℕ)
@@ -271,7 +246,7 @@ fn run_alone<R: Read, W: Write>(
     ensures unwritten { IfErr result (λ fault. (MayHaveWrittenThreads fault → ⊥)
         → Keeps (W.contents stdout.old) (W.contents stdout.new)) }
 {
-    match run_script(alloc, reader, stdout, params) {
+    match run_script_noting(alloc, reader, stdout, params, faulty) {
         Ok(()) => Ok(()),
         Err(fault) => Err(ThreadsFault::Run(fault)),
     }

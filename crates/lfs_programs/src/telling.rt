@@ -21,16 +21,16 @@ struct PlacedFault<'a> {
     place: &'a str,
 }
 
-/// Tells the fault of a run of the script of these bytes, of a line's fault also where it stands and what was expected
-/// there, unless memory is wanting.
+/// Tells the fault of a run of a script, of a fault of this line also where it stands and what was expected there, unless
+/// memory is wanting.
 pub(crate) fn tell_fault<D: Write>(
     alloc: Global,
-    script: &[u8],
+    line: &[u8],
     fault: ThreadsFault,
     stderr: &mut D,
 ) {
     let mut text = Vec::new(alloc);
-    let place = match push_fault_place(alloc, &mut text, script, fault) {
+    let place = match push_fault_place(alloc, &mut text, line, fault) {
         Ok(()) => str::from_utf8(text.as_slice()).unwrap_or_default(),
         Err(AllocError) => "",
     };
@@ -41,11 +41,11 @@ pub(crate) fn tell_fault<D: Write>(
 fn push_fault_place(
     alloc: Global,
     text: &mut Vec<u8>,
-    script: &[u8],
+    line: &[u8],
     fault: ThreadsFault,
 ) -> Result<(), AllocError> {
     match fault {
-        ThreadsFault::Run(RunFault::Script(fault)) => push_line_place(alloc, text, script, fault),
+        ThreadsFault::Run(RunFault::Script(fault)) => push_line_place(alloc, text, line, fault),
         ThreadsFault::Run(
             RunFault::Read
             | RunFault::TooLong
@@ -62,20 +62,12 @@ fn push_fault_place(
 fn push_line_place(
     alloc: Global,
     text: &mut Vec<u8>,
-    script: &[u8],
+    line: &[u8],
     fault: ScriptFault,
 ) -> Result<(), AllocError> {
     match fault.kind {
         FaultKind::Cut => text.extend_from_slice(b" a line ends in a line feed"),
         FaultKind::Memory => Ok(()),
-        _ => push_place(alloc, text, 0, line_of(script, fault.line)),
+        _ => push_place(alloc, text, 0, line),
     }
-}
-
-/// A line of a script, counted from 1.
-fn line_of(script: &[u8], number: u32) -> &[u8] {
-    let mut lines = script.split(|byte| *byte == b'\n');
-    lines
-        .nth(number.saturating_sub(1) as usize)
-        .unwrap_or_default()
 }

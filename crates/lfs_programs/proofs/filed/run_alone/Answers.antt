@@ -1,9 +1,8 @@
-use Rattle.std.proofs.Common.{Some, Bool, refl, subst}
+use Rattle.std.proofs.Common.{Bool, refl, subst}
 use Rattle.std.proofs.lemmas.Result.{err_from_is_err_and}
 use Rattle.lfs_audit.proofs.FaultLemmas.{has_plan, layout_fault, reading_script_fault}
 use Rattle.lfs_programs.specs.Asked.{HasGotFiled}
-use Rattle.lfs_programs.proofs.FiledLemmas.{begun_of, broken_alone, broken_late, filed_alone, fresh_as, unfit_as}
-use Rattle.lfs_programs.proofs.ServerLemmas.{keeps_same}
+use Rattle.lfs_programs.proofs.FiledLemmas.{begun_of, broken_alone, broken_late, filed_alone, fresh_as, keeps_same, unfit_as}
 use Rattle.lfs_programs.proofs.filed.run_alone.Goals as goal
 
 pub run_plan-requires : goal.run_plan-requires
@@ -17,7 +16,7 @@ returns-in_err-plan-clause-failed g c =
     let exit = err_from_is_err_and c.from_residual.result c.from_residual.ensures.1 in
     let options = c.args.run.options in
     let p = options.params in
-    let known = Some c.args.run.script.now in
+    let known = g.R.Read.remaining c.args.reader.now in
     let start = g.W.Write.contents c.args.stdout.now in
     rw (exit.1, exit.2)
     (λ some. broken_alone g.F.File.Write.contents options known start start c.args.stdout.now c.args.stdout.now _
@@ -32,7 +31,7 @@ returns-in_err-volume-clause-failed g c =
     let p = options.params in
     let w = c.with_window.ensures in
     let params = c.with_window.result in
-    let known = Some c.args.run.script.now in
+    let known = g.R.Read.remaining c.args.reader.now in
     let start = g.W.Write.contents c.args.stdout.now in
     rw (exit.1, exit.2)
     (λ some. broken_alone g.F.File.Write.contents options known start start c.args.stdout.now c.args.stdout.now _
@@ -54,7 +53,7 @@ returns-in_err-run_plan-clause-failed g c =
     let exit = err_from_is_err_and residual.result residual.ensures.1 in
     let w = c.with_window.ensures in
     let params = c.with_window.result in
-    let known = Some c.args.run.script.now in
+    let known = g.R.Read.remaining c.args.reader.now in
     rw (exit.1, exit.2)
     (λ some. broken_late g.F.File.Write.contents c.args.run.options known (g.W.Write.contents c.args.stdout.now)
     (g.W.Write.contents c.run_plan.new.writer) c.args.stdout.now c.run_plan.new.writer _ c.in_ok-plan.plan
@@ -68,7 +67,7 @@ returns-then-branch-clause-done g c =
     let w = c.with_window.ensures in
     let params = c.with_window.result in
     let volume = c.in_ok-volume.volume in
-    let known = Some c.args.run.script.now in
+    let known = g.R.Read.remaining c.args.reader.now in
     let start = g.W.Write.contents c.args.stdout.now in
     let out = g.W.Write.contents c.run_plan.new.writer in (
       subst (λ (b : Bool). HasGotFiled g.F.File.Write.contents options b known start out) c.if-branch.true
@@ -88,7 +87,7 @@ returns-clause-failed g c = λ some.
     let w = c.with_window.ensures in
     let params = c.with_window.result in
     let volume = c.in_ok-volume.volume in
-    let known = Some c.args.run.script.now in
+    let known = g.R.Read.remaining c.args.reader.now in
     let start = g.W.Write.contents c.args.stdout.now in
     let out = g.W.Write.contents c.run_plan.new.writer in (
       some,

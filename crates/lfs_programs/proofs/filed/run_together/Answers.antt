@@ -1,8 +1,7 @@
-use Rattle.std.proofs.Common.{Some, false, true, refl}
+use Rattle.std.proofs.Common.{false, true, refl}
 use Rattle.std.proofs.lemmas.Result.{err_from_is_err_and}
 use Rattle.lfs_audit.proofs.FaultLemmas.{split_cause}
-use Rattle.lfs_programs.proofs.FiledLemmas.{broken_together, filed_together}
-use Rattle.lfs_programs.proofs.ServerLemmas.{keeps_same}
+use Rattle.lfs_programs.proofs.FiledLemmas.{broken_together, filed_together, keeps_same}
 use Rattle.lfs_programs.proofs.filed.run_together.Goals as goal
 
 pub returns-in_err-sessions-clause-failed : goal.returns-in_err-sessions-clause-failed
@@ -10,7 +9,7 @@ returns-in_err-sessions-clause-failed g c =
     let exit = err_from_is_err_and c.from_residual.result c.from_residual.ensures.1 in
     let options = c.args.run.options in
     let p = options.params in
-    let known = Some c.args.run.script.now in
+    let known = g.R.Read.remaining c.args.reader.now in
     let start = g.W.Write.contents c.args.stdout.now in
     rw (exit.1, exit.2)
     (λ some. broken_together g.F.File.Write.contents options known start start c.args.stdout.now c.args.stdout.now _
@@ -27,7 +26,7 @@ pub returns-in_err-run_sessions-clause-failed : goal.returns-in_err-run_sessions
 returns-in_err-run_sessions-clause-failed g c =
     let residual = c.from_residual-in_err-run_sessions in
     let exit = err_from_is_err_and residual.result residual.ensures.1 in
-    let known = Some c.args.run.script.now in
+    let known = g.R.Read.remaining c.args.reader.now in
     let late = c.in_err-run_sessions.ensures in
     rw (exit.1, exit.2)
     (λ some. broken_together g.F.File.Write.contents c.args.run.options known (g.W.Write.contents c.args.stdout.now)
@@ -36,7 +35,7 @@ returns-in_err-run_sessions-clause-failed g c =
 
 pub returns-in-None-clause-done : goal.returns-in-None-clause-done
 returns-in-None-clause-done g c =
-    let known = Some c.args.run.script.now in
+    let known = g.R.Read.remaining c.args.reader.now in
     let ran = c.in_ok-run_sessions.ensures.written in (
       filed_together g.F.File.Write.contents (λ s. s.writer) (λ s. s.next) c.args.run.options known
           (g.W.Write.contents c.args.stdout.now) (g.W.Write.contents c.run_sessions.new.writer) c.new-sink.result
@@ -47,7 +46,7 @@ returns-in-None-clause-done g c =
 
 pub returns-clause-failed : goal.returns-clause-failed
 returns-clause-failed g c = λ some.
-    let known = Some c.args.run.script.now in
+    let known = g.R.Read.remaining c.args.reader.now in
     let ran = c.in_ok-run_sessions.ensures.written in (
       some,
       filed_together g.F.File.Write.contents (λ s. s.writer) (λ s. s.next) c.args.run.options known

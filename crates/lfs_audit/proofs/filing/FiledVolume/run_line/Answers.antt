@@ -1,4 +1,4 @@
-use Rattle.std.proofs.Common.{ap, subst}
+use Rattle.std.proofs.Common.{subst}
 use Rattle.std.proofs.lemmas.Result.{on_ok_weaker}
 use Rattle.lfs_volume.specs.Cleanings.{cleaner_of}
 use Rattle.lfs_audit.specs.Filing.{Filed, FilesLine}

@@ -8,7 +8,7 @@ use Rattle.lfs_settle.specs.Interleaving.{run_of}
 use Rattle.lfs_audit.proofs.FaultLemmas.{late_threads_fault, split_cause}
 use Rattle.lfs_audit.proofs.ThreadLemmas.{threads_run, transcripts_few}
 use Rattle.lfs_audit.proofs.UndoneLemmas.{script_named, unserved_fault, unserved_named, unsplit_named, unwritten_named}
-use Rattle.lfs_audit.proofs.threads.run_threads.Goals as goal
+use Rattle.lfs_audit.proofs.threads.run_threads_noting.Goals as goal
 
 pub print_closed-requires : goal.print_closed-requires
 print_closed-requires g c =
