@@ -56,7 +56,7 @@ fn names_are_taken_or_refused_by_the_first_fault(rt: HostRuntime) {
 }
 
 /// Texts, and why each is no path.
-const REFUSED_PATHS: [(&str, BadPath); 7] = [
+const REFUSED_PATHS: [(&str, BadPath); 11] = [
     ("", BadPath::NotAbsolute),
     ("a", BadPath::NotAbsolute),
     ("//", BadPath::Name(1, BadName::Empty)),
@@ -64,6 +64,10 @@ const REFUSED_PATHS: [(&str, BadPath); 7] = [
     ("/a//b", BadPath::Name(2, BadName::Empty)),
     ("/a/b/../\0", BadPath::Name(3, BadName::Dot)),
     ("/\0", BadPath::Name(1, BadName::Nul)),
+    ("/./a", BadPath::Name(1, BadName::Dot)),
+    ("/fourteen-bytes/..", BadPath::Name(2, BadName::Dot)),
+    ("/fourteen-bytes\0/a", BadPath::Name(1, BadName::Nul)),
+    ("/a/fifteen-letter\0/b", BadPath::Name(2, BadName::Nul)),
 ];
 
 /// A slash and a name of 255 bytes.

@@ -3,6 +3,7 @@
 
 mod cuts;
 mod faults;
+mod limits;
 mod pieces;
 mod streams;
 mod streams_on_threads;
