@@ -1,12 +1,14 @@
 //! A file server in plain Rust, to set the costs of lfsd beside: rows and names in hash tables, search, read and write
-//! permission alone, and a journal. It has no log, no flags, no sticky bit, no level and no proof. It reads the script
-//! lines that `beside.py` makes from standard input, and writes the answers and a count as lfsd does.
+//! permission alone, and a journal, which it counts and drops as lfsd does. It has no log, no flags, no sticky bit, no level
+//! and no proof. It reads the script lines that `beside.py` makes from standard input, and writes the answers and a count.
 use std::collections::HashMap;
 use std::io::{self, BufWriter, Read, Write};
 
 const ROOT: u32 = 2;
 const FIRST: u32 = 4;
 const TRANSFER: usize = 4096;
+/// So many entries the journal has at most, as that of lfsd.
+const WINDOW: usize = 256;
 
 #[derive(Clone, Copy)]
 enum Bit {
@@ -64,6 +66,8 @@ struct Volume {
     rows: HashMap<u32, Row>,
     next: u32,
     journal: Vec<(Request, Answer)>,
+    served: usize,
+    denied: usize,
 }
 
 fn denied<T>(rule: &'static str, error: &'static str, at: usize) -> Result<T, Denied> {
@@ -82,7 +86,7 @@ fn names_of(path: &str) -> Vec<&str> {
 impl Volume {
     fn new() -> Volume {
         let root = Row { uid: 0, gid: 0, mode: 0o755, names: Some(HashMap::new()), bytes: Vec::new() };
-        Volume { rows: HashMap::from([(ROOT, root)]), next: FIRST, journal: Vec::new() }
+        Volume { rows: HashMap::from([(ROOT, root)]), next: FIRST, journal: Vec::new(), served: 0, denied: 0 }
     }
 
     fn walk(&self, caller: &Caller, names: &[&str]) -> Result<u32, Denied> {
@@ -223,6 +227,13 @@ impl Volume {
 
     fn call(&mut self, caller: &Caller, request: Request) -> Answer {
         let answer = self.serve(caller, &request).unwrap_or_else(Answer::Denied);
+        match answer {
+            Answer::Denied(_) => self.denied += 1,
+            _ => self.served += 1,
+        }
+        if self.journal.len() == WINDOW {
+            self.journal.clear();
+        }
         self.journal.push((request, answer.clone()));
         answer
     }
@@ -293,6 +304,6 @@ fn main() -> io::Result<()> {
             tell(&mut out, &answer)?;
         }
     }
-    let refused = volume.journal.iter().filter(|(_, answer)| matches!(answer, Answer::Denied(_))).count();
-    writeln!(out, "entries {}\nserved {}\ndenied {refused}", volume.journal.len(), volume.journal.len() - refused)
+    let Volume { served, denied, .. } = volume;
+    writeln!(out, "entries {}\nserved {served}\ndenied {denied}", served + denied)
 }
