@@ -6,7 +6,7 @@ ghost use Rattle.lfs_types.specs.Shown.{IsList, ServesList};
 use crate::attrs::Attrs;
 use crate::payload::{Bytes, Names};
 use crate::rule::Denial;
-use std::alloc::{AllocError, Global};
+use std::alloc::AllocError;
 
 /// What a served call shows.
 #[derive(Drop, PartialEq, Eq, Debug)]
@@ -48,28 +48,28 @@ pub enum Answer {
 }
 
 impl Served {
-    /// A value equal to this one. Only bytes and names take memory.
-    pub fn try_clone(&self, alloc: Global) -> Result<Served, AllocError>
+    /// A value equal to this one, which shares its bytes or names. Only these can want memory.
+    pub fn try_clone(&self) -> Result<Served, AllocError>
         ensures copy { IfOk result (λ copy. copy ≡ self.now) }
         ensures memory { IsErr result → IsList self.now }
     {
         Ok(match self {
             Served::Stat(number, attrs) => Served::Stat(*number, *attrs),
-            Served::Bytes(bytes) => Served::Bytes(bytes.try_clone(alloc)?),
-            Served::Names(names) => Served::Names(names.try_clone(alloc)?),
+            Served::Bytes(bytes) => Served::Bytes(bytes.try_clone()?),
+            Served::Names(names) => Served::Names(names.try_clone()?),
             Served::Done => Served::Done,
         })
     }
 }
 
 impl Answer {
-    /// An answer equal to this one. Only bytes and names take memory.
-    pub fn try_clone(&self, alloc: Global) -> Result<Answer, AllocError>
+    /// An answer equal to this one, which shares its bytes or names. Only these can want memory.
+    pub fn try_clone(&self) -> Result<Answer, AllocError>
         ensures copy { IfOk result (λ copy. copy ≡ self.now) }
         ensures memory { IsErr result → ServesList self.now }
     {
         Ok(match self {
-            Answer::Served(served) => Answer::Served(served.try_clone(alloc)?),
+            Answer::Served(served) => Answer::Served(served.try_clone()?),
             Answer::Denied(denial) => Answer::Denied(*denial),
             Answer::Refused(resource) => Answer::Refused(*resource),
         })

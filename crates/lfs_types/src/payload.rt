@@ -3,33 +3,36 @@
 ghost use Rattle.std.specs.Prelude.{◌≡◌, ◌<◌, ◌≤◌, length, IfOk, MatchResult};
 
 use crate::limits::TRANSFER_BYTES;
-use crate::name::{Name, clone_names};
+use crate::name::Name;
 use std::alloc::{AllocError, Global};
 use std::marker::Model;
+use std::sync::Arc;
 
-/// Bytes that a Read served.
+/// Bytes that a Read served. Copies share them.
 #[derive(Drop, Debug)]
 pub struct Bytes {
-    bytes: Vec<u8>,
+    bytes: Arc<Vec<u8>>,
 }
 
 impl Model for Bytes {
+    ghost use Rattle.std.specs.Arc.{arc_value};
     ghost use Rattle.std.specs.Prelude.{List, ℕ};
 
     ghost Value = { List ℕ };
 
-    ghost view = { λ b. b.bytes.items };
-}
-
-impl From<Vec<u8>> for Bytes {
-    ghost from_gives = { λ bytes result. result ≡ bytes.items };
-
-    fn from(bytes: Vec<u8>) -> Bytes {
-        Bytes { bytes }
-    }
+    ghost view = { λ b. (arc_value b.bytes).items };
 }
 
 impl Bytes {
+    /// These bytes, to be shared.
+    pub fn new(bytes: Vec<u8>) -> Result<Bytes, AllocError>
+        ensures { IfOk result (λ shared. shared ≡ bytes.items) }
+    {
+        let alloc = *bytes.allocator();
+        let bytes = Arc::new(alloc, bytes)?;
+        Ok(Bytes { bytes })
+    }
+
     /// The bytes.
     pub fn as_slice(&self) -> &[u8]
         ensures { result.now ≡ self.now }
@@ -37,18 +40,11 @@ impl Bytes {
         self.bytes.as_slice()
     }
 
-    /// The vector of the bytes.
-    pub fn into_vec(self) -> Vec<u8>
-        ensures { result.items ≡ self }
-    {
-        self.bytes
-    }
-
-    /// A value equal to this one.
-    pub fn try_clone(&self, alloc: Global) -> Result<Bytes, AllocError>
+    /// A value equal to this one, which shares its bytes.
+    pub fn try_clone(&self) -> Result<Bytes, AllocError>
         ensures { IfOk result (λ copy. copy ≡ self.now) }
     {
-        let bytes = Vec::from_slice(alloc, self.as_slice())?;
+        let bytes = Arc::try_clone(&self.bytes)?;
         Ok(Bytes { bytes })
     }
 }
@@ -75,29 +71,31 @@ impl Eq for Bytes {
     ghost laws = { Prim.search (comparing, rules) };
 }
 
-/// Names that a List served.
+/// Names that a List served. Copies share them.
 #[derive(Drop, Debug)]
 pub struct Names {
-    names: Vec<Name>,
+    names: Arc<Vec<Name>>,
 }
 
 impl Model for Names {
+    ghost use Rattle.std.specs.Arc.{arc_value};
     ghost use Rattle.std.specs.Prelude.{List, ℕ};
 
     ghost Value = { List (List ℕ) };
 
-    ghost view = { λ n. n.names.items };
-}
-
-impl From<Vec<Name>> for Names {
-    ghost from_gives = { λ names result. result ≡ names.items };
-
-    fn from(names: Vec<Name>) -> Names {
-        Names { names }
-    }
+    ghost view = { λ n. (arc_value n.names).items };
 }
 
 impl Names {
+    /// These names, to be shared.
+    pub fn new(names: Vec<Name>) -> Result<Names, AllocError>
+        ensures { IfOk result (λ shared. shared ≡ names.items) }
+    {
+        let alloc = *names.allocator();
+        let names = Arc::new(alloc, names)?;
+        Ok(Names { names })
+    }
+
     /// The names.
     pub fn as_slice(&self) -> &[Name]
         ensures { result.now ≡ self.now }
@@ -105,18 +103,11 @@ impl Names {
         self.names.as_slice()
     }
 
-    /// The vector of the names.
-    pub fn into_vec(self) -> Vec<Name>
-        ensures { result.items ≡ self }
-    {
-        self.names
-    }
-
-    /// A value equal to this one.
-    pub fn try_clone(&self, alloc: Global) -> Result<Names, AllocError>
+    /// A value equal to this one, which shares its names.
+    pub fn try_clone(&self) -> Result<Names, AllocError>
         ensures { IfOk result (λ copy. copy ≡ self.now) }
     {
-        let names = clone_names(alloc, self.as_slice())?;
+        let names = Arc::try_clone(&self.names)?;
         Ok(Names { names })
     }
 }
