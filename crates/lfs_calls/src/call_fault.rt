@@ -1,12 +1,14 @@
 //! What keeps a call from being served.
 
 ghost use Rattle.std.specs.Prelude.{◌≡◌};
+ghost use Rattle.lfs_types.specs.declared.answer.Resource.TheVariants.{NoMemory};
 ghost use Rattle.lfs_calls.specs.Calls.{answered, resource_of};
 ghost use Rattle.lfs_calls.specs.declared.call_fault.CallFault.TheVariants as reasons;
 
 use lfs_types::answer::{Answer, Resource, Served};
 use lfs_types::rule::Denial;
 use lfs_types::store::StoreRefusal;
+use std::alloc::AllocError;
 
 /// Why a call is not served.
 #[derive(Clone, Copy, PartialEq, Eq, Debug)]
@@ -33,6 +35,14 @@ impl From<StoreRefusal> for CallFault {
             StoreRefusal::NoSpace => CallFault::Refused(Resource::NoSpace),
             StoreRefusal::NoMemory => CallFault::Refused(Resource::NoMemory),
         }
+    }
+}
+
+impl From<AllocError> for CallFault {
+    ghost from_gives = { λ _ why. why ≡ reasons.Refused NoMemory };
+
+    fn from(_: AllocError) -> CallFault {
+        CallFault::Refused(Resource::NoMemory)
     }
 }
 

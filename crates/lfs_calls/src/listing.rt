@@ -13,14 +13,13 @@ use crate::directory::names_of_directory;
 use crate::walking::find;
 use lfs_checks::components::depth;
 use lfs_checks::names::may_list;
-use lfs_types::answer::{Resource, Served};
+use lfs_types::answer::Served;
 use lfs_types::cred::Cred;
 use lfs_types::name::Name;
 use lfs_types::path::Path;
 use lfs_types::payload::Names;
 use lfs_types::request::Request;
 use lfs_types::store::FileStore;
-use std::alloc::AllocError;
 
 /// The names in a directory, in byte order.
 pub fn list<F: FileStore>(
@@ -35,10 +34,8 @@ pub fn list<F: FileStore>(
 {
     let dir = find(store, cred, path)?;
     may_list(&dir.attrs, cred, depth(path))?;
-    match names_of_directory(store.alloc(), store, dir.number, dir.attrs.size) {
-        Ok(names) => Ok(Served::Names(Names::from(sorted(names)))),
-        Err(AllocError) => Err(CallFault::Refused(Resource::NoMemory)),
-    }
+    let names = names_of_directory(store.alloc(), store, dir.number, dir.attrs.size)?;
+    Ok(Served::Names(Names::new(sorted(names))?))
 }
 
 /// Names in byte order.

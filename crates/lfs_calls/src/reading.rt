@@ -1,6 +1,6 @@
 //! The calls that show a file.
 
-ghost use Rattle.std.specs.Prelude.{◌≡◌, IsSome, IfSome, length};
+ghost use Rattle.std.specs.Prelude.{◌≡◌, IsSome, IfOk, length};
 ghost use Rattle.std.specs.FinMap.{get};
 ghost use Rattle.lfs_types.specs.Stored.{bytes_of, slice_of};
 ghost use Rattle.lfs_calls.specs.Calls.{IsCall};
@@ -12,7 +12,7 @@ use crate::walking::find;
 use lfs_checks::attributes::shown_size;
 use lfs_checks::bytes::may_read;
 use lfs_checks::components::depth;
-use lfs_types::answer::{Resource, Served};
+use lfs_types::answer::Served;
 use lfs_types::attrs::Attrs;
 use lfs_types::cred::Cred;
 use lfs_types::limits::TRANSFER_BYTES;
@@ -20,6 +20,7 @@ use lfs_types::path::Path;
 use lfs_types::payload::Bytes;
 use lfs_types::request::Request;
 use lfs_types::store::FileStore;
+use std::alloc::AllocError;
 
 /// The number and the attributes of a file.
 pub fn stat<F: FileStore>(
@@ -54,23 +55,21 @@ pub fn read<F: FileStore>(
     let file = find(store, cred, path)?;
     may_read(&file.attrs, cred, depth(path))?;
     let count = (len as usize).min(TRANSFER_BYTES);
-    match read_bytes(store, file.number, off, file.attrs.size, count) {
-        Some(bytes) => Ok(Served::Bytes(Bytes::from(bytes))),
-        None => Err(CallFault::Refused(Resource::NoMemory)),
-    }
+    let bytes = read_bytes(store, file.number, off, file.attrs.size, count)?;
+    Ok(Served::Bytes(Bytes::new(bytes)?))
 }
 
-/// The bytes of a file of this size from `off` on, at most `count`; None where a growth was refused.
+/// The bytes of a file of this size from `off` on, at most `count`; an error where a growth was refused.
 fn read_bytes<F: FileStore>(
     store: &mut CachedStore<F>,
     ino: u32,
     off: u64,
     size: u64,
     count: usize,
-) -> Option<Vec<u8>>
+) -> Result<Vec<u8>, AllocError>
     requires used { IsSome (get (F.state store.old).content ino) }
     requires size { size ≡ length (bytes_of (F.state store.old).content ino) }
-    ensures bytes { IfSome result
+    ensures bytes { IfOk result
         (λ v. v.items ≡ slice_of (bytes_of (F.state store.old).content ino) off count) }
     ensures state { F.state store.new ≡ F.state store.old }
 {
@@ -81,10 +80,7 @@ fn read_bytes<F: FileStore>(
         count
     };
     let alloc = store.alloc();
-    let mut bytes = match vec![in alloc; 0u8; count] {
-        Ok(bytes) => bytes,
-        Err(_) => return None,
-    };
+    let mut bytes = vec![in alloc; 0u8; count]?;
     store.read(ino, off, bytes.as_mut_slice());
-    Some(bytes)
+    Ok(bytes)
 }

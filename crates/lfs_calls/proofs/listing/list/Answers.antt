@@ -46,32 +46,43 @@ names_of_directory-requires-clause-blocks g c =
     subst (λ x. AreBlocks (bytes_of x dir.number)) (sym (same_content c.find.ensures.state))
     (bytes_listing t.1.shows dir.number dir.attrs (c.in_ok-dir.ensures.reach t.0 t.1).1 directory).blocks
 
-pub returns-in-Ok-clause-call : goal.returns-in-Ok-clause-call
-returns-in-Ok-clause-call g c level =
+pub returns-clause-call : goal.returns-clause-call
+returns-clause-call g c level =
     let dir = c.in_ok-dir.dir in
     let leads = c.in_ok-dir.ensures.reach in
     let content = (g.F.FileStore.state c.args.store.now).content in
     let directory = (met_first _ _ _ (judged_all (list_tests c.args.cred.now dir.attrs c.depth.result)
     (sym c.in_ok-may_list.ensures))).0 in
-    let names = c.in-Ok.ensures.names ∙ ap (λ x. map (λ (e : Entry). e.1) (all_entries (bytes_of x dir.number)))
-    (same_content c.find.ensures.state) in
+    let names = c.in_ok-names.ensures.names
+    ∙ ap (λ x. map (λ (e : Entry). e.1) (all_entries (bytes_of x dir.number))) (same_content c.find.ensures.state) in
     let moved = subst (λ ns. IsPermutation ns c.sorted.result.items) names c.sorted.ensures.permutation in
-    shown level (c.names_of_directory.ensures.state ∙ c.find.ensures.state) (served.Names c.from.result)
+    shown level (c.names_of_directory.ensures.state ∙ c.find.ensures.state) (served.Names c.in_ok-new.field-0)
     (serves (list_path level c.args.cred.now c.args.path.now) dir leads c.depth.result c.depth.ensures
     c.in_ok-may_list.ensures (λ w h. h) (λ w h. h))
     (λ w v. let r = leads w v in
-    ap served.Names c.from.ensures
+    ap served.Names c.in_ok-new.ensures
     ∙ list_answer content w v.shows v.tree c.args.path.now dir
     (walked-reached w.rows c.args.cred.now 0 0 root c.args.path.now dir.number r.0) r.1 directory
     c.sorted.result.items moved c.sorted.ensures.order)
     (λ w. refl)
     (λ w n dir. refl)
 
-pub returns-in-Err-clause-call : goal.returns-in-Err-clause-call
-returns-in-Err-clause-call g c level =
+pub returns-in_err-names-clause-call : goal.returns-in_err-names-clause-call
+returns-in_err-names-clause-call g c level =
+    let p = err_from_is_err_and c.from_residual-in_err-names.result c.from_residual-in_err-names.ensures.1 in
     let dir = c.in_ok-dir.dir in
-    lacking level (c.names_of_directory.ensures.state ∙ c.find.ensures.state) NoMemory
+    rw (p.1, p.2) (lacking level (c.names_of_directory.ensures.state ∙ c.find.ensures.state) NoMemory
     (λ w v at.
     let x = serves (list_path level c.args.cred.now c.args.path.now) dir c.in_ok-dir.ensures.reach c.depth.result
     c.depth.ensures c.in_ok-may_list.ensures (λ w h. h) (λ w h. h) w v at in
-    (x.allowed, x.numbered, x.roomy, inr tt))
+    (x.allowed, x.numbered, x.roomy, inr tt)))
+
+pub returns-in_err-new-clause-call : goal.returns-in_err-new-clause-call
+returns-in_err-new-clause-call g c level =
+    let p = err_from_is_err_and c.from_residual-in_err-new.result c.from_residual-in_err-new.ensures.1 in
+    let dir = c.in_ok-dir.dir in
+    rw (p.1, p.2) (lacking level (c.names_of_directory.ensures.state ∙ c.find.ensures.state) NoMemory
+    (λ w v at.
+    let x = serves (list_path level c.args.cred.now c.args.path.now) dir c.in_ok-dir.ensures.reach c.depth.result
+    c.depth.ensures c.in_ok-may_list.ensures (λ w h. h) (λ w h. h) w v at in
+    (x.allowed, x.numbered, x.roomy, inr tt)))

@@ -45,31 +45,43 @@ read_bytes-requires-clause-size g c =
     (c.in_ok-file.ensures.reach t.0 t.1).1
     ∙ ap (λ x. length (bytes_of x file.number)) (sym (same_content c.find.ensures.state))
 
-pub returns-in-Some-clause-call : goal.returns-in-Some-clause-call
-returns-in-Some-clause-call g c level =
+pub returns-clause-call : goal.returns-clause-call
+returns-clause-call g c level =
     let file = c.in_ok-file.file in
     let leads = c.in_ok-file.ensures.reach in
     let content = (g.F.FileStore.state c.args.store.now).content in
     let tests = judged_all (read_tests c.args.cred.now file.attrs c.depth.result) (sym c.in_ok-may_read.ensures) in
     let regular = not-true (is_directory_kind file.attrs.kind) (met_first _ _ _ tests).0 in
-    shown level (c.read_bytes.ensures.state ∙ c.find.ensures.state) (served.Bytes c.from.result)
+    shown level (c.read_bytes.ensures.state ∙ c.find.ensures.state) (served.Bytes c.in_ok-new.field-0)
     (serves (read_path level c.args.cred.now c.args.path.now c.args.off c.args.len) file leads c.depth.result
     c.depth.ensures c.in_ok-may_read.ensures (λ w h. h) (λ w h. h))
     (λ w v. let r = leads w v in
     read_answer content w v.shows c.args.cred.now c.args.path.now file.number file.attrs r.0 r.1 c.args.off c.args.len
-    regular c.from.result
-    (c.from.ensures ∙ c.in-Some.ensures.bytes
+    regular c.in_ok-new.field-0
+    (c.in_ok-new.ensures ∙ c.in_ok-bytes.ensures.bytes
     ∙ ap (λ x. slice_of (bytes_of x file.number) c.args.off c.min-count.result) (same_content c.find.ensures.state)
     ∙ ap (slice_of (bytes_of content file.number) c.args.off) c.min-count.ensures))
     (λ w. refl)
     (λ w n dir. refl)
 
-pub returns-in-None-clause-call : goal.returns-in-None-clause-call
-returns-in-None-clause-call g c level =
+pub returns-in_err-bytes-clause-call : goal.returns-in_err-bytes-clause-call
+returns-in_err-bytes-clause-call g c level =
+    let p = err_from_is_err_and c.from_residual-in_err-bytes.result c.from_residual-in_err-bytes.ensures.1 in
     let file = c.in_ok-file.file in
-    lacking level (c.read_bytes.ensures.state ∙ c.find.ensures.state) NoMemory
+    rw (p.1, p.2) (lacking level (c.read_bytes.ensures.state ∙ c.find.ensures.state) NoMemory
     (λ w v at.
     let x = serves (read_path level c.args.cred.now c.args.path.now c.args.off c.args.len) file
     c.in_ok-file.ensures.reach c.depth.result c.depth.ensures c.in_ok-may_read.ensures (λ w h. h) (λ w h. h) w v at
     in
-    (x.allowed, x.numbered, x.roomy, inr tt))
+    (x.allowed, x.numbered, x.roomy, inr tt)))
+
+pub returns-in_err-new-clause-call : goal.returns-in_err-new-clause-call
+returns-in_err-new-clause-call g c level =
+    let p = err_from_is_err_and c.from_residual-in_err-new.result c.from_residual-in_err-new.ensures.1 in
+    let file = c.in_ok-file.file in
+    rw (p.1, p.2) (lacking level (c.read_bytes.ensures.state ∙ c.find.ensures.state) NoMemory
+    (λ w v at.
+    let x = serves (read_path level c.args.cred.now c.args.path.now c.args.off c.args.len) file
+    c.in_ok-file.ensures.reach c.depth.result c.depth.ensures c.in_ok-may_read.ensures (λ w h. h) (λ w h. h) w v at
+    in
+    (x.allowed, x.numbered, x.roomy, inr tt)))
