@@ -126,7 +126,7 @@ fn ifile<F: CleanedStore>(store: &CachedStore<F>) -> Option<Bytes>
     if bytes.len() > u32::MAX as usize {
         return None;
     }
-    Some(Bytes::from(bytes))
+    Bytes::new(bytes).ok()
 }
 
 /// The infos of a segment.

@@ -208,8 +208,7 @@ impl<F: FileStore + Drop> Volume<F> {
         ensures limit { self.new.limit ≡ self.old.limit }
         ensures follows { Follows (F.state self.old.store) (F.state self.new.store) }
     {
-        let alloc = *self.journal.allocator();
-        let answers = answer_twice(alloc, &mut self.store, &mut self.level, cred, &request);
+        let answers = answer_twice(&mut self.store, &mut self.level, cred, &request);
         let Some((answer, copy)) = answers else {
             drop(request);
             return Answer::Refused(Resource::NoMemory);
@@ -563,7 +562,6 @@ fn lacks_memory(answer: &Answer) -> bool
 
 /// The answer to a call, which is done, and a copy of it; none where the call or the copy wants memory.
 fn answer_twice<F: FileStore>(
-    alloc: Global,
     store: &mut CachedStore<F>,
     level: &mut Level,
     cred: &Cred,
@@ -589,7 +587,7 @@ fn answer_twice<F: FileStore>(
     if lacks_memory(&answer) {
         return None;
     }
-    match answer.try_clone(alloc) {
+    match answer.try_clone() {
         Ok(copy) => Some((answer, copy)),
         Err(AllocError) => None,
     }
