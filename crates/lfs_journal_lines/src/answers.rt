@@ -57,7 +57,7 @@ fn bytes_told(alloc: Global, words: &[&str]) -> Result<Served, FaultKind>
     ensures { ReadsAs (bytes_told (map (λ x. x.now) words.now)) result }
 {
     let bytes = payload(alloc, one_word(words)?)?;
-    Ok(Served::Bytes(Bytes::from(bytes.into_vec())))
+    Ok(Served::Bytes(Bytes::new(bytes.into_vec())?))
 }
 
 /// The words of a file's attributes, in the order in which they stand.

@@ -40,7 +40,7 @@ pub(crate) fn names_told(alloc: Global, words: &[&str]) -> Result<Names, FaultKi
         let name = name_told(alloc, word)?;
         names.push(name)?;
     }
-    Ok(Names::from(names))
+    Ok(Names::new(names)?)
 }
 
 /// The name that a word tells.

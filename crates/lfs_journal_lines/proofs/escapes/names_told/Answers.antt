@@ -19,4 +19,4 @@ returns-in_err-name c =
 pub returns : goal.returns
 returns c =
     names_all c.args.words.now c.loop-word.word-index c.loop-word.names.items c.loop-word-test.false
-    c.loop-word.invariant ∙ ap Ok (sym c.from.ensures)
+    c.loop-word.invariant ∙ ap Ok (sym c.in_ok-new.ensures)
