@@ -162,7 +162,7 @@ CHANGES_OF_PLAIN = ["create", "write", "length", "rename"]
 LOOK_THAT_SHOWS = "look bytes "
 # What is asked for on the way, of which nothing is printed where it is given, and behind which no volume is
 # looked at.
-ON_THE_WAY = {"calls", "script", "request", "answer"}
+ON_THE_WAY = {"calls", "script", "request"}
 # What makes a volume: there is none to look at where it is refused.
 MAKES_A_VOLUME = {"plain-volume", "log-volume"}
 # The words that make calls whose answers they take from the journal, and the line of each answer. A Read or a List

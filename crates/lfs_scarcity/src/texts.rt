@@ -52,7 +52,7 @@ pub(crate) fn copies<W: Write>(alloc: Global, writer: &mut W) {
     answer_all(&mut looked.volume, asked);
     for entry in looked.volume.journal() {
         if let Some(answer) = answer_in(entry) {
-            copy_answer(alloc, writer, answer);
+            copy_answer(writer, answer);
         }
     }
 }
@@ -83,14 +83,11 @@ fn copy_request<W: Write>(alloc: Global, writer: &mut W, request: &Request) {
     }
 }
 
-/// Copies an answer; once more where memory was refused. The copy is the answer.
-fn copy_answer<W: Write>(alloc: Global, writer: &mut W, answer: &Answer) {
-    for _ in 0..2 {
-        if let Some(copy) = on_the_way(writer, "answer", answer.try_clone(alloc)) {
-            let is_same = copy == *answer;
-            let _ = writeln!(writer, "answer same {is_same}");
-            return;
-        }
+/// Copies an answer, which takes no memory. The copy is the answer.
+fn copy_answer<W: Write>(writer: &mut W, answer: &Answer) {
+    if let Some(copy) = on_the_way(writer, "answer", answer.try_clone()) {
+        let is_same = copy == *answer;
+        let _ = writeln!(writer, "answer same {is_same}");
     }
 }
 
