@@ -74,7 +74,8 @@ fn assert_answers(rt: &impl Abort, alloc: Global, transcripts: &[Vec<Answer>], w
 /// The answer to a Read that gives these bytes.
 fn bytes_read(rt: &impl Abort, alloc: Global, bytes: &[u8]) -> Answer {
     let bytes = Vec::from_slice(alloc, bytes).expect(rt, "memory");
-    Answer::Served(Served::Bytes(Bytes::from(bytes)))
+    let bytes = Bytes::new(bytes).expect(rt, "memory");
+    Answer::Served(Served::Bytes(bytes))
 }
 
 /// Asserts that settling says this of a script of at most eight sessions, and of these answers to its setup and to them.

@@ -62,7 +62,8 @@ fn attributes(rt: HostRuntime) {
 
 /// Asserts the line of a Read that serves these bytes.
 fn expect_bytes(rt: &impl Abort, alloc: Global, bytes: &[u8], line: &str) {
-    let bytes = Bytes::from(Vec::from_slice(alloc, bytes).expect(rt, "memory"));
+    let bytes = Vec::from_slice(alloc, bytes).expect(rt, "memory");
+    let bytes = Bytes::new(bytes).expect(rt, "memory");
     expect_served(rt, alloc, Served::Bytes(bytes), line);
 }
 
@@ -112,7 +113,7 @@ fn listed(rt: &impl Abort, alloc: Global, names: &[&[u8]]) -> Names {
         let name = Name::parse(alloc, name).expect(rt, "a name");
         listed.push(name).expect(rt, "memory");
     }
-    Names::from(listed)
+    Names::new(listed).expect(rt, "memory")
 }
 
 #[test]
@@ -148,7 +149,8 @@ fn cleaner_lists(rt: HostRuntime) {
 
 /// So many zeros, as the bytes of an ifile.
 fn zeros(rt: &impl Abort, alloc: Global, count: usize) -> Bytes {
-    Bytes::from(vec![in alloc; 0; count].expect(rt, "memory"))
+    let bytes = vec![in alloc; 0; count].expect(rt, "memory");
+    Bytes::new(bytes).expect(rt, "memory")
 }
 
 #[test]

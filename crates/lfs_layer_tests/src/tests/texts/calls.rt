@@ -92,13 +92,15 @@ const DENIAL: Denial = Denial {
 
 /// These bytes, as a Read serves them.
 pub fn bytes_of(rt: &impl Abort, alloc: Global, bytes: &[u8]) -> Bytes {
-    Bytes::from(Vec::from_slice(alloc, bytes).expect(rt, "memory"))
+    let bytes = Vec::from_slice(alloc, bytes).expect(rt, "memory");
+    Bytes::new(bytes).expect(rt, "memory")
 }
 
 /// The names of a path, as a List serves them.
 pub fn names_of(rt: &impl Abort, alloc: Global, path: &str) -> Names {
     let path = Path::parse(alloc, path).expect(rt, "a path");
-    Names::from(clone_names(alloc, path.names()).expect(rt, "memory"))
+    let names = clone_names(alloc, path.names()).expect(rt, "memory");
+    Names::new(names).expect(rt, "memory")
 }
 
 /// Asserts that a call is that of the step of this index alone.
@@ -133,7 +135,7 @@ fn expect_answer_of(rt: &impl Abort, alloc: Global, found: &Answer, number: u32)
 #[test]
 fn copied_answers_are_equal_to_their_own_alone(rt: HostRuntime) {
     for number in 0..ANSWERS {
-        let copy = answer(&rt, rt.alloc(), number).try_clone(rt.alloc());
+        let copy = answer(&rt, rt.alloc(), number).try_clone();
         expect_answer_of(&rt, rt.alloc(), &copy.expect(&rt, "memory"), number);
     }
 }

@@ -154,22 +154,21 @@ fn payloads_have_at_most_4096_bytes(rt: HostRuntime) {
 }
 
 /// Asserts that a copy of these bytes is equal to them and to no others.
-fn expect_copy(rt: &impl Abort, alloc: Global, bytes: &Bytes, others: &Bytes) {
-    let copy = bytes.try_clone(alloc).expect(rt, "memory");
+fn expect_copy(rt: &impl Abort, bytes: &Bytes, others: &Bytes) {
+    let copy = bytes.try_clone().expect(rt, "memory");
     expect_eq(rt, [copy == *bytes, copy == *others], [true, false]);
 }
 
 #[test]
 fn copied_bytes_are_equal(rt: HostRuntime) {
     let bytes = bytes_of(&rt, rt.alloc(), b"abc");
-    expect_copy(&rt, rt.alloc(), &bytes, &bytes_of(&rt, rt.alloc(), b"ab"));
+    expect_copy(&rt, &bytes, &bytes_of(&rt, rt.alloc(), b"ab"));
     expect_eq(&rt, bytes.as_slice(), b"abc".as_slice());
-    expect_eq(&rt, bytes.into_vec().len(), 3);
 }
 
 /// Asserts that a copy of these names is equal to them and to no others.
-fn expect_copied_names(rt: &impl Abort, alloc: Global, names: &Names, others: &Names) {
-    let copy = names.try_clone(alloc).expect(rt, "memory");
+fn expect_copied_names(rt: &impl Abort, names: &Names, others: &Names) {
+    let copy = names.try_clone().expect(rt, "memory");
     expect_eq(rt, [copy == *names, copy == *others], [true, false]);
 }
 
@@ -177,9 +176,8 @@ fn expect_copied_names(rt: &impl Abort, alloc: Global, names: &Names, others: &N
 fn copied_lists_are_equal(rt: HostRuntime) {
     let names = names_of(&rt, rt.alloc(), "/b/c");
     let others = names_of(&rt, rt.alloc(), "/b");
-    expect_copied_names(&rt, rt.alloc(), &names, &others);
+    expect_copied_names(&rt, &names, &others);
     expect_eq(&rt, names.as_slice().len(), 2);
-    expect_eq(&rt, names.into_vec().len(), 2);
 }
 
 /// Asserts as what a fault is printed.
