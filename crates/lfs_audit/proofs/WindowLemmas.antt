@@ -1,7 +1,7 @@
 -- A run whose entries are dropped by and by: `windowed_none`, `windowed_more` and `windowed_run` for `run_windowed`. A
 -- line is done on a journal that lost its first entries, and is to be answered as behind all entries so far: both lead
 -- to the same world, and both are full together, or neither gets full by this line (`window_agrees`, ShiftLemmas).
--- `dropped_here` and `left_alone` tell what `move_on` did.
+-- `dropped_here` tells what `drop_entries` did.
 use Rattle.std.proofs.Common.{◌≡◌, ℕ, ◌+◌, ◌<◌, ◌≤◌, inl, inr, List, [], ◌∷◌, ◌++◌, length, Option}
 use Rattle.std.proofs.Common.{refl, sym, ap, subst, ◌∙◌, arith, append_assoc, append-nil, length-append}
 use Rattle.std.specs.Io.KnownBytes.{Appends, Keeps, append_known}
@@ -61,11 +61,6 @@ window_agrees limit before entries most left steps more (inr room) whole few few
 pub room_least : (entries limit left : ℕ) → HasLineRoom entries limit left → HasLineRoom 0 limit left
 room_least entries limit left (inl exact) = inl exact
 room_least entries limit left (inr room) = inr (omega (arith, room.0), room.1)
-
--- a journal that has less room than may be entered may have what a line asks for
-pub room_more : (limit left : ℕ) → HasLineRoom 0 limit left → (limit ≡ left → ⊥) → (105 ≤ limit) × (limit < left)
-room_more limit left (inl exact) not = absurd (not exact)
-room_more limit left (inr room) not = room
 
 -- ---- a line
 
