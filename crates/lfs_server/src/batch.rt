@@ -11,9 +11,9 @@ use std::alloc::{AllocError, Global};
 use std::collections::VecDeque;
 use std::sync::atomic::Ordering;
 
-/// The most calls that a session makes in one holding of the lock, which takes some tens of microseconds: fewer, and
-/// passing the lock on takes as long as they do.
-pub const MOST_CALLS: usize = 64;
+/// The most calls that a session makes in one holding of the lock, which takes a tenth of a millisecond. Passing the lock
+/// on moves the volume from one processor's cache to another's, which takes tens of microseconds.
+pub const MOST_CALLS: usize = 256;
 
 /// The calls that a session makes next, and the answers that it has had.
 #[derive(Drop)]

@@ -122,13 +122,13 @@ impl<'a, R: Wait + Sync> Gate for Open<'a, R> {
 const BEGUN: [(u32, bool); 6] = [
     (0, true),
     (1, false),
-    (64, true),
-    (69, true),
-    (128, true),
-    (159, false),
+    (256, true),
+    (261, true),
+    (512, true),
+    (599, false),
 ];
 
-const MADE: [(u32, bool); 3] = [(68, true), (158, false), (159, true)];
+const MADE: [(u32, bool); 3] = [(260, true), (598, false), (599, true)];
 
 /// Asserts of calls of session 1 whether they are noted.
 fn expect_noted(rt: &impl Abort, watch: &Watch<'_, impl Wait>, calls: &[(u32, bool)]) {
@@ -142,11 +142,11 @@ fn calls_are_made_in_one_holding_where_the_gate_is_open(rt: HostRuntime) {
     let gate = Open {
         begun: Watch::new(&rt, rt.alloc()),
         made: Watch::new(&rt, rt.alloc()),
-        held: 68,
+        held: 260,
     };
-    let script = syncs(&rt, rt.alloc(), 160);
+    let script = syncs(&rt, rt.alloc(), 600);
     let closed = serve_plain(&rt, rt.alloc(), script.as_str(), &gate);
-    expect_eq(&rt, closed.volume.journal().len(), 160);
+    expect_eq(&rt, closed.volume.journal().len(), 600);
     expect_noted(&rt, &gate.begun, &BEGUN);
     expect_noted(&rt, &gate.made, &MADE);
 }
